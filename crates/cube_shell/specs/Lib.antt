@@ -1,0 +1,9 @@
+pub mod Batch
+pub mod Ends
+pub mod Headline
+pub mod Machine
+pub mod Pulls
+pub mod Reading
+pub mod Replies
+pub mod Script
+pub mod Standing

@@ -1,0 +1,20 @@
+//! Facts, slices of facts, and the answer to a slice by filter and group over a list of facts.
+#![tactic(auto)]
+
+mod fact;
+mod list;
+mod memory;
+mod number;
+mod order;
+mod slice;
+mod slow;
+mod text;
+
+pub use fact::{Fact, FactList, NumberList, Value, ValueList};
+pub use list::ListOf;
+pub use memory::Memory;
+pub use number::read_number;
+pub use order::sort_distinct;
+pub use slice::{AttrList, Column, ColumnList, Cond, CondList, Row, Rows, Slice};
+pub use slow::slow_slice;
+pub use text::Text;

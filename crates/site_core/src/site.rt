@@ -1,0 +1,103 @@
+//! Four files and an output: what a read gives, and what a stop may leave.
+ghost use Rattle.std.specs.Prelude.{◌≡◌, ◌<◌, ◌≤◌, ◌+◌, ◌⊎◌, ℕ, List, Bool, IsTrue, length, ◌++◌, IfOk, OnOk};
+ghost use Rattle.site_core.specs.Causes.{HasCause};
+ghost use Rattle.site_core.specs.Disk.{Files, Disk, with_file, overwritten};
+ghost use Rattle.site_core.specs.Moments.{IsStable};
+ghost use Rattle.site_core.specs.Calls.{Rests, Fills, Writes, Emits};
+
+/// A call failed, and the count of such faults of the object that was asked has risen.
+#[derive(Clone, Copy, Debug, PartialEq, Eq)]
+pub struct Fault;
+
+/// Four files, numbered 0 to 3, and an output.
+///
+/// A stop may fall between two calls or inside one. What it may leave is a moment: the bytes told by then, and four files.
+/// A write may leave any bytes in its range and past the old end, until a sync succeeds; bytes outside the range stay.
+pub trait Site {
+    /// Whether it tells its files, its output and its moments. Where it does not, a clause on content says nothing;
+    /// bounds and counts always hold.
+    ghost tells: { Bool };
+
+    /// The files as a read gives them, the told bytes, and what a stop may leave.
+    ghost disk: { Self → Disk };
+
+    /// How often a call on the files has failed. Like the three counts below, it never falls, and stands still at the end
+    /// of a `u64`.
+    ghost disk_faults: { Self → ℕ };
+
+    /// How often the output has failed.
+    ghost told_faults: { Self → ℕ };
+
+    /// How many reads were asked for.
+    ghost reads: { Self → ℕ };
+
+    /// How many writes were asked for.
+    ghost writes: { Self → ℕ };
+
+    /// The length of a file in bytes. Nothing changes, also after a fault.
+    fn length(&mut self, file: u32) -> Result<u64, Fault>
+        requires { file < 4 }
+        ensures answer { IsTrue tells → IfOk result (λ count. count ≡ length ((disk self.old).files file)) }
+        ensures disk { IsTrue tells → Rests (disk self.old) (disk self.new) }
+        ensures cause { HasCause (disk_faults self.old) (disk_faults self.new) result }
+        ensures told_faults { told_faults self.new ≡ told_faults self.old }
+        ensures reads { reads self.new ≡ reads self.old }
+        ensures writes { writes self.new ≡ writes self.old };
+
+    /// Fills `into` with the bytes of a file from the place `at`, as many as `into` holds or as the file has from there,
+    /// and answers their number. No file changes, also after a fault.
+    fn read(&mut self, file: u32, at: u64, into: &mut [u8]) -> Result<usize, Fault>
+        requires file { file < 4 }
+        requires some { 0 < length into.old }
+        requires few { length into.old ≤ 4096 }
+        ensures bound { IfOk result (λ count. count ≤ length into.new) }
+        ensures answer { IsTrue tells → IfOk result (λ count. Fills ((disk self.old).files file) at count into.new) }
+        ensures disk { IsTrue tells → Rests (disk self.old) (disk self.new) }
+        ensures cause { HasCause (disk_faults self.old) (disk_faults self.new) result }
+        ensures told_faults { told_faults self.new ≡ told_faults self.old }
+        ensures reads { reads self.old ≤ reads self.new }
+        ensures one { reads self.new ≤ reads self.old + 1 }
+        ensures writes { writes self.new ≡ writes self.old };
+
+    /// Puts bytes at the place `at` of a file, and lengthens the file where they pass its end. After a fault any part of
+    /// them may have been written, and a read of the range may give anything.
+    fn write(&mut self, file: u32, at: u64, bytes: &[u8]) -> Result<(), Fault>
+        requires file { file < 4 }
+        requires place { IsTrue tells → at ≤ length ((disk self.old).files file) }
+        requires some { 0 < length bytes.now }
+        ensures written { IsTrue tells → OnOk result ((disk self.new).files ≡ with_file (disk self.old).files file (overwritten ((disk self.old).files file) at bytes.now)) }
+        ensures disk { IsTrue tells → Writes file at bytes.now (disk self.old) (disk self.new) }
+        ensures cause { HasCause (disk_faults self.old) (disk_faults self.new) result }
+        ensures told_faults { told_faults self.new ≡ told_faults self.old }
+        ensures reads { reads self.new ≡ reads self.old }
+        ensures writes { writes self.old ≤ writes self.new }
+        ensures one { writes self.new ≤ writes self.old + 1 };
+
+    /// Makes all that was written stable: a stop right afterwards leaves what a read gives. After a fault nothing has
+    /// become stable.
+    fn sync(&mut self) -> Result<(), Fault>
+        ensures stable { IsTrue tells → OnOk result (IsStable (disk self.new)) }
+        ensures disk { IsTrue tells → Rests (disk self.old) (disk self.new) }
+        ensures cause { HasCause (disk_faults self.old) (disk_faults self.new) result }
+        ensures told_faults { told_faults self.new ≡ told_faults self.old }
+        ensures reads { reads self.new ≡ reads self.old }
+        ensures writes { writes self.new ≡ writes self.old };
+
+    /// Appends bytes to the output. After a fault, or a stop inside the call, the first of them may have been told.
+    fn emit(&mut self, bytes: &[u8]) -> Result<(), Fault>
+        ensures told { IsTrue tells → OnOk result ((disk self.new).told ≡ (disk self.old).told ++ bytes.now) }
+        ensures disk { IsTrue tells → Emits bytes.now (disk self.old) (disk self.new) }
+        ensures cause { HasCause (told_faults self.old) (told_faults self.new) result }
+        ensures disk_faults { disk_faults self.new ≡ disk_faults self.old }
+        ensures reads { reads self.new ≡ reads self.old }
+        ensures writes { writes self.new ≡ writes self.old };
+
+    /// What a read gives now is among what a stop now may leave.
+    ghost read_now: { (site : Self) → IsTrue tells → (disk site).may_leave (disk site).files };
+
+    /// This moment is one of those since an earlier one.
+    ghost counts_now: { (site : Self) (t : ℕ) (files : Files) → IsTrue tells → t ≤ (disk site).clock → (disk site).may_leave files → (disk site).left_since t (disk site).told files };
+
+    /// Since this moment there is no other.
+    ghost only_now: { (site : Self) (told : List ℕ) (files : Files) → IsTrue tells → (disk site).left_since (disk site).clock told files → (told ≡ (disk site).told) × (disk site).may_leave files };
+}

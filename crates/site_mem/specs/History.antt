@@ -1,0 +1,59 @@
+-- The files, the output and the moments of a site, from its files at the start and what its calls have done, the newest first.
+use Rattle.std.specs.Prelude.{◌≡◌, ◌⊎◌, ℕ, zero, suc, ◌+◌, ◌≤◌, List, [], ◌∷◌, ◌++◌, length, Vec}
+use Rattle.std.specs.declared.alloc.Global.{Global}
+use Rattle.site_core.specs.Disk.{Files, Disk, Torn, with_file, overwritten}
+use Rattle.site_core.specs.Calls.{TellsFront}
+use Rattle.site_mem.specs.declared.step.Range.{Range}
+use Rattle.site_mem.specs.declared.step.Step.{Step}
+use Rattle.site_mem.specs.declared.step.Step.TheVariants.{Wrote, Tore, Synced, Told}
+
+-- the files by their numbers
+abbrev pub files_of : List (Vec ℕ Global) → Files
+files_of [] file = []
+files_of (v ∷ vs) zero = v.items
+files_of (v ∷ vs) (suc file) = files_of vs file
+
+-- the files as a read gives them
+abbrev pub read_after : Files → List Step → Files
+read_after first [] = first
+read_after first (Wrote r ∷ earlier) = with_file (read_after first earlier) r.file (overwritten (read_after first earlier r.file) r.at r.bytes.items)
+read_after first (_ ∷ earlier) = read_after first earlier
+
+abbrev pub told_after : List Step → List ℕ
+told_after [] = []
+told_after (Told bytes ∷ earlier) = told_after earlier ++ bytes.items
+told_after (_ ∷ earlier) = told_after earlier
+
+-- the range of a write is torn
+abbrev pub TornBy : Range → Files → Files → Files → Type 0
+TornBy r read old new = Torn r.file r.at (length r.bytes.items) (length (read r.file)) old new
+
+-- the files that a stop now may leave
+abbrev pub MayLeave : Files → List Step → Files → Type 0
+MayLeave first [] files = files ≡ first
+MayLeave first (Wrote r ∷ earlier) files = (d : Files) × MayLeave first earlier d × TornBy r (read_after first earlier) d files
+MayLeave first (Tore r ∷ earlier) files = (d : Files) × MayLeave first earlier d × TornBy r (read_after first earlier) d files
+MayLeave first (Synced ∷ earlier) files = files ≡ read_after first earlier
+MayLeave first (_ ∷ earlier) files = MayLeave first earlier files
+
+-- What a stop inside a call may leave and one before or after it may not: a part of the bytes told.
+abbrev pub Inside : Files → Step → List Step → List ℕ → Files → Type 0
+Inside first (Told bytes) earlier told files = TellsFront bytes.items (told_after earlier) told × MayLeave first earlier files
+Inside first _ earlier told files = ⊥
+
+-- what a stop after the first t calls, or later, may have left
+abbrev pub LeftSince : Files → List Step → ℕ → List ℕ → Files → Type 0
+LeftSince first [] t told files = (t ≤ 0) × (told ≡ []) × (files ≡ first)
+LeftSince first (step ∷ earlier) t told files =
+    LeftSince first earlier t told files
+    ⊎ (((t ≤ length earlier) × Inside first step earlier told files)
+    ⊎ ((t ≤ length earlier + 1) × (told ≡ told_after (step ∷ earlier)) × MayLeave first (step ∷ earlier) files))
+
+abbrev pub disk_of : Files → List Step → Disk
+disk_of first steps = record {
+  files = read_after first steps;
+  told = told_after steps;
+  may_leave = MayLeave first steps;
+  clock = length steps;
+  left_since = LeftSince first steps;
+}
