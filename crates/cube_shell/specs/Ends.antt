@@ -61,12 +61,3 @@ abbrev pub IsDoneOrMemory : Status → Type 0
 IsDoneOrMemory Done = Unit {0}
 IsDoneOrMemory Memory = Unit {0}
 IsDoneOrMemory _ = ⊥
-
--- what is counted of the calls on files
-pub record FileCounts : Type 0 where
-  pub faults : ℕ
-  pub reads : ℕ
-  pub writes : ℕ
-
-abbrev pub file_counts : ℕ → ℕ → ℕ → FileCounts
-file_counts faults reads writes = record { faults = faults; reads = reads; writes = writes }

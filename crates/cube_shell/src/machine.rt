@@ -20,7 +20,8 @@ pub fn act(
     accepted: Accepted,
     command: &Command<'_>,
 ) -> Result<(Accepted, Vec<u8>), Memory>
-    ensures { IfOk result (λ answer. (answer.0.facts, answer.1.items) ≡ act accepted.facts (said command.now)) }
+    ensures { IfOk result (λ answer.
+        (answer.0.facts, answer.1.items) ≡ act accepted.facts (said command.now)) }
 {
     let reply = match command {
         Command::Load(rows) => return load(alloc, accepted, rows),
@@ -34,7 +35,8 @@ pub fn act(
 
 /// Reads the rows of a block and accepts them, or refuses them.
 fn load(alloc: Global, accepted: Accepted, rows: &[&[u8]]) -> Result<(Accepted, Vec<u8>), Memory>
-    ensures { IfOk result (λ answer. (answer.0.facts, answer.1.items) ≡ load accepted.facts (batch_from 1 (map (λ row. row.now) rows.now))) }
+    ensures { IfOk result (λ answer. (answer.0.facts, answer.1.items)
+        ≡ load accepted.facts (batch_from 1 (map (λ row. row.now) rows.now))) }
 {
     match batch(alloc, rows) {
         Ok(batch) => accepted.accept(alloc, batch),

@@ -15,8 +15,10 @@ pub fn read_script<S: Source>(alloc: Global, source: &mut S, limit: u64) -> Resu
     requires { limit ≤ 2 ^ 30 }
     ensures script { IsTrue S.tells → IfOk result (λ script. script.items ≡ S.left source.old) }
     ensures read { IsTrue S.tells → OnOk result (S.left source.new ≡ []) }
-    ensures too_long { IsTrue S.tells → IsErrOf result Status.TooLong → Gave (S.left source.old) (S.left source.new) (limit + 1) }
-    ensures not_long { IsTrue S.tells → IsErrOf result Status.TooLong ⊎ GaveAtMost (S.left source.old) (S.left source.new) limit }
+    ensures too_long { IsTrue S.tells → IsErrOf result Status.TooLong
+        → Gave (S.left source.old) (S.left source.new) (limit + 1) }
+    ensures not_long { IsTrue S.tells → IsErrOf result Status.TooLong
+        ⊎ GaveAtMost (S.left source.old) (S.left source.new) limit }
     ensures cause { IfErr result (PullCause (S.faults source.old) (S.faults source.new)) }
     ensures no_fault { OnOk result (S.faults source.new ≡ S.faults source.old) }
 {
@@ -41,11 +43,14 @@ fn pull_more<S: Source>(
     requires some { 0 < length into.old }
     requires room { vec_len script.old + length into.old ≤ limit + 1 }
     requires small { limit ≤ 2 ^ 30 }
-    ensures pulled { IsTrue S.tells → IfOk result (λ more. Pulled (S.left source.old) (S.left source.new) script.old.items script.new.items more) }
+    ensures pulled { IsTrue S.tells → IfOk result
+        (λ more. Pulled (S.left source.old) (S.left source.new) script.old.items script.new.items more) }
     ensures within { IfOk result (λ more. vec_len script.new ≤ limit) }
     ensures longer { IfOk result (λ more. IsTrue more → vec_len script.old < vec_len script.new) }
-    ensures too_long { IsTrue S.tells → IsErrOf result Status.TooLong → vec_len script.old + length (S.left source.old) ≡ limit + 1 + length (S.left source.new) }
-    ensures not_long { IsTrue S.tells → IsErrOf result Status.TooLong ⊎ (vec_len script.old + length (S.left source.old) ≤ limit + length (S.left source.new)) }
+    ensures too_long { IsTrue S.tells → IsErrOf result Status.TooLong
+        → vec_len script.old + length (S.left source.old) ≡ limit + 1 + length (S.left source.new) }
+    ensures not_long { IsTrue S.tells → IsErrOf result Status.TooLong
+        ⊎ (vec_len script.old + length (S.left source.old) ≤ limit + length (S.left source.new)) }
     ensures cause { IfErr result (PullCause (S.faults source.old) (S.faults source.new)) }
     ensures no_fault { OnOk result (S.faults source.new ≡ S.faults source.old) }
 {

@@ -62,7 +62,8 @@ pub fn take_line<'a>(
     block: Option<Rows<'a>>,
     line: &'a [u8],
 ) -> Result<Taken<'a>, Memory>
-    ensures { IfOk result (λ taken. (option_map said taken.command, rows_of taken.block) ≡ after_line (rows_of block.entry) line.now) }
+    ensures { IfOk result (λ taken.
+        (option_map said taken.command, rows_of taken.block) ≡ after_line (rows_of block.entry) line.now) }
 {
     match block {
         None => take_between(alloc, line),
@@ -72,7 +73,8 @@ pub fn take_line<'a>(
 
 /// Takes a line between two blocks.
 fn take_between<'a>(alloc: Global, line: &'a [u8]) -> Result<Taken<'a>, Memory>
-    ensures { IfOk result (λ taken. (option_map said taken.command, rows_of taken.block) ≡ after_line None line.now) }
+    ensures { IfOk result (λ taken.
+        (option_map said taken.command, rows_of taken.block) ≡ after_line None line.now) }
 {
     if is_text("load", line) {
         return Ok(Taken {
@@ -88,7 +90,9 @@ fn take_between<'a>(alloc: Global, line: &'a [u8]) -> Result<Taken<'a>, Memory>
 
 /// Takes a line of a block. Empty lines are passed over.
 fn take_inside<'a>(mut rows: Rows<'a>, line: &'a [u8]) -> Result<Taken<'a>, Memory>
-    ensures { IfOk result (λ taken. (option_map said taken.command, rows_of taken.block) ≡ after_line (Some (map (λ row. row.now) rows.entry.items)) line.now) }
+    ensures { IfOk result (λ taken.
+        (option_map said taken.command, rows_of taken.block)
+        ≡ after_line (Some (map (λ row. row.now) rows.entry.items)) line.now) }
 {
     if is_text("end", line) {
         return Ok(Taken {

@@ -1,7 +1,7 @@
 //! The commands of a script, carried out one after the other.
 ghost use Rattle.std.specs.Prelude.{◌≡◌, ◌++◌, [], IsTrue, OnOk, IfOk, IfErr};
 ghost use Rattle.site_core.specs.Calls.{Emits};
-ghost use Rattle.cube_shell.specs.Ends.{TellCause, file_counts};
+ghost use Rattle.cube_shell.specs.Ends.{TellCause};
 ghost use Rattle.cube_shell.specs.Machine.{act};
 ghost use Rattle.cube_shell.specs.Reading.{said};
 ghost use Rattle.cube_shell.specs.Headline.{replies, Ended};
@@ -29,7 +29,9 @@ pub fn carry_out<T: Site>(alloc: Global, script: &[u8], site: &mut T) -> Result<
     ensures ended { IsTrue T.tells → Ended (T.disk site.old) (T.disk site.new) (replies script.now) }
     ensures whole { IsTrue T.tells → OnOk result ((T.disk site.new).told ≡ (T.disk site.old).told ++ replies script.now) }
     ensures cause { IfErr result (TellCause (T.told_faults site.old) (T.told_faults site.new)) }
-    ensures counts { file_counts (T.disk_faults site.new) (T.reads site.new) (T.writes site.new) ≡ file_counts (T.disk_faults site.old) (T.reads site.old) (T.writes site.old) }
+    ensures disk_faults { T.disk_faults site.new ≡ T.disk_faults site.old }
+    ensures reads { T.reads site.new ≡ T.reads site.old }
+    ensures writes { T.writes site.new ≡ T.writes site.old }
 {
     let mut standing = begin(alloc);
     let mut rest = script;
@@ -59,11 +61,15 @@ fn take<'a, T: Site>(
     site: &mut T,
 ) -> Result<Standing<'a>, Status>
     ensures stands { IfOk result (λ now. state_of now ≡ state_after (state_of standing.entry) line.now) }
-    ensures told { IsTrue T.tells → OnOk result ((T.disk site.new).told ≡ (T.disk site.old).told ++ reply_after (state_of standing.entry) line.now) }
-    ensures disk { IsTrue T.tells → Emits (reply_after (state_of standing.entry) line.now) (T.disk site.old) (T.disk site.new) }
+    ensures told { IsTrue T.tells → OnOk result
+        ((T.disk site.new).told ≡ (T.disk site.old).told ++ reply_after (state_of standing.entry) line.now) }
+    ensures disk { IsTrue T.tells
+        → Emits (reply_after (state_of standing.entry) line.now) (T.disk site.old) (T.disk site.new) }
     ensures cause { IfErr result (TellCause (T.told_faults site.old) (T.told_faults site.new)) }
     ensures no_fault { OnOk result (T.told_faults site.new ≡ T.told_faults site.old) }
-    ensures counts { file_counts (T.disk_faults site.new) (T.reads site.new) (T.writes site.new) ≡ file_counts (T.disk_faults site.old) (T.reads site.old) (T.writes site.old) }
+    ensures disk_faults { T.disk_faults site.new ≡ T.disk_faults site.old }
+    ensures reads { T.reads site.new ≡ T.reads site.old }
+    ensures writes { T.writes site.new ≡ T.writes site.old }
 {
     let Standing { accepted, block } = standing;
     let Taken { command, block } = take_line(alloc, block, line)?;
@@ -76,10 +82,14 @@ fn take<'a, T: Site>(
 
 /// Ends a script behind its last line.
 fn finish<T: Site>(alloc: Global, standing: Standing<'_>, site: &mut T) -> Result<(), Status>
-    ensures told { IsTrue T.tells → OnOk result ((T.disk site.new).told ≡ (T.disk site.old).told ++ reply_at_end (state_of standing.entry)) }
-    ensures disk { IsTrue T.tells → Emits (reply_at_end (state_of standing.entry)) (T.disk site.old) (T.disk site.new) }
+    ensures told { IsTrue T.tells → OnOk result
+        ((T.disk site.new).told ≡ (T.disk site.old).told ++ reply_at_end (state_of standing.entry)) }
+    ensures disk { IsTrue T.tells
+        → Emits (reply_at_end (state_of standing.entry)) (T.disk site.old) (T.disk site.new) }
     ensures cause { IfErr result (TellCause (T.told_faults site.old) (T.told_faults site.new)) }
-    ensures counts { file_counts (T.disk_faults site.new) (T.reads site.new) (T.writes site.new) ≡ file_counts (T.disk_faults site.old) (T.reads site.old) (T.writes site.old) }
+    ensures disk_faults { T.disk_faults site.new ≡ T.disk_faults site.old }
+    ensures reads { T.reads site.new ≡ T.reads site.old }
+    ensures writes { T.writes site.new ≡ T.writes site.old }
 {
     if standing.block.is_some() {
         answer(alloc, standing.accepted, &Command::OpenBlock, site)?;
@@ -95,11 +105,15 @@ fn answer<T: Site>(
     site: &mut T,
 ) -> Result<Accepted, Status>
     ensures facts { IfOk result (λ now. now.facts ≡ (act accepted.facts (said command.now)).0) }
-    ensures told { IsTrue T.tells → OnOk result ((T.disk site.new).told ≡ (T.disk site.old).told ++ (act accepted.facts (said command.now)).1) }
-    ensures disk { IsTrue T.tells → Emits (act accepted.facts (said command.now)).1 (T.disk site.old) (T.disk site.new) }
+    ensures told { IsTrue T.tells → OnOk result
+        ((T.disk site.new).told ≡ (T.disk site.old).told ++ (act accepted.facts (said command.now)).1) }
+    ensures disk { IsTrue T.tells
+        → Emits (act accepted.facts (said command.now)).1 (T.disk site.old) (T.disk site.new) }
     ensures cause { IfErr result (TellCause (T.told_faults site.old) (T.told_faults site.new)) }
     ensures no_fault { OnOk result (T.told_faults site.new ≡ T.told_faults site.old) }
-    ensures counts { file_counts (T.disk_faults site.new) (T.reads site.new) (T.writes site.new) ≡ file_counts (T.disk_faults site.old) (T.reads site.old) (T.writes site.old) }
+    ensures disk_faults { T.disk_faults site.new ≡ T.disk_faults site.old }
+    ensures reads { T.reads site.new ≡ T.reads site.old }
+    ensures writes { T.writes site.new ≡ T.writes site.old }
 {
     let (accepted, reply) = act(alloc, accepted, command)?;
     tell(site, &reply)?;
@@ -112,7 +126,9 @@ fn tell<T: Site>(site: &mut T, reply: &[u8]) -> Result<(), Status>
     ensures disk { IsTrue T.tells → Emits reply.now (T.disk site.old) (T.disk site.new) }
     ensures cause { IfErr result (TellCause (T.told_faults site.old) (T.told_faults site.new)) }
     ensures no_fault { OnOk result (T.told_faults site.new ≡ T.told_faults site.old) }
-    ensures counts { file_counts (T.disk_faults site.new) (T.reads site.new) (T.writes site.new) ≡ file_counts (T.disk_faults site.old) (T.reads site.old) (T.writes site.old) }
+    ensures disk_faults { T.disk_faults site.new ≡ T.disk_faults site.old }
+    ensures reads { T.reads site.new ≡ T.reads site.old }
+    ensures writes { T.writes site.new ≡ T.writes site.old }
 {
     match site.emit(reply) {
         Ok(()) => Ok(()),

@@ -5,6 +5,8 @@ mod folder;
 mod input;
 mod output;
 mod site;
+#[cfg(test)]
+mod tests;
 
 use cube_shell::{Status, run};
 use input::Input;

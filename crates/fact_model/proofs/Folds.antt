@@ -4,7 +4,7 @@ use Rattle.std.proofs.Math.IntN.{+ℤ_assoc, +ℤ_idr, +ℤ_idl}
 use Rattle.std.proofs.lemmas.Int.{ints, clamps}
 use Rattle.std.proofs.lemmas.List.{take_all}
 use Rattle.std.specs.Int.{int_min, int_max}
-use Rattle.fact_model.specs.Rows.{total, least, greatest}
+use Rattle.fact_model.specs.Numbers.{total, least, greatest}
 
 fold-total : (z : ℤ) (zs : List ℤ) → fold ◌+ℤ◌ z zs ≡ z +ℤ total zs
 fold-total z [] = sym (+ℤ_idr z)

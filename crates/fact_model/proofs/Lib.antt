@@ -1,3 +1,4 @@
+pub mod Cells
 pub mod Defaults
 pub mod Digits
 pub mod DistinctLemmas

@@ -1,7 +1,9 @@
+pub mod Cell
 pub mod Distinct
 pub mod Fact
 pub mod Groups
 pub mod Number
+pub mod Numbers
 pub mod Rows
 pub mod Slice
 pub mod Value

@@ -1,6 +1,7 @@
 //! Facts, slices of facts, and the answer to a slice by filter and group over a list of facts.
 #![tactic(auto)]
 
+mod cell;
 mod fact;
 mod list;
 mod memory;
@@ -10,6 +11,7 @@ mod slice;
 mod slow;
 mod text;
 
+pub use cell::{Cell, Part};
 pub use fact::{Fact, FactList, NumberList, Value, ValueList};
 pub use list::ListOf;
 pub use memory::Memory;

@@ -65,7 +65,8 @@ pub trait Site {
         requires file { file < 4 }
         requires place { IsTrue tells → at ≤ length ((disk self.old).files file) }
         requires some { 0 < length bytes.now }
-        ensures written { IsTrue tells → OnOk result ((disk self.new).files ≡ with_file (disk self.old).files file (overwritten ((disk self.old).files file) at bytes.now)) }
+        ensures written { IsTrue tells → OnOk result ((disk self.new).files
+            ≡ with_file (disk self.old).files file (overwritten ((disk self.old).files file) at bytes.now)) }
         ensures disk { IsTrue tells → Writes file at bytes.now (disk self.old) (disk self.new) }
         ensures cause { HasCause (disk_faults self.old) (disk_faults self.new) result }
         ensures told_faults { told_faults self.new ≡ told_faults self.old }
@@ -96,8 +97,10 @@ pub trait Site {
     ghost read_now: { (site : Self) → IsTrue tells → (disk site).may_leave (disk site).files };
 
     /// This moment is one of those since an earlier one.
-    ghost counts_now: { (site : Self) (t : ℕ) (files : Files) → IsTrue tells → t ≤ (disk site).clock → (disk site).may_leave files → (disk site).left_since t (disk site).told files };
+    ghost counts_now: { (site : Self) (t : ℕ) (files : Files) → IsTrue tells → t ≤ (disk site).clock
+        → (disk site).may_leave files → (disk site).left_since t (disk site).told files };
 
     /// Since this moment there is no other.
-    ghost only_now: { (site : Self) (told : List ℕ) (files : Files) → IsTrue tells → (disk site).left_since (disk site).clock told files → (told ≡ (disk site).told) × (disk site).may_leave files };
+    ghost only_now: { (site : Self) (told : List ℕ) (files : Files) → IsTrue tells
+        → (disk site).left_since (disk site).clock told files → (told ≡ (disk site).told) × (disk site).may_leave files };
 }

@@ -12,7 +12,9 @@ loop-rest-init g c = record {
       subst (λ state. Onward (g.T.Site.disk c.args.site.now) (g.T.Site.disk c.args.site.now) (replies_left state (lines c.args.script.now)) (replies c.args.script.now)) (sym c.begin-standing.ensures)
       (onward_begins (g.T.Site.disk c.args.site.now) (replies c.args.script.now) (λ told files left. g.met.T.Site.only_now c.args.site.now told files t left));
   faults = search rules;
-  counts = search rules;
+  disk_faults = search rules;
+  reads = search rules;
+  writes = search rules;
 }
 
 pub returns-in_err-standing-clause-ended : goal.returns-in_err-standing-clause-ended
@@ -29,7 +31,9 @@ loop-rest-preserved g c = record {
       subst (λ state. Onward (g.T.Site.disk c.args.site.now) (g.T.Site.disk c.take.new.site) (replies_left state (lines c.cut.result.1.now)) (replies c.args.script.now)) (sym c.in_ok-standing.ensures.stands)
       (onward_more _ _ _ _ _ _ (subst (λ rest. Onward (g.T.Site.disk c.args.site.now) (g.T.Site.disk c.loop-rest.site) rest (replies c.args.script.now)) step (c.loop-rest.invariant.onward t)) (c.take.ensures.disk t) (c.in_ok-standing.ensures.told t));
   faults = c.in_ok-standing.ensures.no_fault ∙ c.loop-rest.invariant.faults;
-  counts = c.take.ensures.counts ∙ c.loop-rest.invariant.counts;
+  disk_faults = c.take.ensures.disk_faults ∙ c.loop-rest.invariant.disk_faults;
+  reads = c.take.ensures.reads ∙ c.loop-rest.invariant.reads;
+  writes = c.take.ensures.writes ∙ c.loop-rest.invariant.writes;
 }
 
 pub returns-clause-ended : goal.returns-clause-ended

@@ -2,7 +2,6 @@ use Rattle.std.proofs.Common.{◌≡◌, IsTrue, length}
 use Rattle.cube_shell.specs.Script.{lines}
 use Rattle.cube_shell.specs.Standing.{state_of, replies_left}
 use Rattle.cube_shell.specs.Headline.{replies}
-use Rattle.cube_shell.specs.Ends.{file_counts}
 use Rattle.cube_shell.proofs.Onward.{Onward}
 use Rattle.cube_shell.proofs.serve.carry_out.Given as goal
 
@@ -11,7 +10,9 @@ abbrev pub invariant-loop-rest : goal.invariant-loop-rest
 invariant-loop-rest g l = record {
   onward : IsTrue g.T.Site.tells → Onward (g.T.Site.disk l.fn.site) (g.T.Site.disk l.site) (replies_left (state_of l.standing) (lines l.rest)) (replies l.script);
   faults : g.T.Site.told_faults l.site ≡ g.T.Site.told_faults l.fn.site;
-  counts : file_counts (g.T.Site.disk_faults l.site) (g.T.Site.reads l.site) (g.T.Site.writes l.site) ≡ file_counts (g.T.Site.disk_faults l.fn.site) (g.T.Site.reads l.fn.site) (g.T.Site.writes l.fn.site);
+  disk_faults : g.T.Site.disk_faults l.site ≡ g.T.Site.disk_faults l.fn.site;
+  reads : g.T.Site.reads l.site ≡ g.T.Site.reads l.fn.site;
+  writes : g.T.Site.writes l.site ≡ g.T.Site.writes l.fn.site;
 }
 
 abbrev pub decreases-loop-rest : goal.decreases-loop-rest
