@@ -1,11 +1,12 @@
-// Sources over bytes in memory.
-ghost use Rattle.std.specs.Prelude.{◌≡◌, ◌<◌, ◌≤◌, ◌⊎◌, true, drop, length, OnErr, OnOk, IfOk, Some};
+//! Sources over bytes in memory.
+ghost use Rattle.std.specs.Prelude.{◌≡◌, ◌<◌, ◌≤◌, ◌+◌, ◌-◌, ◌^◌, min, true, drop, length, IsErr, IsOk, OnErr, OnOk, IfOk, None, Some};
+ghost use Rattle.site_core.specs.Causes.{HasCause};
 ghost use Rattle.site_core.specs.Pull.{Gives};
 
 use fact_model::Text;
 use site_core::{Fault, Source};
 
-/// Pieces of at most so many bytes.
+/// Bytes in pieces of at most a given length, one pull of which may be made to fail.
 #[derive(Drop)]
 pub struct MemorySource {
     bytes: Text,
@@ -17,7 +18,7 @@ pub struct MemorySource {
     ghost some: { 0 < piece },
 }
 
-/// The same, which never fails.
+/// The same, of which no pull fails.
 #[derive(Drop)]
 pub struct SureSource {
     bytes: Text,
@@ -26,56 +27,17 @@ pub struct SureSource {
     ghost some: { 0 < piece },
 }
 
-// Gives the next piece and moves on behind it.
-fn give(bytes: &[u8], taken: &mut usize, piece: usize, into: &mut [u8]) -> usize
-    requires piece { 0 < piece }
-    requires some { 0 < length into.old }
-    ensures bound { result ≤ length into.new }
-    ensures gives { Gives (drop taken.old bytes.now) (drop taken.new bytes.now) result into.new }
-{
-    if *taken >= bytes.len() {
-        return 0;
-    }
-    let rest = &bytes[*taken..];
-    let count = piece.min(into.len()).min(rest.len());
-    into[..count].copy_from_slice(&rest[..count]);
-    *taken += count;
-    count
-}
-
-impl Source for MemorySource {
-    ghost tells = { true };
-
-    ghost left = { λ s. drop s.taken s.bytes };
-
-    ghost faults = { λ s. s.faults };
-
-    fn pull(&mut self, into: &mut [u8]) -> Result<usize, Fault> {
-        let number = self.next;
-        self.next = number.saturating_add(1);
-        if self.fails == Some(number) {
-            self.faults = self.faults.saturating_add(1);
-            return Err(Fault);
-        }
-        Ok(give(self.bytes.as_bytes(), &mut self.taken, self.piece, into))
-    }
-}
-
-impl Source for SureSource {
-    ghost tells = { true };
-
-    ghost left = { λ s. drop s.taken s.bytes };
-
-    ghost faults = { λ _. 0 };
-
-    fn pull(&mut self, into: &mut [u8]) -> Result<usize, Fault> {
-        Ok(give(self.bytes.as_bytes(), &mut self.taken, self.piece, into))
-    }
-}
-
 impl MemorySource {
+    ghost use Rattle.site_mem.specs.Source.{source_left, source_faults, source_piece, source_number, source_fails};
+
+    /// These bytes, at most `piece` of them a pull. It takes no memory.
     pub fn new(bytes: Text, piece: usize) -> MemorySource
         requires { 0 < piece }
+        ensures left { source_left result ≡ bytes }
+        ensures faults { source_faults result ≡ 0 }
+        ensures piece { source_piece result ≡ piece }
+        ensures number { source_number result ≡ 0 }
+        ensures fails { source_fails result ≡ None }
     {
         MemorySource {
             bytes,
@@ -87,15 +49,27 @@ impl MemorySource {
         }
     }
 
-    /// The pull with this number, counted from 0, fails.
-    pub fn fail_at(&mut self, pull: u64) {
+    /// The pull with this number, counted from 0, fails once and gives nothing. A later call replaces the number.
+    /// It takes no memory.
+    pub fn fail_at(&mut self, pull: u64)
+        ensures fails { source_fails self.new ≡ Some pull }
+        ensures left { source_left self.new ≡ source_left self.old }
+        ensures faults { source_faults self.new ≡ source_faults self.old }
+        ensures piece { source_piece self.new ≡ source_piece self.old }
+        ensures number { source_number self.new ≡ source_number self.old }
+    {
         self.fails = Some(pull);
     }
 }
 
 impl SureSource {
+    ghost use Rattle.site_mem.specs.Source.{sure_left, sure_piece};
+
+    /// These bytes, at most `piece` of them a pull. It takes no memory.
     pub fn new(bytes: Text, piece: usize) -> SureSource
         requires { 0 < piece }
+        ensures left { sure_left result ≡ bytes }
+        ensures piece { sure_piece result ≡ piece }
     {
         SureSource {
             bytes,
@@ -103,4 +77,85 @@ impl SureSource {
             piece,
         }
     }
+}
+
+impl Source for MemorySource {
+    ghost use Rattle.site_mem.specs.Counts.{risen};
+    ghost use Rattle.site_mem.specs.Source.{source_left, source_faults, source_piece, source_number, source_fails, pulled, IsPullNamed};
+
+    ghost tells = { true };
+
+    ghost left = { λ s. source_left s };
+
+    ghost faults = { λ s. s.faults };
+
+    fn pull(&mut self, into: &mut [u8]) -> Result<usize, Fault>
+        requires { 0 < length into.old }
+        ensures bound { IfOk result (λ count. count ≤ length into.new) }
+        ensures bytes { IfOk result
+            (λ count. Gives (source_left self.old) (source_left self.new) count into.new) }
+        ensures failed { OnErr result (source_left self.new ≡ source_left self.old) }
+        ensures cause { HasCause (source_faults self.old) (source_faults self.new) result }
+        ensures count { IfOk result
+            (λ count. count ≡ pulled (source_piece self.old) (length into.old) (source_left self.old)) }
+        ensures named { IsPullNamed self.old → IsErr result }
+        ensures unnamed { OnErr result (IsPullNamed self.old) }
+        ensures once { OnErr result (source_fails self.new ≡ None) }
+        ensures fails { OnOk result (source_fails self.new ≡ source_fails self.old) }
+        ensures faults { OnErr result (source_faults self.new ≡ risen (source_faults self.old)) }
+        ensures number { source_number self.new ≡ risen (source_number self.old) }
+        ensures piece { source_piece self.new ≡ source_piece self.old }
+    {
+        let number = self.next;
+        self.next = number.saturating_add(1);
+        if self.fails == Some(number) {
+            self.fails = None;
+            self.faults = self.faults.saturating_add(1);
+            return Err(Fault);
+        }
+        Ok(give(self.bytes.as_bytes(), &mut self.taken, self.piece, into))
+    }
+}
+
+impl Source for SureSource {
+    ghost use Rattle.site_mem.specs.Source.{sure_left, sure_piece, pulled};
+
+    ghost tells = { true };
+
+    ghost left = { λ s. sure_left s };
+
+    ghost faults = { λ _. 0 };
+
+    fn pull(&mut self, into: &mut [u8]) -> Result<usize, Fault>
+        requires { 0 < length into.old }
+        ensures bound { IfOk result (λ count. count ≤ length into.new) }
+        ensures bytes { IfOk result
+            (λ count. Gives (sure_left self.old) (sure_left self.new) count into.new) }
+        ensures failed { OnErr result (sure_left self.new ≡ sure_left self.old) }
+        ensures cause { HasCause 0 0 result }
+        ensures count { IfOk result
+            (λ count. count ≡ pulled (sure_piece self.old) (length into.old) (sure_left self.old)) }
+        ensures sure { IsOk result }
+        ensures piece { sure_piece self.new ≡ sure_piece self.old }
+    {
+        Ok(give(self.bytes.as_bytes(), &mut self.taken, self.piece, into))
+    }
+}
+
+// Gives the next piece and moves on behind it.
+fn give(bytes: &[u8], taken: &mut usize, piece: usize, into: &mut [u8]) -> usize
+    requires piece { 0 < piece }
+    requires some { 0 < length into.old }
+    ensures bound { result ≤ length into.new }
+    ensures gives { Gives (drop taken.old bytes.now) (drop taken.new bytes.now) result into.new }
+    ensures count { result ≡ min piece (min (length into.old) (length (drop taken.old bytes.now))) }
+{
+    if *taken >= bytes.len() {
+        return 0;
+    }
+    let rest = &bytes[*taken..];
+    let count = piece.min(into.len()).min(rest.len());
+    into[..count].copy_from_slice(&rest[..count]);
+    *taken += count;
+    count
 }

@@ -1,0 +1,206 @@
+//! What a site in memory answers.
+ghost use Rattle.std.specs.Prelude.{◌≡◌, ◌<◌, ◌≤◌, ◌+◌, ◌++◌, true, length, IfOk, OnOk, OnErr, reverse};
+ghost use Rattle.site_core.specs.Causes.{HasCause};
+ghost use Rattle.site_core.specs.Moments.{IsStable};
+ghost use Rattle.site_core.specs.Calls.{Rests, Fills, Writes, Emits};
+ghost use Rattle.site_mem.specs.History.{files_of};
+ghost use Rattle.site_mem.specs.Laws.{read_now, counts_now, only_now};
+ghost use Rattle.site_mem.specs.Counts.{risen};
+ghost use Rattle.site_mem.specs.Tape.{tape_disk, IsWritten, ReachesTorn, ReachesPrefixes, LeavesAsBefore};
+
+use crate::call::Call;
+use crate::log::Turn;
+use crate::site::MemorySite;
+use site_core::{Fault, Site};
+
+impl Site for MemorySite {
+    ghost use Rattle.site_mem.specs.Site.{site_disk, site_tape, stable_files, IsCall, IsStopped, Unless};
+
+    ghost tells = { true };
+
+    ghost disk = { λ s. tape_disk s.tape };
+
+    ghost disk_faults = { λ s. s.disk_faults };
+
+    ghost told_faults = { λ s. s.told_faults };
+
+    ghost reads = { λ s. s.reads };
+
+    ghost writes = { λ s. s.writes };
+
+    ghost read_now = { λ s tells. read_now (files_of s.tape.first) (reverse s.tape.steps.items) };
+
+    ghost counts_now = { λ s t files tells. counts_now (files_of s.tape.first) (reverse s.tape.steps.items) t files };
+
+    ghost only_now = { λ s told files tells. only_now (files_of s.tape.first) (reverse s.tape.steps.items) told files };
+
+    fn length(&mut self, file: u32) -> Result<u64, Fault>
+        requires { file < 4 }
+        ensures answer { IfOk result (λ count. count ≡ length ((site_disk self.old).files file)) }
+        ensures disk { Rests (site_disk self.old) (site_disk self.new) }
+        ensures cause { HasCause self.old.disk_faults self.new.disk_faults result }
+        ensures fault { OnErr result (self.new.disk_faults ≡ risen self.old.disk_faults) }
+        ensures told_faults { self.new.told_faults ≡ self.old.told_faults }
+        ensures reads { self.new.reads ≡ self.old.reads }
+        ensures writes { self.new.writes ≡ self.old.writes }
+        ensures call { IsCall (Call.Length file) self.old self.new result }
+        ensures tape { site_tape self.new ≡ site_tape self.old }
+    {
+        match self.log.begin(Call::Length { file }) {
+            Turn::Goes => Ok(self.tape.bytes(file).len() as u64),
+            Turn::Fails | Turn::Stops => Err(failed(&mut self.disk_faults)),
+            Turn::Starves => Err(starved(&mut self.disk_faults, &mut self.starved)),
+        }
+    }
+
+    fn read(&mut self, file: u32, at: u64, into: &mut [u8]) -> Result<usize, Fault>
+        requires file { file < 4 }
+        requires some { 0 < length into.old }
+        requires few { length into.old ≤ 4096 }
+        ensures bound { IfOk result (λ count. count ≤ length into.new) }
+        ensures answer { IfOk result (λ count. Fills ((site_disk self.old).files file) at count into.new) }
+        ensures disk { Rests (site_disk self.old) (site_disk self.new) }
+        ensures cause { HasCause self.old.disk_faults self.new.disk_faults result }
+        ensures fault { OnErr result (self.new.disk_faults ≡ risen self.old.disk_faults) }
+        ensures told_faults { self.new.told_faults ≡ self.old.told_faults }
+        ensures reads { self.old.reads ≤ self.new.reads }
+        ensures one { self.new.reads ≤ self.old.reads + 1 }
+        ensures writes { self.new.writes ≡ self.old.writes }
+        ensures call { IsCall (Call.Read file at (length into.old)) self.old self.new result }
+        ensures tape { site_tape self.new ≡ site_tape self.old }
+        ensures counted { self.new.reads ≡ risen self.old.reads }
+    {
+        self.reads = self.reads.saturating_add(1);
+        let len = into.len() as u64;
+        match self.log.begin(Call::Read { file, at, len }) {
+            Turn::Goes => Ok(fill(self.tape.bytes(file), at, into)),
+            Turn::Fails | Turn::Stops => Err(failed(&mut self.disk_faults)),
+            Turn::Starves => Err(starved(&mut self.disk_faults, &mut self.starved)),
+        }
+    }
+
+    fn write(&mut self, file: u32, at: u64, bytes: &[u8]) -> Result<(), Fault>
+        requires file { file < 4 }
+        requires place { at ≤ length ((site_disk self.old).files file) }
+        requires some { 0 < length bytes.now }
+        ensures written { OnOk result (IsWritten file at bytes.now
+            (site_disk self.old).files (site_disk self.new).files) }
+        ensures unread { OnErr result ((site_disk self.new).files ≡ (site_disk self.old).files) }
+        ensures disk { Writes file at bytes.now (site_disk self.old) (site_disk self.new) }
+        ensures cause { HasCause self.old.disk_faults self.new.disk_faults result }
+        ensures fault { OnErr result (self.new.disk_faults ≡ risen self.old.disk_faults) }
+        ensures told_faults { self.new.told_faults ≡ self.old.told_faults }
+        ensures reads { self.new.reads ≡ self.old.reads }
+        ensures writes { self.old.writes ≤ self.new.writes }
+        ensures one { self.new.writes ≤ self.old.writes + 1 }
+        ensures call { IsCall (Call.Write file at (length bytes.now)) self.old self.new result }
+        ensures stopped { IsStopped self.old → site_tape self.new ≡ site_tape self.old }
+        ensures reaches { Unless self.old self.new
+            (ReachesTorn file at bytes.now (site_disk self.old) (site_disk self.new)) }
+        ensures left { LeavesAsBefore (site_disk self.old) (site_disk self.new) }
+        ensures kept { stable_files self.new ≡ stable_files self.old }
+        ensures counted { self.new.writes ≡ risen self.old.writes }
+    {
+        self.writes = self.writes.saturating_add(1);
+        let len = bytes.len() as u64;
+        match self.log.begin(Call::Write { file, at, len }) {
+            Turn::Goes => match self.tape.write(file, at, bytes) {
+                Ok(()) => Ok(()),
+                Err(_) => Err(starved(&mut self.disk_faults, &mut self.starved)),
+            },
+            Turn::Fails => match self.tape.tear(file, at, bytes) {
+                Ok(()) => Err(failed(&mut self.disk_faults)),
+                Err(_) => Err(starved(&mut self.disk_faults, &mut self.starved)),
+            },
+            Turn::Stops => Err(failed(&mut self.disk_faults)),
+            Turn::Starves => Err(starved(&mut self.disk_faults, &mut self.starved)),
+        }
+    }
+
+    fn sync(&mut self) -> Result<(), Fault>
+        ensures stable { OnOk result (IsStable (site_disk self.new)) }
+        ensures disk { Rests (site_disk self.old) (site_disk self.new) }
+        ensures cause { HasCause self.old.disk_faults self.new.disk_faults result }
+        ensures fault { OnErr result (self.new.disk_faults ≡ risen self.old.disk_faults) }
+        ensures told_faults { self.new.told_faults ≡ self.old.told_faults }
+        ensures reads { self.new.reads ≡ self.old.reads }
+        ensures writes { self.new.writes ≡ self.old.writes }
+        ensures call { IsCall (Call.Sync) self.old self.new result }
+        ensures stopped { IsStopped self.old → site_tape self.new ≡ site_tape self.old }
+        ensures left { OnErr result (LeavesAsBefore (site_disk self.old) (site_disk self.new)) }
+        ensures kept { OnErr result (stable_files self.new ≡ stable_files self.old) }
+        ensures taken { OnOk result (stable_files self.new ≡ (site_disk self.new).files) }
+    {
+        match self.log.begin(Call::Sync) {
+            Turn::Goes => match self.tape.sync() {
+                Ok(()) => Ok(()),
+                Err(_) => Err(starved(&mut self.disk_faults, &mut self.starved)),
+            },
+            Turn::Fails | Turn::Stops => Err(failed(&mut self.disk_faults)),
+            Turn::Starves => Err(starved(&mut self.disk_faults, &mut self.starved)),
+        }
+    }
+
+    fn emit(&mut self, bytes: &[u8]) -> Result<(), Fault>
+        ensures told { OnOk result ((site_disk self.new).told ≡ (site_disk self.old).told ++ bytes.now) }
+        ensures untold { OnErr result ((site_disk self.new).told ≡ (site_disk self.old).told) }
+        ensures disk { Emits bytes.now (site_disk self.old) (site_disk self.new) }
+        ensures cause { HasCause self.old.told_faults self.new.told_faults result }
+        ensures fault { OnErr result (self.new.told_faults ≡ risen self.old.told_faults) }
+        ensures disk_faults { self.new.disk_faults ≡ self.old.disk_faults }
+        ensures reads { self.new.reads ≡ self.old.reads }
+        ensures writes { self.new.writes ≡ self.old.writes }
+        ensures call { IsCall (Call.Emit (length bytes.now)) self.old self.new result }
+        ensures stopped { IsStopped self.old → site_tape self.new ≡ site_tape self.old }
+        ensures reaches { Unless self.old self.new
+            (ReachesPrefixes bytes.now (site_disk self.old) (site_disk self.new)) }
+        ensures left { LeavesAsBefore (site_disk self.old) (site_disk self.new) }
+        ensures kept { stable_files self.new ≡ stable_files self.old }
+    {
+        let len = bytes.len() as u64;
+        match self.log.begin(Call::Emit { len }) {
+            Turn::Goes => match self.tape.emit(bytes) {
+                Ok(()) => Ok(()),
+                Err(_) => Err(starved(&mut self.told_faults, &mut self.starved)),
+            },
+            Turn::Fails => match self.tape.hush(bytes) {
+                Ok(()) => Err(failed(&mut self.told_faults)),
+                Err(_) => Err(starved(&mut self.told_faults, &mut self.starved)),
+            },
+            Turn::Stops => Err(failed(&mut self.told_faults)),
+            Turn::Starves => Err(starved(&mut self.told_faults, &mut self.starved)),
+        }
+    }
+}
+
+// The fault of a call that was to fail.
+fn failed(faults: &mut u64) -> Fault
+    ensures later { faults.old ≤ faults.new }
+    ensures faults { faults.new ≡ risen faults.old }
+{
+    *faults = faults.saturating_add(1);
+    Fault
+}
+
+// The fault of a call that found no memory.
+fn starved(faults: &mut u64, starved: &mut u64) -> Fault
+    ensures later { faults.old ≤ faults.new }
+    ensures faults { faults.new ≡ risen faults.old }
+    ensures starved { starved.new ≡ risen starved.old }
+{
+    *starved = starved.saturating_add(1);
+    failed(faults)
+}
+
+// Copies the bytes from a place on, as many as there are or as there is room for.
+fn fill(bytes: &[u8], at: u64, into: &mut [u8]) -> usize
+    ensures { Fills bytes.now at result into.new }
+{
+    if at >= bytes.len() as u64 {
+        return 0;
+    }
+    let rest = &bytes[at as usize..];
+    let count = into.len().min(rest.len());
+    into[..count].copy_from_slice(&rest[..count]);
+    count
+}
