@@ -1,5 +1,5 @@
 -- Calls that are to fail.
-use Rattle.std.specs.Prelude.{◌≡◌, ◌⊎◌, ℕ, ◌≤◌, ⊤, Option, Some, None, List, [], ◌∷◌, ◌++◌, Contains}
+use Rattle.std.specs.Prelude.{◌≡◌, ℕ, ◌≤◌, ⊤, Option, Some, None, List, [], ◌∷◌, ◌++◌, Contains}
 use Rattle.site_mem.specs.declared.call.Call.{Call}
 use Rattle.site_mem.specs.declared.log.Turn.{Turn}
 use Rattle.site_mem.specs.declared.log.Turn.TheVariants.{Goes, Fails, Stops, Starves}
@@ -17,5 +17,6 @@ IsTurn stop fails number Stops = IsPast stop number
 IsTurn stop fails number Starves = ⊤
 
 -- the call is noted behind the others, unless there was no memory for it
-abbrev pub IsNotedUnless : Type 0 → Call → List Call → List Call → Type 0
-IsNotedUnless Starved call old new = (new ≡ old ++ call ∷ []) ⊎ ((new ≡ old) × Starved)
+abbrev pub IsNoted : Turn → Call → List Call → List Call → Type 0
+IsNoted Starves call old new = new ≡ old
+IsNoted _ call old new = new ≡ old ++ call ∷ []

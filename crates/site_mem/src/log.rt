@@ -1,7 +1,7 @@
 //! The calls made, and those that are to fail.
-ghost use Rattle.std.specs.Prelude.{◌≡◌, ◌≤◌, ◌⊎◌, ◌↔◌, [], ◌∷◌, ◌++◌, IsTrue, None};
+ghost use Rattle.std.specs.Prelude.{◌≡◌, ◌≢◌, ◌≤◌, ◌⊎◌, ◌↔◌, [], ◌∷◌, ◌++◌, IsTrue, None};
 ghost use Rattle.site_mem.specs.Counts.{risen};
-ghost use Rattle.site_mem.specs.Turn.{IsPast, IsTurn, IsNotedUnless};
+ghost use Rattle.site_mem.specs.Turn.{IsPast, IsTurn, IsNoted};
 
 use crate::call::Call;
 use std::alloc::Global;
@@ -48,8 +48,7 @@ impl Log {
     /// Notes a call and answers what is to become of it.
     pub fn begin(&mut self, call: Call) -> Turn
         ensures turn { IsTurn self.old.stop self.old.fails.items self.old.next result }
-        ensures calls { IsNotedUnless (result ≡ Turn.Starves) call
-            self.old.calls.items self.new.calls.items }
+        ensures calls { IsNoted result call self.old.calls.items self.new.calls.items }
         ensures next { self.new.next ≡ risen self.old.next }
         ensures fails { self.new.fails ≡ self.old.fails }
         ensures stop { self.new.stop ≡ self.old.stop }
@@ -64,7 +63,8 @@ impl Log {
 }
 
 fn turn_of(stop: Option<u64>, fails: &[u64], number: u64) -> Turn
-    ensures { IsTurn stop fails.now number result }
+    ensures turn { IsTurn stop fails.now number result }
+    ensures fed { result ≢ Turn.Starves }
 {
     if is_past(stop, number) {
         return Turn::Stops;

@@ -95,6 +95,7 @@ impl Source for MemorySource {
         ensures bytes { IfOk result
             (λ count. Gives (source_left self.old) (source_left self.new) count into.new) }
         ensures failed { OnErr result (source_left self.new ≡ source_left self.old) }
+        ensures unfilled { OnErr result (into.new ≡ into.old) }
         ensures cause { HasCause (source_faults self.old) (source_faults self.new) result }
         ensures count { IfOk result
             (λ count. count ≡ pulled (source_piece self.old) (length into.old) (source_left self.old)) }

@@ -14,7 +14,7 @@ use crate::site::MemorySite;
 use site_core::{Fault, Site};
 
 impl Site for MemorySite {
-    ghost use Rattle.site_mem.specs.Site.{site_disk, site_tape, stable_files, IsCall, IsStopped, Unless};
+    ghost use Rattle.site_mem.specs.Site.{site_disk, site_tape, stable_files, IsCall, IsNamed, IsStopped, StarvesInNote, Unless};
 
     ghost tells = { true };
 
@@ -44,6 +44,7 @@ impl Site for MemorySite {
         ensures reads { self.new.reads ≡ self.old.reads }
         ensures writes { self.new.writes ≡ self.old.writes }
         ensures call { IsCall (Call.Length file) self.old self.new result }
+        ensures memory { StarvesInNote self.old self.new }
         ensures tape { site_tape self.new ≡ site_tape self.old }
     {
         match self.log.begin(Call::Length { file }) {
@@ -59,6 +60,7 @@ impl Site for MemorySite {
         requires few { length into.old ≤ 4096 }
         ensures bound { IfOk result (λ count. count ≤ length into.new) }
         ensures answer { IfOk result (λ count. Fills ((site_disk self.old).files file) at count into.new) }
+        ensures unfilled { OnErr result (into.new ≡ into.old) }
         ensures disk { Rests (site_disk self.old) (site_disk self.new) }
         ensures cause { HasCause self.old.disk_faults self.new.disk_faults result }
         ensures fault { OnErr result (self.new.disk_faults ≡ risen self.old.disk_faults) }
@@ -67,6 +69,7 @@ impl Site for MemorySite {
         ensures one { self.new.reads ≤ self.old.reads + 1 }
         ensures writes { self.new.writes ≡ self.old.writes }
         ensures call { IsCall (Call.Read file at (length into.old)) self.old self.new result }
+        ensures memory { StarvesInNote self.old self.new }
         ensures tape { site_tape self.new ≡ site_tape self.old }
         ensures counted { self.new.reads ≡ risen self.old.reads }
     {
@@ -94,6 +97,7 @@ impl Site for MemorySite {
         ensures writes { self.old.writes ≤ self.new.writes }
         ensures one { self.new.writes ≤ self.old.writes + 1 }
         ensures call { IsCall (Call.Write file at (length bytes.now)) self.old self.new result }
+        ensures memory { IsStopped self.old → StarvesInNote self.old self.new }
         ensures stopped { IsStopped self.old → site_tape self.new ≡ site_tape self.old }
         ensures reaches { Unless self.old self.new
             (ReachesTorn file at bytes.now (site_disk self.old) (site_disk self.new)) }
@@ -126,6 +130,7 @@ impl Site for MemorySite {
         ensures reads { self.new.reads ≡ self.old.reads }
         ensures writes { self.new.writes ≡ self.old.writes }
         ensures call { IsCall (Call.Sync) self.old self.new result }
+        ensures memory { IsNamed self.old → StarvesInNote self.old self.new }
         ensures stopped { IsStopped self.old → site_tape self.new ≡ site_tape self.old }
         ensures left { OnErr result (LeavesAsBefore (site_disk self.old) (site_disk self.new)) }
         ensures kept { OnErr result (stable_files self.new ≡ stable_files self.old) }
@@ -151,6 +156,7 @@ impl Site for MemorySite {
         ensures reads { self.new.reads ≡ self.old.reads }
         ensures writes { self.new.writes ≡ self.old.writes }
         ensures call { IsCall (Call.Emit (length bytes.now)) self.old self.new result }
+        ensures memory { IsStopped self.old → StarvesInNote self.old self.new }
         ensures stopped { IsStopped self.old → site_tape self.new ≡ site_tape self.old }
         ensures reaches { Unless self.old self.new
             (ReachesPrefixes bytes.now (site_disk self.old) (site_disk self.new)) }

@@ -1,0 +1,10 @@
+pub mod Answered
+pub mod Chosen
+pub mod Decoded
+pub mod Encoded
+pub mod Fronts
+pub mod Kept
+pub mod Lowered
+pub mod One
+pub mod PutBodies
+pub mod ShutGate

@@ -1,0 +1,5 @@
+pub mod Body
+pub mod Causes
+pub mod Keeps
+pub mod Live
+pub mod Root

@@ -1,0 +1,4 @@
+pub mod Lawful
+pub mod Pages
+pub mod Taking
+pub mod Writing

@@ -1,0 +1,124 @@
+//! Reading the entries and children of a page.
+
+ghost use Rattle.std.specs.Prelude.{◌≡◌, ◌≤◌, ◌<◌, ◌+◌, ◌*◌, ◌-◌, ◌++◌, drop, replicate, get_or, true, length, ℕ, List};
+ghost use Rattle.page_fmt.specs.declared.page.TheConstants.{COORDINATE, PAGE, PART};
+ghost use Rattle.cube_point.specs.declared.point.Entry.{Entry};
+ghost use Rattle.byte_formats.specs.Formats.{many};
+ghost use Rattle.byte_formats.specs.Numbers.{number};
+ghost use Rattle.page_fmt.specs.declared.page.Child.{Child};
+ghost use Rattle.page_fmt.specs.Pages.{entry_size, child_size, zeros, leaf_bytes, inner_bytes};
+ghost use Rattle.page_fmt.specs.Taking.{part_of, no_part, entry_of, child_of, entries, children, page_count};
+ghost use Rattle.page_fmt.specs.Lawful.{HasEntries, HasChildren, IsLeaf, IsInner};
+
+use crate::page::{COORDINATE, COUNT, Child, HEADER, PART, SIDE, VALUE};
+use crate::size::{size_of_child, size_of_entry};
+use byte_formats::{take_i128, take_u32, take_u64};
+use cube_point::{Bounds, Entry, Point, Shape};
+use fact_model::{Cell, Part};
+
+fn coordinates_at(page: &[u8; 4096], arity: u8, at: usize) -> [u64; 8]
+    requires arity { arity ≤ 8 }
+    requires place { at + arity * COORDINATE ≤ PAGE }
+    ensures { result ≡ many (number COORDINATE) COORDINATE arity (drop at page.now) ++ zeros (8 - arity) }
+{
+    let mut all = [0; 8];
+    for i in 0..arity as usize {
+        all[i] = u64::from(take_u32(page, at + i * COORDINATE));
+    }
+    all
+}
+
+fn part_at(page: &[u8; 4096], at: usize) -> Part
+    requires { at + PART ≤ PAGE }
+    ensures { result ≡ part_of (drop at page.now) }
+{
+    Part {
+        sum: take_i128(page, at),
+        low: take_i128(page, at + VALUE),
+        high: take_i128(page, at + 2 * VALUE),
+    }
+}
+
+fn parts_at(page: &[u8; 4096], measures: u8, at: usize) -> [Part; 4]
+    requires measures { measures ≤ 4 }
+    requires place { at + measures * PART ≤ PAGE }
+    ensures { result ≡ many part_of PART measures (drop at page.now) ++ replicate (4 - measures) no_part }
+{
+    let mut all = [Part {
+        sum: 0,
+        low: 0,
+        high: 0,
+    }; 4];
+    for i in 0..measures as usize {
+        all[i] = part_at(page, at + i * PART);
+    }
+    all
+}
+
+pub(crate) fn entry_at(page: &[u8; 4096], arity: u8, measures: u8, at: usize) -> Entry
+    requires arity { arity ≤ 8 }
+    requires measures { measures ≤ 4 }
+    requires place { at + entry_size arity measures ≤ PAGE }
+    ensures { result ≡ entry_of arity measures (drop at page.now) }
+{
+    let after = at + arity as usize * COORDINATE;
+    let point = Point {
+        arity,
+        at: coordinates_at(page, arity, at),
+    };
+    let count = take_u64(page, after);
+    let parts = parts_at(page, measures, after + COUNT);
+    Entry {
+        point,
+        cell: Cell {
+            count,
+            measures,
+            parts,
+        },
+    }
+}
+
+pub(crate) fn child_at(page: &[u8; 4096], dims: u8, at: usize) -> Child
+    requires dims { dims ≤ 8 }
+    requires place { at + child_size dims ≤ PAGE }
+    ensures { result ≡ child_of dims (drop at page.now) }
+{
+    let mut low = [0; 8];
+    let mut high = [0; 8];
+    for i in 0..dims as usize {
+        low[i] = u64::from(take_u32(page, at + i * SIDE));
+        high[i] = u64::from(take_u32(page, at + i * SIDE + COORDINATE));
+    }
+    let page = take_u64(page, at + dims as usize * SIDE);
+    Child {
+        bounds: Bounds { low, high },
+        page,
+    }
+}
+
+/// The entry at an index of an accepted leaf.
+pub fn leaf_entry(bytes: &[u8; 4096], shape: &Shape, index: usize) -> Entry
+    requires page { HasEntries shape.now bytes.now }
+    requires index { index < page_count bytes.now }
+    ensures value { result ≡ get_or (entries shape.now.measures bytes.now) index result }
+    ensures written { (arity : ℕ) (es : List Entry) → IsLeaf shape.now arity es → bytes.now ≡ leaf_bytes arity shape.now.measures es → result ≡ get_or es index result }
+{
+    let arity = bytes[1];
+    entry_at(
+        bytes,
+        arity,
+        shape.measures,
+        HEADER + index * size_of_entry(arity, shape.measures),
+    )
+}
+
+/// The child at an index of an accepted inner page.
+pub fn inner_entry(bytes: &[u8; 4096], shape: &Shape, index: usize) -> Child
+    requires page { HasChildren shape.now bytes.now }
+    requires index { index < page_count bytes.now }
+    ensures value { result ≡ get_or (children bytes.now) index result }
+    ensures written { (own : ℕ) (cs : List Child) → IsInner shape.now own cs → bytes.now ≡ inner_bytes shape.now.dims cs → result ≡ get_or cs index result }
+{
+    let dims = shape.dims;
+    child_at(bytes, dims, HEADER + index * size_of_child(dims))
+}

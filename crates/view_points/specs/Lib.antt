@@ -1,0 +1,11 @@
+pub mod Agree
+pub mod Answer
+pub mod Arity
+pub mod Ascends
+pub mod Codes
+pub mod Deltas
+pub mod Entries
+pub mod Merge
+pub mod Points
+pub mod RollUp
+pub mod Weights
