@@ -52,15 +52,17 @@ down-same i s a b at l e =
     below : (s i : ℕ) → i ≡ 7 - s → s < 8 → i ≡ 8 - (s + 1)
     below s i at l = omega arith
 
-lt-of : (x y : ℕ) (r : Ordering) → x ≢ y → is_lt (ordering_then (nat_cmp x y) r) ≡ nat_lt x y
-lt-of x y r n = elim (cases_Bool (nat_lt x y)) [
-  | inl e ↦ ap (λ (b : Bool). is_lt (ordering_then (cond b Less (cond (x == y) Equal Greater)) r)) e ∙ sym e
-  | inr e ↦ ap (λ (b : Bool). is_lt (ordering_then (cond b Less (cond (x == y) Equal Greater)) r)) e ∙ (ap (λ (b : Bool). is_lt (ordering_then (cond b Equal Greater) r)) (ne_eqb x y n) ∙ sym e)
-]
+then-differ : (x y : ℕ) (r : Ordering) → x ≢ y → ordering_then (nat_cmp x y) r ≡ nat_cmp x y
+then-differ x y r n = by (nat_cmp x y) (ranks x y)
+  where
+    by : (s : Ordering) → MatchOrdering s (x < y) (x ≡ y) (y < x) → ordering_then s r ≡ s
+    by Less m = refl
+    by Equal m = absurd (n m)
+    by Greater m = refl
 
 -- the first coordinates that differ decide
-pub down-lt : (i s : ℕ) (a b : List ℕ) → i ≡ 7 - s → s < 8 → get_or a i 0 ≢ get_or b i 0 → is_lt (cmp_down (8 - s) a b) ≡ nat_lt (get_or a i 0) (get_or b i 0)
-down-lt i s a b at l n = ap (λ n. is_lt (cmp_down n a b)) (above s i at l) ∙ lt-of (get_or a i 0) (get_or b i 0) (cmp_down i a b) n
+pub down-differ : (i s : ℕ) (a b : List ℕ) → i ≡ 7 - s → s < 8 → get_or a i 0 ≢ get_or b i 0 → cmp_down (8 - s) a b ≡ nat_cmp (get_or a i 0) (get_or b i 0)
+down-differ i s a b at l n = ap (λ n. cmp_down n a b) (above s i at l) ∙ then-differ (get_or a i 0) (get_or b i 0) (cmp_down i a b) n
   where
     above : (s i : ℕ) → i ≡ 7 - s → s < 8 → 8 - s ≡ suc i
     above s i at l = omega arith

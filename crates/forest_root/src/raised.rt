@@ -1,8 +1,9 @@
 //! The live body is found: of the bodies whose slots are raised, the one with the greatest generation.
-ghost use Rattle.std.specs.Prelude.{◌≡◌, ◌≢◌, ◌<◌, ◌≤◌, ◌+◌, ◌⊎◌, IsTrue, length, take, IfOk, IfErr, Ok, Err, Some, None, IfSome, IfNone, ℕ};
+ghost use Rattle.std.specs.Prelude.{◌≡◌, ◌≢◌, ◌<◌, ◌≤◌, ◌+◌, ◌%◌, ◌⊎◌, IsTrue, length, take, IfOk, IfErr, Ok, Err, Some, None, IfSome, IfNone, ℕ};
 ghost use Rattle.site_core.specs.Causes.{HasCause};
 ghost use Rattle.site_core.specs.Calls.{Rests};
-ghost use Rattle.forest_root.specs.Body.{Decodes};
+ghost use Rattle.std.specs.Option.{ForSome};
+ghost use Rattle.forest_root.specs.Body.{Decodes, IsBody};
 ghost use Rattle.forest_root.specs.Root.{IsRaised, gates, root_size, body_in};
 ghost use Rattle.forest_root.specs.Live.{IsLiveBody, NoneRaised, IsDamaged, IsFirstDamaged};
 ghost use Rattle.forest_root.specs.Causes.{HasCauseWhere};
@@ -41,6 +42,9 @@ pub fn live<T: Site>(site: &mut T) -> Result<Option<Body>, RootStop>
         → (result ≡ Ok None) ⊎ (result ≡ Err RootStop.Disk) }
     ensures finds_damage { IsTrue T.tells → (slot : ℕ) → IsFirstDamaged slot ((T.disk site.old).files 0)
         → (result ≡ Err (RootStop.Damaged slot)) ⊎ (result ≡ Err RootStop.Disk) }
+
+    // Also over a site that does not tell.
+    ensures within { IfOk result (λ found. ForSome found (λ body. IsBody (body.generation % 2) body)) }
 
     ensures disk { IsTrue T.tells → Rests (T.disk site.old) (T.disk site.new) }
     ensures cause { HasCauseWhere RootStop.Disk (T.disk_faults site.old) (T.disk_faults site.new) result }

@@ -1,10 +1,10 @@
 -- A page is accepted exactly where it is the bytes of lawful content.
-use Rattle.std.proofs.Common.{◌≡◌, ◌≤◌, ◌<◌, ◌+◌, ◌-◌, ◌*◌, ◌^◌, ◌/◌, ◌⊎◌, inl, inr, ℕ, zero, suc, Bool, true, false, cond, List, [], ◌∷◌, ◌++◌, length, take, drop, slice_index, refl, sym, ap, ◌∙◌, arith, subst, Result, Ok, Err}
+use Rattle.std.proofs.Common.{◌≡◌, ◌≤◌, ◌<◌, ◌+◌, ◌-◌, ◌*◌, ◌^◌, ◌/◌, ◌⊎◌, inl, inr, ℕ, zero, suc, Bool, true, false, cond, List, [], ◌∷◌, ◌++◌, length, take, drop, slice_index, refl, sym, ap, ◌∙◌, arith, subst, Result, Ok, Err, length-append}
 use Rattle.std.specs.Prelude.{flat_map, ◌&&◌, ◌==◌, not, nat_lt}
 use Rattle.std.specs.List.{list_all}
 use Rattle.std.proofs.Math.Nat.{mul-le-mul_right, mul-le-mul_left, div-add-mod'}
 use Rattle.std.proofs.lemmas.Bool.{eqb-true, ltb-false, le-ltb, eq-eqb}
-use Rattle.std.proofs.lemmas.List.{take-append-drop, drop_at, drop-drop, length-take-le, length-drop}
+use Rattle.std.proofs.lemmas.List.{take-append-drop, drop_at, drop-drop, length-take-le, length-drop, length-replicate}
 use Rattle.byte_formats.specs.Numbers.{coded}
 use Rattle.page_fmt.specs.Pages.{entry_bytes, child_bytes, entry_size, child_size, room, zeros, page_bytes, leaf_bytes, inner_bytes}
 use Rattle.byte_formats.specs.Formats.{many}
@@ -327,6 +327,18 @@ children-fall shape own b head e inner-is =
 
     not-both : nodes.Leaf ≡ nodes.Inner → ⊥
     not-both e = cc
+
+-- a leaf has the size of a page
+pub leaf-size : (shape : Shape) (arity : ℕ) (es : List Entry) → IsLeaf shape arity es → length (leaf_bytes arity shape.measures es) ≡ 4096
+leaf-size shape arity es is =
+    let size = entry_size arity shape.measures in
+    let pos : 0 < size = omega arith in
+    let n = length es in
+    let body = flat_map (entry_bytes arity shape.measures) es in
+    let long = many-long size (entry_bytes arity shape.measures) (entry_of arity shape.measures) (IsStored arity shape.measures) (entry_format arity shape.measures) n es is.stored in
+    let few = (counted size n pos is.count).0 in
+    let two = (is_number 2).long n (size-fits size n pos is.count) in
+    omega (arith, long, few, two, length-append (coded 2 n) (zeros 4 ++ (body ++ zeros (4088 - length body))), length-append body (zeros (4088 - length body)), length-replicate {A = ℕ} (4088 - length body) 0)
 
 -- the entries and children that were written
 pub leaf-entries : (shape : Shape) (arity : ℕ) (es : List Entry) → IsLeaf shape arity es → entries shape.measures (leaf_bytes arity shape.measures es) ≡ es
