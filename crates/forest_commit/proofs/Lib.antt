@@ -1,0 +1,5 @@
+pub mod Committed
+pub mod Declared
+pub mod Kept
+pub mod Lasting
+pub mod Paged
