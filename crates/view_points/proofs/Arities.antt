@@ -25,7 +25,8 @@ use Rattle.view_points.proofs.Cells.{one_cell}
 use Rattle.view_points.proofs.Codes.{code-positive}
 use Rattle.view_points.proofs.Orders.{smaller-first}
 
-coord-positive : (ts : List Text) (v : Value) → HasCode ts v → 1 ≤ coord ts v
+-- a value that has a code has a coordinate above 0
+pub coord-positive : (ts : List Text) (v : Value) → HasCode ts v → 1 ≤ coord ts v
 coord-positive ts v h = by (code_in ts v) refl h
   where
     by : (o : Option ℕ) → code_in ts v ≡ o → is_some o ≡ true → 1 ≤ unwrap_or o 0

@@ -17,10 +17,15 @@ grouped-facts : (n : ℕ) (key : Fact → List ℕ) (pairs : List CodedFact) →
 grouped-facts n key [] = refl
 grouped-facts n key (p ∷ pairs) = ap (put point_cmp join (key p.1) (one_cell n p.1)) (grouped-facts n key pairs)
 
+-- the points by coordinates, item by item
+pub delta-grouped : (n : ℕ) (view : View) (pairs : List CodedFact) → delta_points n view pairs ≡ grouped point_cmp join (place_in view) (λ (p : CodedFact). one_cell n p.1) pairs
+delta-grouped n view pairs =
+    groups-grouped point_cmp point-total point-only join join-comm join-assoc (place_in view) (λ (p : CodedFact). one_cell n p.1) (λ ps. cell_of n (map (λ (p : CodedFact). p.1) ps))
+    (cell-law join (λ (p : CodedFact). one_cell n p.1) (λ ps. cell_of n (map (λ (p : CodedFact). p.1) ps)) (λ p. refl) (λ p q ps. cell-more n p.1 q.1 (map (λ (p : CodedFact). p.1) ps))) pairs
+
 -- where the coordinates are those of the names, the points are those by the names
 pub delta-points : (ns : Names) (n : ℕ) (view : View) (pairs : List CodedFact) → All (CodedBy ns view) pairs → delta_points n view pairs ≡ points_by ns n view (map (λ (p : CodedFact). p.1) pairs)
 delta-points ns n view pairs h =
-    groups-grouped point_cmp point-total point-only join join-comm join-assoc (place_in view) (λ (p : CodedFact). one_cell n p.1) (λ ps. cell_of n (map (λ (p : CodedFact). p.1) ps))
-    (cell-law join (λ (p : CodedFact). one_cell n p.1) (λ ps. cell_of n (map (λ (p : CodedFact). p.1) ps)) (λ p. refl) (λ p q ps. cell-more n p.1 q.1 (map (λ (p : CodedFact). p.1) ps))) pairs
+    delta-grouped n view pairs
     ∙ (grouped-same point_cmp join (place_in view) (λ (p : CodedFact). place_of ns view p.1) (λ p. one_cell n p.1) pairs (every-map (CodedBy ns view) (λ p. place_in view p ≡ place_of ns view p.1) (λ p e. ap padded e) pairs (every-from_All (CodedBy ns view) pairs h))
     ∙ (grouped-facts n (place_of ns view) pairs ∙ sym (points-grouped ns n view (map (λ (p : CodedFact). p.1) pairs))))

@@ -11,7 +11,8 @@ use Rattle.view_points.specs.Ascends.{Below, Ascends}
 use Rattle.view_points.proofs.Grouping.{plus, put, at}
 use Rattle.view_points.proofs.Groups.{cases_Ordering, plus-assoc, plus-swap, plus-four, below-through, less-from_greater}
 
-entries-new : {E : Type 0} (ds : List E) → entries_of (map (λ d. (d, false)) ds) ≡ ds
+-- a merge with no old entries gives the new ones
+pub entries-new : {E : Type 0} (ds : List E) → entries_of (map (λ d. (d, false)) ds) ≡ ds
 entries-new [] = refl
 entries-new (d ∷ ds) = ap (λ r. d ∷ r) (entries-new ds)
 
@@ -35,13 +36,13 @@ module _ {K : Type 0} (R : K → K → Ordering) (o : IsTotalOrder R) (only : Is
   one e more ds = merge_one (before R) (join_entries join) e more ds
 
   -- the clauses by the order of the keys
-  one-less : (e d : K × C) (more : List (K × C) → List ((K × C) × Bool)) (ds : List (K × C)) → R e.0 d.0 ≡ Less → entries_of (one e more (d ∷ ds)) ≡ e ∷ entries_of (more (d ∷ ds))
+  pub one-less : (e d : K × C) (more : List (K × C) → List ((K × C) × Bool)) (ds : List (K × C)) → R e.0 d.0 ≡ Less → entries_of (one e more (d ∷ ds)) ≡ e ∷ entries_of (more (d ∷ ds))
   one-less e d more ds l = ap entries_of (merge-old (before R) (join_entries join) e d more ds (ap is_lt l))
 
-  one-greater : (e d : K × C) (more : List (K × C) → List ((K × C) × Bool)) (ds : List (K × C)) → R e.0 d.0 ≡ Greater → entries_of (one e more (d ∷ ds)) ≡ d ∷ entries_of (one e more ds)
+  pub one-greater : (e d : K × C) (more : List (K × C) → List ((K × C) × Bool)) (ds : List (K × C)) → R e.0 d.0 ≡ Greater → entries_of (one e more (d ∷ ds)) ≡ d ∷ entries_of (one e more ds)
   one-greater e d more ds g = ap entries_of (merge-new (before R) (join_entries join) e d more ds (ap is_lt g) (ap is_lt (less-from_greater R o only e.0 d.0 g)))
 
-  one-equal : (e d : K × C) (more : List (K × C) → List ((K × C) × Bool)) (ds : List (K × C)) → R e.0 d.0 ≡ Equal → entries_of (one e more (d ∷ ds)) ≡ join_entries join e d ∷ entries_of (more ds)
+  pub one-equal : (e d : K × C) (more : List (K × C) → List ((K × C) × Bool)) (ds : List (K × C)) → R e.0 d.0 ≡ Equal → entries_of (one e more (d ∷ ds)) ≡ join_entries join e d ∷ entries_of (more ds)
   one-equal e d more ds q = ap entries_of (merge-both (before R) (join_entries join) e d more ds (ap is_lt q) (ap is_lt (o.antisymm d.0 e.0 ∙ ap ordering_reverse q)))
 
   -- to put one entry is to merge a list of one
