@@ -1,0 +1,10 @@
+pub mod Places
+pub mod Books
+pub mod Coords
+pub mod Fulls
+pub mod Entries
+pub mod Onwards
+pub mod Takes
+pub mod EntryTexts
+pub mod EntryReads
+pub mod Rooms

@@ -1,0 +1,94 @@
+//! The names of one attribute.
+ghost use Rattle.std.specs.Prelude.{◌≡◌, ◌<◌, ◌-◌, [], ◌∷◌, ◌++◌, false, suc, IfOk, OnOk, OnErr, Some, None, not, length, take, option_map, option_copied, slice_get};
+ghost use Rattle.std.specs.List.{list_any};
+ghost use Rattle.std.specs.Str.{bytes_eq};
+ghost use Rattle.view_points.specs.Codes.{admitted, place};
+
+use fact_model::{Memory, Text};
+use indexmap::IndexSet;
+use std::alloc::Global;
+use std::marker::Model;
+
+/// Distinct texts in order of first appearance. Codes count from 1.
+#[derive(Drop)]
+pub(crate) struct Names {
+    set: IndexSet<Text>,
+}
+
+impl Model for Names {
+    ghost use Rattle.std.specs.Prelude.{ℕ, List};
+
+    ghost Value = { List (List ℕ) };
+
+    ghost view = { λ names. names.set.keys };
+}
+
+impl Names {
+    /// No names.
+    pub(crate) fn new(alloc: Global) -> Names
+        ensures { result ≡ [] }
+    {
+        Names {
+            set: IndexSet::new(alloc),
+        }
+    }
+
+    /// How many names there are.
+    pub(crate) fn len(&self) -> usize
+        ensures { result ≡ length self.now }
+    {
+        self.set.len()
+    }
+
+    /// The code of a text that has one.
+    pub(crate) fn code_of(&self, text: &Text) -> Option<u64>
+        ensures { result ≡ option_map suc (place bytes_eq text.now self.now) }
+    {
+        let _count = self.set.len();
+        match self.set.get_index_of(text) {
+            Some(index) => Some(index as u64 + 1),
+            None => None,
+        }
+    }
+
+    /// The text of a code above 0.
+    pub(crate) fn text_of(&self, code: u64) -> Option<&Text>
+        requires { 0 < code }
+        ensures { option_copied result ≡ slice_get self.now (code - 1) }
+    {
+        self.set.get_index((code - 1) as usize)
+    }
+
+    /// The code of a text, and whether it is new. A new text takes the next code.
+    pub(crate) fn admit(&mut self, alloc: Global, text: &Text) -> Result<(u64, bool), Memory>
+        ensures names { OnOk result (self.new ≡ admitted bytes_eq self.old (text.now ∷ [])) }
+        ensures code { IfOk result (λ r. Some r.0 ≡ option_map suc (place bytes_eq text.now self.new)) }
+        ensures fresh { IfOk result (λ r. r.1 ≡ not (list_any (bytes_eq text.now) self.old)) }
+        ensures unchanged { OnErr result (self.new ≡ self.old) }
+    {
+        match self.code_of(text) {
+            Some(code) => Ok((code, false)),
+            None => Ok((self.add(alloc, text)?, true)),
+        }
+    }
+
+    /// Adds a new text, and gives its code.
+    fn add(&mut self, alloc: Global, text: &Text) -> Result<u64, Memory>
+        requires { list_any (bytes_eq text.now) self.old ≡ false }
+        ensures names { OnOk result (self.new ≡ self.old ++ text.now ∷ []) }
+        ensures code { IfOk result (λ code. Some code ≡ option_map suc (place bytes_eq text.now self.new)) }
+        ensures unchanged { OnErr result (self.new ≡ self.old) }
+    {
+        let copy = Text::from_bytes(alloc, text.as_bytes())?;
+        let (index, _) = self.set.insert_full(copy)?;
+        let _count = self.set.len();
+        Ok(index as u64 + 1)
+    }
+
+    /// Drops the newest names down to so many.
+    pub(crate) fn forget(&mut self, len: usize)
+        ensures { self.new ≡ take len self.old }
+    {
+        self.set.truncate(len);
+    }
+}

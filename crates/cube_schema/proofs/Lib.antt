@@ -1,0 +1,10 @@
+pub mod Apart
+pub mod Splits
+pub mod Turns
+pub mod Writes
+pub mod Tests
+pub mod Numbers
+pub mod Parts
+pub mod TextLines
+pub mod Again
+pub mod Whole

@@ -1,0 +1,6 @@
+pub mod Counts
+pub mod Finds
+pub mod Trees
+pub mod Last
+pub mod Fewest
+pub mod Selected
