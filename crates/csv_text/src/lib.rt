@@ -1,0 +1,8 @@
+//! Records of comma-separated fields: what `csv` reads from a block of bytes, and what it writes for a row.
+#![tactic(auto)]
+
+mod records;
+mod rows;
+
+pub use records::records_within;
+pub use rows::RowWriter;

@@ -1,0 +1,164 @@
+//! Rows as text.
+ghost use Rattle.std.specs.Prelude.{◌≡◌, ◌++◌, [], IfOk, OnOk, OnErr, map};
+ghost use Rattle.std.specs.Fmt.{signed_decimal};
+ghost use Rattle.csv.specs.Records.{fields_of};
+ghost use Rattle.csv.specs.Writing.{default_writer, row_text};
+ghost use Rattle.csv_text.specs.Between.{IsBetween, text_of};
+ghost use Rattle.csv_text.specs.Rows.{nothing_written, with_field, with_fields, with_end, with_rows, value_text, row_fields};
+
+use csv::{ByteRecord, Writer, WriterBuilder};
+use fact_model::{Memory, Row, Value};
+use itoa::Buffer;
+use std::alloc::Global;
+use std::marker::Model;
+
+/// Rows that are written as text, field by field, through one record that is filled anew. After `Memory` all that was
+/// written is dropped, and the writer is as a new one.
+#[derive(Drop)]
+pub struct RowWriter {
+    alloc: Global,
+    writer: Writer<Vec<u8>>,
+    row: ByteRecord,
+}
+
+impl Model for RowWriter {
+    ghost use Rattle.csv.specs.Records.{fields_of};
+    ghost use Rattle.csv_text.specs.Rows.{Written};
+    ghost use Rattle.csv_text.specs.Between.{IsBetween, text_of};
+
+    ghost Value = { Written };
+
+    ghost view = { λ w. record { text = text_of w.writer; fields = fields_of w.row } };
+
+    ghost invariant = { λ w. IsBetween w.writer w.row };
+}
+
+impl RowWriter {
+    /// Nothing is written. It takes no memory.
+    pub fn new(alloc: Global) -> RowWriter
+        ensures { result ≡ nothing_written }
+    {
+        RowWriter {
+            alloc,
+            writer: WriterBuilder::new()
+                .flexible(true)
+                .from_writer(Vec::new(alloc)),
+            row: ByteRecord::new(alloc),
+        }
+    }
+
+    /// Appends a field to the row.
+    pub fn push_field(&mut self, field: &[u8]) -> Result<(), Memory>
+        ensures pushed { OnOk result (self.new ≡ with_field self.old field.now) }
+        ensures dropped { OnErr result (self.new ≡ nothing_written) }
+    {
+        match self.row.push_field(field) {
+            Ok(()) => Ok(()),
+            Err(_) => {
+                *self = RowWriter::new(self.alloc);
+                Err(Memory)
+            }
+        }
+    }
+
+    /// Appends a number to the row, in decimal.
+    pub fn push_number(&mut self, number: i128) -> Result<(), Memory>
+        ensures pushed { OnOk result (self.new ≡ with_field self.old (signed_decimal number)) }
+        ensures dropped { OnErr result (self.new ≡ nothing_written) }
+    {
+        self.push_field(Buffer::new().format(number).as_bytes())
+    }
+
+    /// Appends a value to the row: a text as it is, and a number in decimal.
+    pub fn push_value(&mut self, value: &Value) -> Result<(), Memory>
+        ensures pushed { OnOk result (self.new ≡ with_field self.old (value_text value.now)) }
+        ensures dropped { OnErr result (self.new ≡ nothing_written) }
+    {
+        match value {
+            Value::Word(text) => self.push_field(text.as_bytes()),
+            Value::Number(number) => self.push_field(Buffer::new().format(*number).as_bytes()),
+        }
+    }
+
+    /// Ends the row. A row of no field, or of one that is empty, is written as two quotes.
+    pub fn end_row(&mut self) -> Result<(), Memory>
+        ensures ended { OnOk result (self.new ≡ with_end self.old) }
+        ensures dropped { OnErr result (self.new ≡ nothing_written) }
+    {
+        match write_record(&mut self.writer, &mut self.row) {
+            Ok(()) => Ok(()),
+            Err(Memory) => {
+                *self = RowWriter::new(self.alloc);
+                Err(Memory)
+            }
+        }
+    }
+
+    /// Writes the rows of an answer, where no row has begun.
+    pub fn push_rows(&mut self, rows: &[Row]) -> Result<(), Memory>
+        requires { self.old.fields ≡ [] }
+        ensures pushed { OnOk result (self.new ≡ with_rows self.old (map row_fields rows.now)) }
+        ensures dropped { OnErr result (self.new ≡ nothing_written) }
+    {
+        for row in rows {
+            self.push_row(row)?;
+        }
+        Ok(())
+    }
+
+    /// Appends the values and numbers of a row of an answer to the row, and ends it.
+    pub fn push_row(&mut self, row: &Row) -> Result<(), Memory>
+        ensures pushed { OnOk result (self.new ≡ with_end (with_fields self.old (row_fields row.now))) }
+        ensures dropped { OnErr result (self.new ≡ nothing_written) }
+    {
+        self.push_values(row.key.as_slice())?;
+        self.push_numbers(row.numbers.as_slice())?;
+        self.end_row()
+    }
+
+    fn push_values(&mut self, values: &[Value]) -> Result<(), Memory>
+        ensures pushed { OnOk result (self.new ≡ with_fields self.old (map value_text values.now)) }
+        ensures dropped { OnErr result (self.new ≡ nothing_written) }
+    {
+        for value in values {
+            self.push_value(value)?;
+        }
+        Ok(())
+    }
+
+    fn push_numbers(&mut self, numbers: &[i128]) -> Result<(), Memory>
+        ensures pushed { OnOk result (self.new ≡ with_fields self.old (map signed_decimal numbers.now)) }
+        ensures dropped { OnErr result (self.new ≡ nothing_written) }
+    {
+        for number in numbers {
+            self.push_number(*number)?;
+        }
+        Ok(())
+    }
+
+    /// The text of the rows that have ended.
+    pub fn into_text(self) -> Result<Vec<u8>, Memory>
+        ensures { IfOk result (λ text. text.items ≡ self.text) }
+    {
+        let RowWriter { writer, .. } = self;
+        match writer.into_inner() {
+            Ok(text) => Ok(text),
+            // Over memory `csv` fails for want of memory alone.
+            Err(_) => Err(Memory),
+        }
+    }
+}
+
+/// Writes the record, and empties it.
+fn write_record(writer: &mut Writer<Vec<u8>>, row: &mut ByteRecord) -> Result<(), Memory>
+    requires { IsBetween writer.old row.old }
+    ensures between { OnOk result (IsBetween writer.new row.new) }
+    ensures written { OnOk result (text_of writer.new ≡ text_of writer.old ++ row_text default_writer (fields_of row.old)) }
+    ensures emptied { OnOk result (fields_of row.new ≡ []) }
+{
+    if writer.write_byte_record(row).is_err() {
+        return Err(Memory);
+    }
+    row.clear();
+    Ok(())
+}

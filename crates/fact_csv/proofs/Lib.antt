@@ -1,0 +1,4 @@
+pub mod Agreements
+pub mod Answers
+pub mod Gathering
+pub mod Items

@@ -1,0 +1,7 @@
+use Rattle.csv.specs.Records.{fields_of}
+use Rattle.fact_csv.specs.Batch.{value_answers}
+use Rattle.fact_csv.proofs.Gathering.{AreTaken}
+use Rattle.fact_csv.proofs.row.read_values.Given as goal
+
+abbrev pub invariant-loop-i : goal.invariant-loop-i
+invariant-loop-i l = AreTaken l.values l.i (value_answers l.row l.attrs (fields_of l.fields))

@@ -1,0 +1,10 @@
+//! The rows of a batch as facts, or the first fault.
+#![tactic(auto)]
+
+mod batch;
+mod field;
+mod refusal;
+mod row;
+
+pub use batch::read_batch;
+pub use refusal::RowRefusal;

@@ -1,0 +1,4 @@
+pub mod Feeding
+pub mod Feeds
+pub mod LineReads
+pub mod SaidLines

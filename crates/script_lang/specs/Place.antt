@@ -1,0 +1,32 @@
+-- Where in a script the reading stands, and how the code keeps it.
+use Rattle.std.specs.Prelude.{ℕ, ◌≤◌, List, length, take, drop, Option, Some, None}
+use Rattle.script_lang.specs.Script.{Line, Begun}
+use Rattle.script_lang.specs.declared.command.Block.TheVariants.{Whole, Long}
+use Rattle.script_lang.specs.declared.reader.Inside.{Inside}
+use Rattle.script_lang.specs.declared.reader.Inside.TheVariants.{Nothing, Block, LongBlock}
+
+-- the block that is open, if one is, and the line that has begun
+pub record Place : Type 0 where
+  pub block : Option Begun
+  pub line : Line
+
+-- the open block, whose whole lines are the first so many bytes of a text
+abbrev pub block_in : Inside → ℕ → List ℕ → Option Begun
+block_in Nothing start text = None
+block_in (Block what) start text = Some (record { what = what; content = Whole (take start text) })
+block_in (LongBlock what) start text = Some (record { what = what; content = Long })
+
+-- the place, where the line that has begun follows them
+abbrev pub place_in : Inside → ℕ → List ℕ → Place
+place_in inside start text = record { block = block_in inside start text; line = drop start text }
+
+-- how many bytes of whole lines are kept at most
+abbrev pub limit_of : Inside → ℕ
+limit_of Nothing = 0
+limit_of (Block what) = 67108864
+limit_of (LongBlock what) = 0
+
+-- a text with as many bytes, which keep the limit
+pub record IsReader (inside : Inside) (start : ℕ) (text : List ℕ) : Type 0 where
+  pub within : start ≤ length text
+  pub limit : start ≤ limit_of inside

@@ -1,0 +1,48 @@
+-- A script that is being read: which commands are still to come.
+use Rattle.std.specs.Prelude.{ℕ, Bool, true, false, cond, List, [], ◌++◌, ◌≡◌, Option, None, option_to_list}
+use Rattle.script_lang.specs.declared.command.Command.{Command}
+use Rattle.script_lang.specs.Script.{lines_from, commands_in}
+use Rattle.script_lang.specs.Place.{Place}
+
+pub record Reading : Type 0 where
+  -- whether the script is at its end
+  pub over : Bool
+  -- where the reading stands
+  pub place : Place
+  -- the bytes that were fed and not looked at
+  pub rest : List ℕ
+
+abbrev pub nothing_read : Reading
+nothing_read = record { over = false; place = record { block = None; line = [] }; rest = [] }
+
+-- the reading when these bytes are fed
+abbrev pub with_more : Reading → List ℕ → Reading
+with_more reading piece = record { over = reading.over; place = reading.place; rest = reading.rest ++ piece }
+
+-- the commands of these bytes from a place on, at the end of the script or not
+abbrev pub commands_from : Bool → Place → List ℕ → List Command
+commands_from over place bytes = commands_in over place.block (lines_from over place.line bytes)
+
+-- the commands still to be given, where these bytes are fed before the end
+abbrev pub to_come : Reading → List ℕ → List Command
+to_come reading more = commands_from true reading.place (reading.rest ++ cond reading.over [] more)
+
+-- the commands that are whole by now and not given
+abbrev pub ready : Reading → List Command
+ready reading = commands_from reading.over reading.place reading.rest
+
+-- the command, if there is one, is the first of those to come, whatever is still fed
+abbrev pub Gives : Reading → Reading → Option Command → Type 0
+Gives old new command = (more : List ℕ) → to_come old more ≡ option_to_list command ++ to_come new more
+
+-- the command, if there is one, is the first of those that are whole
+abbrev pub IsFirstReady : Reading → Reading → Option Command → Type 0
+IsFirstReady old new command = ready old ≡ option_to_list command ++ ready new
+
+-- the same commands are still to come, whatever is still fed
+abbrev pub StillToCome : Reading → Reading → Type 0
+StillToCome old new = (more : List ℕ) → to_come new more ≡ to_come old more
+
+-- the same commands are whole
+abbrev pub StillReady : Reading → Reading → Type 0
+StillReady old new = ready new ≡ ready old

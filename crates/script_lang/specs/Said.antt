@@ -1,0 +1,56 @@
+-- What one line of a script says.
+use Rattle.std.specs.Prelude.{ℕ, ◌^◌, Bool, cond, ◌&&◌, ◌==◌, List, length, drop, nat_lt, nat_eq, codes, Option, Some, None}
+use Rattle.std.specs.Cmp.Lexicographic.{pointwise}
+use Rattle.std.specs.List.{starts_with, before_first, after_first}
+use Rattle.std.specs.Str.Parse.{digits_value}
+use Rattle.std.specs.Str.Lines.{strip_carriage_return}
+use Rattle.fact_model.specs.Number.{is_numeral}
+use Rattle.script_lang.specs.declared.command.Command.{Command}
+use Rattle.script_lang.specs.declared.command.Command.TheVariants as says
+use Rattle.script_lang.specs.declared.said.Opening.TheVariants as opens
+use Rattle.script_lang.specs.declared.said.Said.{Said}
+use Rattle.script_lang.specs.declared.said.Said.TheVariants.{Nothing, Opens, Says}
+
+-- the line is this text
+abbrev pub is_text : List ℕ → List ℕ → Bool
+is_text text line = pointwise nat_eq line text
+
+-- the number that decimal digits write, if the bytes are such and it is below 2 ^ 64
+abbrev pub count_in : List ℕ → Option ℕ
+count_in bytes = cond (is_numeral bytes && nat_lt (digits_value 10 bytes) (2 ^ 64)) (Some (digits_value 10 bytes)) None
+
+abbrev pub step_in : Option ℕ → Command
+step_in None = says.Unknown
+step_in (Some n) = says.Step n
+
+abbrev pub generate_in : Option ℕ → Option ℕ → Command
+generate_in None rows = says.Unknown
+generate_in (Some start) None = says.Unknown
+generate_in (Some start) (Some rows) = says.Generate start rows
+
+abbrev pub is_space : ℕ → Bool
+is_space byte = byte == 32
+
+-- what a line says, without the carriage return at its end
+abbrev pub said_in : List ℕ → Said
+said_in line =
+    cond (length line == 0) Nothing
+    (cond (is_text (codes "schema") line) (Opens opens.Schema)
+    (cond (is_text (codes "load") line) (Opens opens.Load)
+    (cond (is_text (codes "begin") line) (Opens opens.Begin)
+    (cond (is_text (codes "finish") line) (Says says.Finish)
+    (cond (is_text (codes "abandon") line) (Says says.Abandon)
+    (cond (is_text (codes "status") line) (Says says.Status)
+    (cond (starts_with nat_eq line (codes "slice ")) (Says (says.Slice (drop 6 line)))
+    (cond (starts_with nat_eq line (codes "step ")) (Says (step_in (count_in (drop 5 line))))
+    (cond (starts_with nat_eq line (codes "generate "))
+    (Says (generate_in (count_in (before_first is_space (drop 9 line))) (count_in (after_first is_space (drop 9 line)))))
+    (Says says.Unknown))))))))))
+
+-- what a line between two blocks says; more than 65,536 bytes are too long
+abbrev pub said_by : List ℕ → Said
+said_by line = cond (nat_lt 65536 (length line)) (Says says.LongLine) (said_in (strip_carriage_return line))
+
+-- the line ends a block
+abbrev pub is_end : List ℕ → Bool
+is_end line = is_text (codes "end") (strip_carriage_return line)

@@ -1,0 +1,153 @@
+//! The commands of a script that is fed in pieces.
+ghost use Rattle.std.specs.Prelude.{◌≡◌, ◌==◌, ◌<◌, [], true, false, IfOk, IfSome, OnOk, OnErr, length, None};
+ghost use Rattle.script_lang.specs.Script.{KeepsLimit};
+ghost use Rattle.script_lang.specs.Reading.{nothing_read, with_more, Gives, IsFirstReady, StillToCome, StillReady, ready};
+
+use crate::command::Command;
+use crate::cuts::{after, front, place_of};
+use crate::reader::Reader;
+use fact_model::Memory;
+use std::alloc::Global;
+use std::marker::Model;
+
+/// A script that is fed in pieces, and gives its commands one after the other. Each byte is looked at once, except after want
+/// of memory.
+#[derive(Drop)]
+pub struct Lines {
+    alloc: Global,
+    over: bool,
+    reader: Reader,
+    fed: Vec<u8>,
+    at: usize,
+}
+
+impl Model for Lines {
+    ghost use Rattle.std.specs.Prelude.{◌≤◌, length, drop};
+    ghost use Rattle.script_lang.specs.Reading.{Reading};
+
+    ghost Value = { Reading };
+
+    ghost view = { λ l. record { over = l.over; place = l.reader; rest = drop l.at l.fed.items } };
+
+    ghost invariant = { λ l. l.at ≤ length l.fed.items };
+}
+
+impl Lines {
+    /// Nothing is read. It takes no memory.
+    pub fn new(alloc: Global) -> Lines
+        ensures { result ≡ nothing_read }
+    {
+        Lines {
+            alloc,
+            over: false,
+            reader: Reader::new(alloc),
+            fed: Vec::new(alloc),
+            at: 0,
+        }
+    }
+
+    /// Appends bytes of the script. After `Memory` nothing is appended, and all is as before.
+    pub fn feed(&mut self, piece: &[u8]) -> Result<(), Memory>
+        requires { self.old.over ≡ false }
+        ensures ok { OnOk result (self.new ≡ with_more self.old piece.now) }
+        ensures err { OnErr result (self.new ≡ self.old) }
+    {
+        self.forget_read();
+        Ok(self.fed.extend_from_slice(piece)?)
+    }
+
+    /// Empties the buffer, where all of it is read.
+    fn forget_read(&mut self)
+        ensures { self.new ≡ self.old }
+    {
+        if self.at == self.fed.len() {
+            self.fed.clear();
+            self.at = 0;
+        }
+    }
+
+    /// Tells that the script is over. It takes no memory.
+    pub fn end(&mut self)
+        ensures { self.new ≡ record { over = true; place = self.old.place; rest = self.old.rest } }
+    {
+        self.over = true;
+    }
+
+    /// Gives the next command. It is None exactly where the bytes fed hold no further whole command. After `Memory` no
+    /// command is lost, and the same are still to come.
+    pub fn next_command(&mut self) -> Result<Option<Command>, Memory>
+        ensures over { self.new.over ≡ self.old.over }
+        ensures given { IfOk result (Gives self.old self.new) }
+        ensures fits { IfOk result (λ command. IfSome command KeepsLimit) }
+        ensures ready { IfOk result (IsFirstReady self.old self.new) }
+        ensures none { IfOk result (λ command. command ≡ None → ready self.new ≡ []) }
+        ensures kept { OnErr result (StillToCome self.old self.new) }
+        ensures kept_ready { OnErr result (StillReady self.old self.new) }
+    {
+        while !self.is_read() {
+            let command = self.read_line()?;
+            if command.is_some() {
+                return Ok(command);
+            }
+        }
+        if self.over {
+            self.last_command()
+        } else {
+            Ok(None)
+        }
+    }
+
+    /// Whether all that was fed is read.
+    fn is_read(&self) -> bool
+        ensures { result ≡ (length self.now.rest == 0) }
+    {
+        self.at == self.fed.len()
+    }
+
+    /// Reads to the end of a line, or to the end of what was fed.
+    fn read_line(&mut self) -> Result<Option<Command>, Memory>
+        requires { 0 < length self.old.rest }
+        ensures over { self.new.over ≡ self.old.over }
+        ensures shorter { OnOk result (length self.new.rest < length self.old.rest) }
+        ensures given { IfOk result (Gives self.old self.new) }
+        ensures fits { IfOk result (λ command. IfSome command KeepsLimit) }
+        ensures ready { IfOk result (IsFirstReady self.old self.new) }
+        ensures kept { OnErr result (StillToCome self.old self.new) }
+        ensures kept_ready { OnErr result (StillReady self.old self.new) }
+    {
+        let rest = after(self.fed.as_slice(), self.at);
+        let count = place_of(b'\n', rest);
+        self.reader.extend(front(rest, count))?;
+        self.at += count;
+        if self.at == self.fed.len() {
+            return Ok(None);
+        }
+        let command = self.reader.end_line(self.alloc)?;
+        self.at += 1;
+        Ok(command)
+    }
+
+    /// Gives the commands after the last line feed, one at a time.
+    fn last_command(&mut self) -> Result<Option<Command>, Memory>
+        requires over { self.old.over ≡ true }
+        requires read { self.old.rest ≡ [] }
+        ensures over { self.new.over ≡ true }
+        ensures given { IfOk result (Gives self.old self.new) }
+        ensures fits { IfOk result (λ command. IfSome command KeepsLimit) }
+        ensures ready { IfOk result (IsFirstReady self.old self.new) }
+        ensures none { IfOk result (λ command. command ≡ None → ready self.new ≡ []) }
+        ensures kept { OnErr result (StillToCome self.old self.new) }
+        ensures kept_ready { OnErr result (StillReady self.old self.new) }
+    {
+        if !self.reader.is_between() {
+            let command = self.reader.end_line(self.alloc)?;
+            if command.is_some() {
+                return Ok(command);
+            }
+        }
+        if self.reader.drop_block() {
+            return Ok(Some(Command::OpenBlock));
+        }
+        Ok(None)
+    }
+}

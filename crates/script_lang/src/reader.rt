@@ -1,0 +1,160 @@
+//! The block that is open, and the line that has begun.
+ghost use Rattle.std.specs.Prelude.{◌≡◌, ◌++◌, ◌==◌, [], IfOk, IfSome, OnOk, OnErr, is_some, length, take, None};
+ghost use Rattle.script_lang.specs.Script.{after_line, after_saying, command_with, KeepsLimit, IsWithin, SaysNoBlock};
+ghost use Rattle.script_lang.specs.Place.{block_in};
+
+use crate::command::{Block, Command};
+use crate::said::{Opening, Said, is_end, said_by};
+use fact_model::{Memory, Text};
+use std::alloc::Global;
+use std::marker::Model;
+use std::mem;
+
+/// The greatest number of bytes of a block.
+const LONGEST_BLOCK: usize = 67_108_864;
+
+/// Which block is open.
+#[derive(Clone, Copy, Debug, PartialEq, Eq)]
+pub enum Inside {
+    Nothing,
+    Block(Opening),
+    LongBlock(Opening),
+}
+
+/// Where in a script the reading stands.
+#[derive(Drop)]
+pub struct Reader {
+    inside: Inside,
+    // The whole lines of the block, unless they are too long, and from `start` on the line that has begun. With one buffer
+    // for both, the end of a line takes one step that can fail.
+    text: Vec<u8>,
+    start: usize,
+}
+
+impl Model for Reader {
+    ghost use Rattle.script_lang.specs.Place.{Place, place_in, IsReader};
+
+    ghost Value = { Place };
+
+    ghost view = { λ r. place_in r.inside r.start r.text.items };
+
+    ghost invariant = { λ r. IsReader r.inside r.start r.text.items };
+}
+
+impl Reader {
+    /// No block is open, and no line has begun.
+    pub fn new(alloc: Global) -> Reader
+        ensures { result ≡ record { block = None; line = [] } }
+    {
+        Reader {
+            inside: Inside::Nothing,
+            text: Vec::new(alloc),
+            start: 0,
+        }
+    }
+
+    /// Appends bytes to the line.
+    pub fn extend(&mut self, bytes: &[u8]) -> Result<(), Memory>
+        ensures ok { OnOk result (self.new ≡ record { block = self.old.block; line = self.old.line ++ bytes.now }) }
+        ensures err { OnErr result (self.new ≡ self.old) }
+    {
+        Ok(self.text.extend_from_slice(bytes)?)
+    }
+
+    /// Whether no line has begun.
+    pub fn is_between(&self) -> bool
+        ensures { result ≡ (length self.now.line == 0) }
+    {
+        self.start == self.text.len()
+    }
+
+    /// Ends the line, and gives the command that ends with it.
+    pub fn end_line(&mut self, alloc: Global) -> Result<Option<Command>, Memory>
+        ensures command { IfOk result (λ command. command ≡ (after_line self.old.block self.old.line).0) }
+        ensures fits { IfOk result (λ command. IfSome command KeepsLimit) }
+        ensures ok { OnOk result (self.new ≡ record { block = (after_line self.old.block self.old.line).1; line = [] }) }
+        ensures err { OnErr result (self.new ≡ self.old) }
+    {
+        match self.inside {
+            Inside::Nothing => {
+                let (command, inside) = follow(said_by(alloc, self.text.as_slice())?);
+                self.text.clear();
+                self.inside = inside;
+                Ok(command)
+            }
+            Inside::Block(opening) => {
+                if is_end(&self.text[self.start..]) {
+                    let text = take_front(alloc, &mut self.text, self.start);
+                    self.inside = Inside::Nothing;
+                    self.start = 0;
+                    return Ok(Some(command_with(opening, Block::Whole(text))));
+                }
+                self.text.push(b'\n')?;
+                if self.text.len() > LONGEST_BLOCK {
+                    self.text.clear();
+                    self.inside = Inside::LongBlock(opening);
+                    self.start = 0;
+                    return Ok(None);
+                }
+                self.start = self.text.len();
+                Ok(None)
+            }
+            Inside::LongBlock(opening) => {
+                let ends = is_end(self.text.as_slice());
+                self.text.clear();
+                if !ends {
+                    return Ok(None);
+                }
+                self.inside = Inside::Nothing;
+                Ok(Some(command_with(opening, Block::Long)))
+            }
+        }
+    }
+
+    /// Drops the block that is open at the end of the script, and tells whether there was one.
+    pub fn drop_block(&mut self) -> bool
+        ensures was { result ≡ is_some self.old.block }
+        ensures after { self.new ≡ record { block = None; line = [] } }
+    {
+        let was = self.inside != Inside::Nothing;
+        self.inside = Inside::Nothing;
+        self.text.clear();
+        self.start = 0;
+        was
+    }
+}
+
+/// The command that a line says, and which block is open after it.
+fn follow(said: Said) -> (Option<Command>, Inside)
+    requires { SaysNoBlock said }
+    ensures follows { (result.0, block_in result.1 0 []) ≡ after_saying said }
+    ensures fits { IfSome result.0 KeepsLimit }
+{
+    match said {
+        Said::Nothing => (None, Inside::Nothing),
+        Said::Opens(opening) => (None, Inside::Block(opening)),
+        Said::Says(command) => (Some(command), Inside::Nothing),
+    }
+}
+
+/// Takes the front of a buffer, and leaves an empty one.
+fn take_front(alloc: Global, buffer: &mut Vec<u8>, count: usize) -> Text
+    ensures taken { result ≡ take count buffer.old.items }
+    ensures after { buffer.new.items ≡ [] }
+{
+    buffer.truncate(count);
+    Text::from_vec(mem::replace(buffer, Vec::new(alloc)))
+}
+
+/// The command of a block.
+fn command_with(opening: Opening, block: Block) -> Command
+    requires { IsWithin block }
+    ensures command { result ≡ command_with opening block }
+    ensures fits { KeepsLimit result }
+{
+    match opening {
+        Opening::Schema => Command::Schema(block),
+        Opening::Load => Command::Load(block),
+        Opening::Begin => Command::Begin(block),
+    }
+}

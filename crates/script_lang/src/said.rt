@@ -1,0 +1,129 @@
+//! What one line of a script says.
+ghost use Rattle.std.specs.Prelude.{◌≡◌, IfOk};
+ghost use Rattle.std.specs.Str.Lines.{strip_carriage_return};
+ghost use Rattle.std.specs.List.{before_first, after_first};
+ghost use Rattle.script_lang.specs.Script.{KeepsLimit, SaysNoBlock};
+ghost use Rattle.script_lang.specs.Said.{is_text, said_in, said_by, is_end, is_space, step_in, generate_in, count_in};
+
+use crate::command::Command;
+use crate::count::read_count;
+use crate::cuts::{after, at_space};
+use fact_model::{Memory, Text};
+use std::alloc::Global;
+
+/// The greatest number of bytes of a line between two blocks, with its carriage return.
+const LONGEST_LINE: usize = 65_536;
+
+/// What a block is for.
+#[derive(Clone, Copy, Debug, PartialEq, Eq)]
+pub enum Opening {
+    Schema,
+    Load,
+    Begin,
+}
+
+/// What a line between two blocks says.
+#[derive(Drop)]
+pub enum Said {
+    Nothing,
+    Opens(Opening),
+    Says(Command),
+}
+
+/// Whether the line ends a block.
+pub fn is_end(line: &[u8]) -> bool
+    ensures { result ≡ is_end line.now }
+{
+    is_text("end", without_return(line))
+}
+
+/// What a line between two blocks says.
+pub fn said_by(alloc: Global, line: &[u8]) -> Result<Said, Memory>
+    ensures said { IfOk result (λ said. said ≡ said_by line.now) }
+    ensures fits { IfOk result SaysNoBlock }
+{
+    if line.len() > LONGEST_LINE {
+        return Ok(Said::Says(Command::LongLine));
+    }
+    said_in(alloc, without_return(line))
+}
+
+/// What a line says, without the carriage return at its end.
+fn said_in(alloc: Global, line: &[u8]) -> Result<Said, Memory>
+    ensures said { IfOk result (λ said. said ≡ said_in line.now) }
+    ensures fits { IfOk result SaysNoBlock }
+{
+    if line.is_empty() {
+        return Ok(Said::Nothing);
+    }
+    if is_text("schema", line) {
+        return Ok(Said::Opens(Opening::Schema));
+    }
+    if is_text("load", line) {
+        return Ok(Said::Opens(Opening::Load));
+    }
+    if is_text("begin", line) {
+        return Ok(Said::Opens(Opening::Begin));
+    }
+    if is_text("finish", line) {
+        return Ok(Said::Says(Command::Finish));
+    }
+    if is_text("abandon", line) {
+        return Ok(Said::Says(Command::Abandon));
+    }
+    if is_text("status", line) {
+        return Ok(Said::Says(Command::Status));
+    }
+    if line.starts_with(b"slice ") {
+        let text = Text::from_bytes(alloc, after(line, 6))?;
+        return Ok(Said::Says(Command::Slice(text)));
+    }
+    if line.starts_with(b"step ") {
+        return Ok(Said::Says(step(after(line, 5))));
+    }
+    if line.starts_with(b"generate ") {
+        return Ok(Said::Says(generate(after(line, 9))));
+    }
+    Ok(Said::Says(Command::Unknown))
+}
+
+/// The command `step` with this word.
+fn step(count: &[u8]) -> Command
+    ensures command { result ≡ step_in (count_in count.now) }
+    ensures fits { KeepsLimit result }
+{
+    match read_count(count) {
+        None => Command::Unknown,
+        Some(count) => Command::Step(count),
+    }
+}
+
+/// The command `generate` with these words.
+fn generate(words: &[u8]) -> Command
+    ensures command { result
+        ≡ generate_in (count_in (before_first is_space words.now)) (count_in (after_first is_space words.now)) }
+    ensures fits { KeepsLimit result }
+{
+    let (start, rows) = at_space(words);
+    match (read_count(start), read_count(rows)) {
+        (Some(start), Some(rows)) => Command::Generate { start, rows },
+        _ => Command::Unknown,
+    }
+}
+
+/// Whether the line is this text.
+fn is_text(text: &str, line: &[u8]) -> bool
+    ensures { result ≡ is_text text.now line.now }
+{
+    line == text.as_bytes()
+}
+
+/// The line without the carriage return at its end.
+fn without_return(line: &[u8]) -> &[u8]
+    ensures { result.now ≡ strip_carriage_return line.now }
+{
+    match line {
+        [rest @ .., b'\r'] => rest,
+        _ => line,
+    }
+}
