@@ -1,0 +1,6 @@
+pub mod Held
+pub mod Leaf
+pub mod Loading
+pub mod Next
+pub mod Opened
+pub mod Opening

@@ -1,0 +1,107 @@
+//! A batch is taken in: its points are merged with the old ones, packed into a new leaf, and committed.
+ghost use Rattle.std.specs.Prelude.{◌≡◌, ◌<◌, ◌≤◌, ◌+◌, ◌++◌, IsTrue, IfOk, IfErr, List, length};
+ghost use Rattle.std.specs.List.{All};
+ghost use Rattle.site_core.specs.Moments.{LeavesOnly};
+ghost use Rattle.forest_root.specs.Causes.{HasCauseWhere};
+ghost use Rattle.fact_model.specs.declared.fact.Fact as facts;
+ghost use Rattle.leaf_store.specs.Held.{AreAccepted, IsFactOf, IsLive};
+ghost use Rattle.leaf_store.specs.Opened.{IsOpened, IsNoDamage};
+ghost use Rattle.leaf_store.specs.Loading.{IsLoaded, IsRefusal, KeepsEither, store_of};
+ghost use Rattle.leaf_store.specs.Next.{IsPlan, IsReady};
+
+use crate::plan::{Plan, PlanStop};
+use crate::store::{Store, StoreStop};
+use fact_model::FactList;
+use site_core::{Fault, Site};
+use std::alloc::Global;
+
+/// Why a batch is refused: the first limit that it would pass.
+#[derive(Clone, Copy, Debug, PartialEq, Eq)]
+pub enum Refusal {
+    /// There would be more than 2^40 facts.
+    Facts,
+    /// The mass of this measure would pass 2^127 - 1.
+    Mass(u32),
+    /// The view would have more points than one leaf has room for.
+    Points,
+}
+
+/// What became of a batch, and the store afterwards.
+#[derive(Debug, Drop)]
+pub enum Loaded {
+    /// The batch was taken in, and its facts are kept.
+    Committed(Store),
+    /// The batch was refused, and nothing has changed.
+    Refused(Store, Refusal),
+}
+
+impl Store {
+    /// Takes in a batch of at least one fact, or refuses it.
+    ///
+    /// A stop at any moment leaves the facts from before or all of them, and so does an error. After one the store is gone, and
+    /// the files are to be opened again.
+    pub fn load<T: Site>(
+        self,
+        alloc: Global,
+        site: &mut T,
+        batch: &FactList,
+    ) -> Result<Loaded, StoreStop>
+        requires some { 0 < length batch.now }
+        requires each { All (IsFactOf self.schema) batch.now }
+        requires opened { IsTrue T.tells → IsOpened self.live (T.disk site.old) }
+
+        ensures loaded { IsTrue T.tells → (accepted : List facts.Fact) → AreAccepted self.schema accepted
+            → IsLive self.schema self.live accepted (T.disk site.old).files
+            → IfOk result (IsLoaded self.schema accepted (accepted ++ batch.now) (T.disk site.new).files) }
+        ensures undamaged { IsTrue T.tells → (accepted : List facts.Fact) → AreAccepted self.schema accepted
+            → IsLive self.schema self.live accepted (T.disk site.old).files → IfErr result IsNoDamage }
+        ensures any_moment { IsTrue T.tells → (accepted : List facts.Fact) → AreAccepted self.schema accepted
+            → IsLive self.schema self.live accepted (T.disk site.old).files
+            → LeavesOnly (T.disk site.old) (T.disk site.new) (λ told files.
+            (told ≡ (T.disk site.old).told) × KeepsEither self.schema accepted (accepted ++ batch.now) files) }
+
+        ensures opened { IsTrue T.tells → IfOk result (λ loaded. IsOpened (store_of loaded).live (T.disk site.new)) }
+        ensures schema { IfOk result (λ loaded. (store_of loaded).schema ≡ self.schema) }
+        ensures told { IsTrue T.tells → (T.disk site.new).told ≡ (T.disk site.old).told }
+        ensures cause { HasCauseWhere StoreStop.Disk (T.disk_faults site.old) (T.disk_faults site.new) result }
+        ensures told_faults { T.told_faults site.new ≡ T.told_faults site.old }
+        ensures reads { T.reads site.new ≤ T.reads site.old + 3 }
+        ensures writes { T.writes site.new ≤ T.writes site.old + 10 }
+        ensures unwritten { IfOk result (λ loaded. IsRefusal loaded → T.writes site.new ≡ T.writes site.old) }
+    {
+        match self.plan(alloc, site, batch) {
+            Ok(plan) => self.commit_all(site, plan),
+            Err(PlanStop::Refused(refusal)) => Ok(Loaded::Refused(self, refusal)),
+            Err(PlanStop::Stopped(stop)) => Err(stop),
+        }
+    }
+
+    /// Carries out a plan, and tells that its facts are kept.
+    fn commit_all<T: Site>(self, site: &mut T, plan: Plan) -> Result<Loaded, StoreStop>
+        requires ready { IsReady self.schema self.live plan }
+        requires opened { IsTrue T.tells → IsOpened self.live (T.disk site.old) }
+
+        ensures loaded { IsTrue T.tells → (accepted all : List facts.Fact) → AreAccepted self.schema accepted
+            → IsLive self.schema self.live accepted (T.disk site.old).files → IsPlan self.schema all plan
+            → IfOk result (IsLoaded self.schema accepted all (T.disk site.new).files) }
+        ensures undamaged { IfErr result IsNoDamage }
+        ensures any_moment { IsTrue T.tells → (accepted all : List facts.Fact) → AreAccepted self.schema accepted
+            → IsLive self.schema self.live accepted (T.disk site.old).files → IsPlan self.schema all plan
+            → LeavesOnly (T.disk site.old) (T.disk site.new) (λ told files.
+            (told ≡ (T.disk site.old).told) × KeepsEither self.schema accepted all files) }
+
+        ensures opened { IsTrue T.tells → IfOk result (λ loaded. IsOpened (store_of loaded).live (T.disk site.new)) }
+        ensures schema { IfOk result (λ loaded. (store_of loaded).schema ≡ self.schema) }
+        ensures told { IsTrue T.tells → (T.disk site.new).told ≡ (T.disk site.old).told }
+        ensures cause { HasCauseWhere StoreStop.Disk (T.disk_faults site.old) (T.disk_faults site.new) result }
+        ensures told_faults { T.told_faults site.new ≡ T.told_faults site.old }
+        ensures reads { T.reads site.new ≤ T.reads site.old + 2 }
+        ensures writes { T.writes site.new ≤ T.writes site.old + 10 }
+        ensures committed { IfOk result (λ loaded. IsRefusal loaded → ⊥) }
+    {
+        match self.commit(site, plan) {
+            Ok(store) => Ok(Loaded::Committed(store)),
+            Err(Fault) => Err(StoreStop::Disk),
+        }
+    }
+}
