@@ -1,6 +1,15 @@
+pub mod Acts
 pub mod Batches
-pub mod Causes
+pub mod Commanded
+pub mod Facts
+pub mod Finishing
+pub mod Going
+pub mod Limits
+pub mod LineSteps
 pub mod LinesLemmas
-pub mod Onward
 pub mod Places
+pub mod PointRows
 pub mod RowTexts
+pub mod Stages
+pub mod Standing
+pub mod Takings

@@ -1,6 +1,10 @@
--- How a run may end, and why.
+-- How a command and a run may end, and why.
 use Rattle.std.specs.Prelude.{ℕ}
 use Rattle.site_core.specs.Causes.{Rose}
+use Rattle.leaf_store.specs.declared.store.StoreStop.{StoreStop}
+use Rattle.leaf_store.specs.declared.store.StoreStop.TheVariants as store
+use Rattle.cube_shell.specs.declared.stop.Stop.{Stop}
+use Rattle.cube_shell.specs.declared.stop.Stop.TheVariants as stops
 use Rattle.cube_shell.specs.declared.status.Status.{Status}
 use Rattle.cube_shell.specs.declared.status.Status.TheVariants.{Done, Usage, Input, Disk, Output, Damaged, Memory, TooLong}
 
@@ -15,33 +19,43 @@ code_of (Damaged file offset) = 6
 code_of Memory = 7
 code_of TooLong = 8
 
--- how often the source and the output have failed
+-- how often the source, the files and the output have failed
 pub record Faults : Type 0 where
   pub source : ℕ
+  pub disk : ℕ
   pub output : ℕ
 
-abbrev pub faults : ℕ → ℕ → Faults
-faults source output = record { source = source; output = output }
+abbrev pub faults : ℕ → ℕ → ℕ → Faults
+faults source disk output = record { source = source; disk = disk; output = output }
+
+-- a command stops so only where this holds of the counts of the files and of the output; want of memory is free
+abbrev pub StopCause : ℕ → ℕ → ℕ → ℕ → Stop → Type 0
+StopCause disk disk_now output output_now stops.Disk = Rose disk disk_now
+StopCause disk disk_now output output_now stops.Output = Rose output output_now
+StopCause disk disk_now output output_now (stops.Damaged file offset) = Unit {0}
+StopCause disk disk_now output output_now stops.Memory = Unit {0}
 
 -- a run is ended so only where this holds of the counts before and after it; want of memory alone is free
-abbrev pub StopCause : Faults → Faults → Status → Type 0
-StopCause before now Input = Rose before.source now.source
-StopCause before now Output = Rose before.output now.output
-StopCause before now Usage = Unit {0}
-StopCause before now TooLong = Unit {0}
-StopCause before now Memory = Unit {0}
-StopCause before now _ = ⊥
+abbrev pub EndCause : Faults → Faults → Status → Type 0
+EndCause before now Input = Rose before.source now.source
+EndCause before now Disk = Rose before.disk now.disk
+EndCause before now Output = Rose before.output now.output
+EndCause before now Done = ⊥
+EndCause before now Usage = Unit {0}
+EndCause before now (Damaged file offset) = Unit {0}
+EndCause before now TooLong = Unit {0}
+EndCause before now Memory = Unit {0}
 
 -- the same of its status, which is Done where nothing ended it
 abbrev pub StatusCause : Faults → Faults → Status → Type 0
 StatusCause before now Done = Unit {0}
 StatusCause before now Input = Rose before.source now.source
+StatusCause before now Disk = Rose before.disk now.disk
 StatusCause before now Output = Rose before.output now.output
 StatusCause before now Usage = Unit {0}
+StatusCause before now (Damaged file offset) = Unit {0}
 StatusCause before now TooLong = Unit {0}
 StatusCause before now Memory = Unit {0}
-StatusCause before now Disk = ⊥
-StatusCause before now (Damaged file offset) = ⊥
 
 -- the same of reading the script
 abbrev pub PullCause : ℕ → ℕ → Status → Type 0
@@ -50,11 +64,34 @@ PullCause before now Memory = Unit {0}
 PullCause before now TooLong = Unit {0}
 PullCause before now _ = ⊥
 
--- the same of carrying out commands
-abbrev pub TellCause : ℕ → ℕ → Status → Type 0
-TellCause before now Output = Rose before now
-TellCause before now Memory = Unit {0}
-TellCause before now _ = ⊥
+-- no file is said to be damaged
+abbrev pub IsNoDamage : Stop → Type 0
+IsNoDamage stops.Disk = Unit {0}
+IsNoDamage stops.Output = Unit {0}
+IsNoDamage (stops.Damaged file offset) = ⊥
+IsNoDamage stops.Memory = Unit {0}
+
+abbrev pub IsUndamaged : Status → Type 0
+IsUndamaged (Damaged file offset) = ⊥
+IsUndamaged Done = Unit {0}
+IsUndamaged Usage = Unit {0}
+IsUndamaged Input = Unit {0}
+IsUndamaged Disk = Unit {0}
+IsUndamaged Output = Unit {0}
+IsUndamaged Memory = Unit {0}
+IsUndamaged TooLong = Unit {0}
+
+-- the stop of a store as that of a session, and that of a session as the status of a run
+abbrev pub stop_of : StoreStop → Stop
+stop_of store.Disk = stops.Disk
+stop_of (store.Damaged file offset) = stops.Damaged file offset
+stop_of store.Memory = stops.Memory
+
+abbrev pub status_of : Stop → Status
+status_of stops.Disk = Disk
+status_of stops.Output = Output
+status_of (stops.Damaged file offset) = Damaged file offset
+status_of stops.Memory = Memory
 
 -- the run was completed, unless memory ran out
 abbrev pub IsDoneOrMemory : Status → Type 0

@@ -1,9 +1,11 @@
 pub mod Batch
 pub mod Ends
 pub mod Headline
+pub mod Keeps
 pub mod Machine
+pub mod Points
 pub mod Pulls
 pub mod Reading
 pub mod Replies
 pub mod Script
-pub mod Standing
+pub mod Session

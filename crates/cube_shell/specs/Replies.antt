@@ -5,6 +5,8 @@ use Rattle.csv.specs.Writing.{default_writer, row_text}
 use Rattle.fact_model.specs.declared.fact.Value.{Value}
 use Rattle.fact_model.specs.declared.fact.Value.TheVariants.{Word, Number}
 use Rattle.fact_model.specs.declared.slice.Row.{Row}
+use Rattle.leaf_store.specs.declared.load.Refusal.{Refusal}
+use Rattle.leaf_store.specs.declared.load.Refusal.TheVariants as refusals
 use Rattle.cube_shell.specs.declared.batch.RowFault.{RowFault}
 use Rattle.cube_shell.specs.declared.batch.RowFault.TheVariants as faults
 
@@ -33,3 +35,9 @@ records_text rows = flat_map (λ row. row_text default_writer (row_fields row)) 
 -- the rows, and then their number
 abbrev pub rows_text : List Row → List ℕ
 rows_text rows = records_text rows ++ (codes "rows " ++ line (decimal (length rows)))
+
+-- the refusal of a batch by the first limit that it would pass
+abbrev pub refusal_text : Refusal → List ℕ
+refusal_text refusals.Facts = line (codes "refused facts")
+refusal_text (refusals.Mass m) = line (codes "refused mass m")
+refusal_text refusals.Points = line (codes "refused unbuilt")

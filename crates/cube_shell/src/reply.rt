@@ -1,10 +1,11 @@
 //! The texts of replies that are one line.
 ghost use Rattle.std.specs.Prelude.{◌≡◌, IfOk, string_bytes};
-ghost use Rattle.cube_shell.specs.Replies.{line, committed_text, fault_text};
+ghost use Rattle.cube_shell.specs.Replies.{line, committed_text, fault_text, refusal_text};
 ghost use Rattle.cube_shell.specs.declared.batch.RowFault.TheVariants as faults;
 
 use crate::batch::RowFault;
 use fact_model::Memory;
+use leaf_store::Refusal;
 use std::alloc::{AllocError, Global};
 
 /// One fixed line.
@@ -16,11 +17,22 @@ pub fn plain(alloc: Global, text: &str) -> Result<Vec<u8>, Memory>
 }
 
 /// The reply to a batch that was accepted, with the number of facts afterwards.
-pub fn committed(alloc: Global, count: usize) -> Result<Vec<u8>, Memory>
+pub fn committed(alloc: Global, count: u64) -> Result<Vec<u8>, Memory>
     ensures { IfOk result (λ reply. reply.items ≡ committed_text count) }
 {
     let reply = format!(in alloc; "committed {count}\n")?;
     bytes(alloc, &reply)
+}
+
+/// The refusal of a batch by the first limit that it would pass.
+pub fn refused(alloc: Global, refusal: Refusal) -> Result<Vec<u8>, Memory>
+    ensures { IfOk result (λ reply. reply.items ≡ refusal_text refusal) }
+{
+    match refusal {
+        Refusal::Facts => plain(alloc, "refused facts"),
+        Refusal::Mass(_) => plain(alloc, "refused mass m"),
+        Refusal::Points => plain(alloc, "refused unbuilt"),
+    }
 }
 
 /// The refusal of a batch by its first fault.

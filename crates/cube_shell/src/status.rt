@@ -2,6 +2,7 @@
 ghost use Rattle.std.specs.Prelude.{◌≡◌};
 ghost use Rattle.cube_shell.specs.Ends.{code_of};
 
+use crate::stop::Stop;
 use fact_model::Memory;
 use std::alloc::AllocError;
 
@@ -61,5 +62,20 @@ impl From<AllocError> for Status {
 
     fn from(_error: AllocError) -> Status {
         Status::Memory
+    }
+}
+
+impl From<Stop> for Status {
+    ghost use Rattle.cube_shell.specs.Ends.{status_of};
+
+    ghost from_gives = { λ stop status. status ≡ status_of stop };
+
+    fn from(stop: Stop) -> Status {
+        match stop {
+            Stop::Disk => Status::Disk,
+            Stop::Output => Status::Output,
+            Stop::Damaged { file, offset } => Status::Damaged { file, offset },
+            Stop::Memory => Status::Memory,
+        }
     }
 }

@@ -1,12 +1,17 @@
 //! The top call, which carries the headline.
-ghost use Rattle.std.specs.Prelude.{◌≡◌, ◌≢◌, ◌≤◌, ◌+◌, ◌^◌, ◌↔◌, ◌++◌, [], IsTrue, OnOk, IfErr, IsErrOf, length};
+ghost use Rattle.std.specs.Prelude.{◌≡◌, ◌≢◌, ◌≤◌, ◌+◌, ◌^◌, ◌↔◌, [], IsTrue, OnOk, IfErr, IsErrOf, length};
 ghost use Rattle.site_core.specs.Causes.{Rose};
-ghost use Rattle.cube_shell.specs.Ends.{StopCause, StatusCause, IsDoneOrMemory, faults};
-ghost use Rattle.cube_shell.specs.Headline.{replies, Ended, Headline};
+ghost use Rattle.site_core.specs.Moments.{LeavesOnly};
+ghost use Rattle.cube_shell.specs.Ends.{EndCause, StatusCause, IsDoneOrMemory, IsUndamaged, faults};
+ghost use Rattle.cube_shell.specs.Headline.{AfterRun, Finished, Headline};
+ghost use Rattle.cube_shell.specs.Keeps.{Keeps};
+ghost use Rattle.cube_shell.specs.Machine.{World};
 ghost use Rattle.cube_shell.specs.Pulls.{Gave};
+ghost use Rattle.cube_shell.specs.Script.{commands};
 
 use crate::pull::read_script;
 use crate::serve::carry_out;
+use crate::session::Session;
 use crate::status::Status;
 use site_core::{Site, Source};
 use std::alloc::Global;
@@ -14,36 +19,37 @@ use std::alloc::Global;
 /// The most bytes of a script.
 const SCRIPT_LIMIT: u64 = 1 << 30;
 
-/// Runs a script of at most 2^30 bytes: reads it from the source, carries out its commands, and tells the reply to each.
-/// It is `run_within` with that limit.
+/// Runs a script of at most 2^30 bytes: opens the files, reads the script from the source, carries out its commands, and tells the
+/// reply to each. It is `run_within` with that limit.
 pub fn run<S: Source, T: Site>(
     alloc: Global,
     words: &[String],
     source: &mut S,
     site: &mut T,
 ) -> Status
-    ensures headline { IsTrue S.tells → IsTrue T.tells
-        → Headline (S.left source.old) (S.left source.new) (T.disk site.old) (T.disk site.new) result }
-    ensures files { IsTrue T.tells → (T.disk site.new).files ≡ (T.disk site.old).files }
-    ensures complete { IsTrue S.tells → words.now ≡ [] → length (S.left source.old) ≤ 2 ^ 30
+    ensures headline { IsTrue S.tells → IsTrue T.tells → (facts : World) → Keeps (T.disk site.old).files facts
+        → Headline facts (S.left source.old) (S.left source.new) (T.disk site.old) (T.disk site.new) result }
+    ensures undamaged { IsTrue S.tells → IsTrue T.tells → (facts : World) → Keeps (T.disk site.old).files facts
+        → IsUndamaged result }
+    ensures complete { IsTrue S.tells → IsTrue T.tells → (facts : World) → Keeps (T.disk site.old).files facts
+        → words.now ≡ [] → length (S.left source.old) ≤ 2 ^ 30
         → ¬ (Rose (S.faults source.old) (S.faults source.new))
+        → ¬ (Rose (T.disk_faults site.old) (T.disk_faults site.new))
         → ¬ (Rose (T.told_faults site.old) (T.told_faults site.new)) → IsDoneOrMemory result }
     ensures usage { (result ≡ Status.Usage) ↔ (words.now ≢ []) }
     ensures unread { result ≡ Status.Usage → source.new ≡ source.old }
     ensures untouched { result ≡ Status.Usage → site.new ≡ site.old }
     ensures too_long { IsTrue S.tells
         → ((result ≡ Status.TooLong) ↔ Gave (S.left source.old) (S.left source.new) (2 ^ 30 + 1)) }
-    ensures cause { StatusCause (faults (S.faults source.old) (T.told_faults site.old))
-        (faults (S.faults source.new) (T.told_faults site.new)) result }
-    ensures disk_faults { T.disk_faults site.new ≡ T.disk_faults site.old }
-    ensures reads { T.reads site.new ≡ T.reads site.old }
-    ensures writes { T.writes site.new ≡ T.writes site.old }
+    ensures cause { StatusCause (faults (S.faults source.old) (T.disk_faults site.old) (T.told_faults site.old))
+        (faults (S.faults source.new) (T.disk_faults site.new) (T.told_faults site.new)) result }
 {
     run_within(alloc, words, source, site, SCRIPT_LIMIT)
 }
 
-/// Runs a script within a limit of bytes, which is at most 2^30. Any word is `Usage`. The script is read whole, and at most
-/// one byte past the limit, before its first command is carried out. Each status but `Done` ends the run at once.
+/// Runs a script within a limit of bytes, which is at most 2^30. Any word is `Usage`. The files are opened first; then the script
+/// is read whole, and at most one byte past the limit, before its first command is carried out. Each status but `Done` ends the
+/// run at once.
 pub fn run_within<S: Source, T: Site>(
     alloc: Global,
     words: &[String],
@@ -52,22 +58,22 @@ pub fn run_within<S: Source, T: Site>(
     limit: u64,
 ) -> Status
     requires { limit ≤ 2 ^ 30 }
-    ensures headline { IsTrue S.tells → IsTrue T.tells
-        → Headline (S.left source.old) (S.left source.new) (T.disk site.old) (T.disk site.new) result }
-    ensures files { IsTrue T.tells → (T.disk site.new).files ≡ (T.disk site.old).files }
-    ensures complete { IsTrue S.tells → words.now ≡ [] → length (S.left source.old) ≤ limit
+    ensures headline { IsTrue S.tells → IsTrue T.tells → (facts : World) → Keeps (T.disk site.old).files facts
+        → Headline facts (S.left source.old) (S.left source.new) (T.disk site.old) (T.disk site.new) result }
+    ensures undamaged { IsTrue S.tells → IsTrue T.tells → (facts : World) → Keeps (T.disk site.old).files facts
+        → IsUndamaged result }
+    ensures complete { IsTrue S.tells → IsTrue T.tells → (facts : World) → Keeps (T.disk site.old).files facts
+        → words.now ≡ [] → length (S.left source.old) ≤ limit
         → ¬ (Rose (S.faults source.old) (S.faults source.new))
+        → ¬ (Rose (T.disk_faults site.old) (T.disk_faults site.new))
         → ¬ (Rose (T.told_faults site.old) (T.told_faults site.new)) → IsDoneOrMemory result }
     ensures usage { (result ≡ Status.Usage) ↔ (words.now ≢ []) }
     ensures unread { result ≡ Status.Usage → source.new ≡ source.old }
     ensures untouched { result ≡ Status.Usage → site.new ≡ site.old }
     ensures too_long { IsTrue S.tells
         → ((result ≡ Status.TooLong) ↔ Gave (S.left source.old) (S.left source.new) (limit + 1)) }
-    ensures cause { StatusCause (faults (S.faults source.old) (T.told_faults site.old))
-        (faults (S.faults source.new) (T.told_faults site.new)) result }
-    ensures disk_faults { T.disk_faults site.new ≡ T.disk_faults site.old }
-    ensures reads { T.reads site.new ≡ T.reads site.old }
-    ensures writes { T.writes site.new ≡ T.writes site.old }
+    ensures cause { StatusCause (faults (S.faults source.old) (T.disk_faults site.old) (T.told_faults site.old))
+        (faults (S.faults source.new) (T.disk_faults site.new) (T.told_faults site.new)) result }
 {
     match attempt(alloc, words, source, site, limit) {
         Ok(()) => Status::Done,
@@ -84,26 +90,25 @@ fn attempt<S: Source, T: Site>(
     limit: u64,
 ) -> Result<(), Status>
     requires { limit ≤ 2 ^ 30 }
-    ensures ended { IsTrue S.tells → IsTrue T.tells
-        → Ended (T.disk site.old) (T.disk site.new) (replies (S.left source.old)) }
-    ensures whole { IsTrue S.tells → IsTrue T.tells
-        → OnOk result ((T.disk site.new).told ≡ (T.disk site.old).told ++ replies (S.left source.old)) }
-    ensures files { IsTrue T.tells → (T.disk site.new).files ≡ (T.disk site.old).files }
+    ensures finished { IsTrue S.tells → IsTrue T.tells → (facts : World) → Keeps (T.disk site.old).files facts
+        → OnOk result (Finished (T.disk site.new) facts (commands (S.left source.old)) (T.disk site.old).told) }
+    ensures any_moment { IsTrue S.tells → IsTrue T.tells → (facts : World) → Keeps (T.disk site.old).files facts
+        → LeavesOnly (T.disk site.old) (T.disk site.new) (AfterRun facts (commands (S.left source.old)) (T.disk site.old)) }
+    ensures undamaged { IsTrue S.tells → IsTrue T.tells → (facts : World) → Keeps (T.disk site.old).files facts
+        → IfErr result IsUndamaged }
     ensures read { IsTrue S.tells → OnOk result (S.left source.new ≡ []) }
     ensures usage { IsErrOf result Status.Usage ↔ (words.now ≢ []) }
     ensures unread { words.now ≢ [] → source.new ≡ source.old }
     ensures untouched { words.now ≢ [] → site.new ≡ site.old }
     ensures too_long { IsTrue S.tells
         → (IsErrOf result Status.TooLong ↔ Gave (S.left source.old) (S.left source.new) (limit + 1)) }
-    ensures cause { IfErr result (StopCause (faults (S.faults source.old) (T.told_faults site.old))
-        (faults (S.faults source.new) (T.told_faults site.new))) }
-    ensures disk_faults { T.disk_faults site.new ≡ T.disk_faults site.old }
-    ensures reads { T.reads site.new ≡ T.reads site.old }
-    ensures writes { T.writes site.new ≡ T.writes site.old }
+    ensures cause { IfErr result (EndCause (faults (S.faults source.old) (T.disk_faults site.old) (T.told_faults site.old))
+        (faults (S.faults source.new) (T.disk_faults site.new) (T.told_faults site.new))) }
 {
     if !words.is_empty() {
         return Err(Status::Usage);
     }
+    let mut session = Session::start(alloc, site)?;
     let script = read_script(alloc, source, limit)?;
-    carry_out(alloc, &script, site)
+    Ok(carry_out(alloc, &mut session, &script, site)?)
 }

@@ -11,7 +11,7 @@ const SHAPE: Shape = Shape {
 };
 
 /// A leaf of the coordinate 2 with one fact of -2, and of the coordinate 4 with two facts, which are 5 and 4.
-fn dumped_leaf() -> [u8; 4096] {
+pub fn dumped_leaf() -> [u8; 4096] {
     let mut page = [0; 4096];
     page[..4].copy_from_slice(&[1, 1, 0, 2]);
     page[11] = 2;

@@ -84,26 +84,37 @@ fn tells(rt: &impl Abort, alloc: Global, script: &str, replies: &[&str]) -> Resu
     pulls_fail(rt, alloc, script)
 }
 
-/// Where an output fails, the replies before it were told. A call past the last one is none.
+/// The numbers of the calls of a whole run that emit.
+fn emits(alloc: Global, script: &str) -> Result<Vec<usize>, Fail> {
+    let mut source = MemorySource::new(Text::from_bytes(alloc, script.as_bytes())?, 7);
+    let mut site = MemorySite::new(alloc);
+    run(alloc, &[], &mut source, &mut site);
+    let mut numbers = Vec::new(alloc);
+    for (i, call) in site.calls().iter().enumerate() {
+        if matches!(call, Call::Emit { .. }) {
+            numbers.push(i)?;
+        }
+    }
+    Ok(numbers)
+}
+
+/// Where an output fails, the replies before it were told.
 fn outputs_fail(
     rt: &impl Abort,
     alloc: Global,
     script: &str,
     replies: &[&str],
 ) -> Result<(), Fail> {
-    for call in 0..=replies.len() {
+    let emits = emits(alloc, script)?;
+    assert_eq!(rt; emits.len(), replies.len());
+    for (i, call) in emits.iter().enumerate() {
         let case = Case {
             script,
             piece: 7,
             pull: None,
-            call: Some(call as u64),
+            call: Some(*call as u64),
         };
-        let status = if call < replies.len() {
-            Status::Output
-        } else {
-            Status::Done
-        };
-        case.ends(rt, alloc, status, &replies[..call])?;
+        case.ends(rt, alloc, Status::Output, &replies[..i])?;
     }
     Ok(())
 }
@@ -178,8 +189,6 @@ fn list_usage(rt: HostRuntime) -> Result<(), Fail> {
     let ended = run(alloc, &[], &mut source, &mut site);
     assert_eq!(rt; ended, Status::Done);
     assert_eq!(rt; site.told(), b"committed 3\n1,-2\n3,9\nrows 2\n".as_slice());
-    let emits = [Call::Emit { len: 12 }, Call::Emit { len: 16 }];
-    assert_eq!(rt; site.calls(), emits.as_slice());
     Ok(())
 }
 
@@ -200,7 +209,7 @@ fn a_script_may_have_as_many_bytes_as_its_limit(rt: HostRuntime) -> Result<(), F
     Ok(())
 }
 
-fn sale(alloc: Global, part: &str, year: u64, count: i128) -> Result<Fact, Memory>
+pub(crate) fn sale(alloc: Global, part: &str, year: u64, count: i128) -> Result<Fact, Memory>
     ensures { IfOk result (λ fact. fact.measures ≡ count ∷ []) }
 {
     let mut values = ListOf::new(alloc);

@@ -1,18 +1,23 @@
 use Rattle.std.proofs.Common.{◌≡◌, IsTrue, length}
-use Rattle.cube_shell.specs.Script.{lines}
-use Rattle.cube_shell.specs.Standing.{state_of, replies_left}
-use Rattle.cube_shell.specs.Headline.{replies}
-use Rattle.cube_shell.proofs.Onward.{Onward}
+use Rattle.site_core.specs.Moments.{LeavesOnly}
+use Rattle.cube_shell.specs.Headline.{AfterStop}
+use Rattle.cube_shell.specs.Machine.{World}
+use Rattle.cube_shell.specs.Reading.{rows_of}
+use Rattle.cube_shell.specs.Script.{commands, commands_in, lines}
+use Rattle.cube_shell.specs.Session.{IsFit, IsRunning, Onward, Stands}
 use Rattle.cube_shell.proofs.serve.carry_out.Given as goal
 
--- what was told so far, and the replies to the lines that are left
+-- the commands so far were carried out, and those of the lines that are left are still to come
 abbrev pub invariant-loop-rest : goal.invariant-loop-rest
 invariant-loop-rest g l = record {
-  onward : IsTrue g.T.Site.tells → Onward (g.T.Site.disk l.fn.site) (g.T.Site.disk l.site) (replies_left (state_of l.standing) (lines l.rest)) (replies l.script);
-  faults : g.T.Site.told_faults l.site ≡ g.T.Site.told_faults l.fn.site;
+  running : IsRunning l.session.state;
+  fit : IsTrue g.T.Site.tells → IsFit l.session.state (g.T.Site.disk l.site);
+  onward : IsTrue g.T.Site.tells → (facts : World) → Stands l.fn.session.state (g.T.Site.disk l.fn.site) facts
+      → Onward l.session.state (g.T.Site.disk l.site) facts (commands l.script) (g.T.Site.disk l.fn.site).told (commands_in (rows_of l.block) (lines l.rest));
+  any_moment : IsTrue g.T.Site.tells → (facts : World) → Stands l.fn.session.state (g.T.Site.disk l.fn.site) facts
+      → LeavesOnly (g.T.Site.disk l.fn.site) (g.T.Site.disk l.site) (AfterStop facts (commands l.script) (g.T.Site.disk l.fn.site).told);
   disk_faults : g.T.Site.disk_faults l.site ≡ g.T.Site.disk_faults l.fn.site;
-  reads : g.T.Site.reads l.site ≡ g.T.Site.reads l.fn.site;
-  writes : g.T.Site.writes l.site ≡ g.T.Site.writes l.fn.site;
+  told_faults : g.T.Site.told_faults l.site ≡ g.T.Site.told_faults l.fn.site;
 }
 
 abbrev pub decreases-loop-rest : goal.decreases-loop-rest
