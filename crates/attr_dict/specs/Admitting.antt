@@ -1,25 +1,16 @@
 -- What admitting facts makes of names, and the entries of the names file for the new ones.
-use Rattle.std.specs.Prelude.{◌≡◌, ℕ, ◌<◌, ◌≤◌, Bool, cond, List, [], ◌∷◌, ◌++◌, length, get_or, take, map, flat_map, find, nat_lt, Option}
+use Rattle.std.specs.Prelude.{◌≡◌, ℕ, ◌<◌, Bool, cond, List, [], ◌∷◌, ◌++◌, length, get_or, take, map, flat_map, find, nat_lt, Option}
 use Rattle.std.specs.List.{list_any, range_with_len}
 use Rattle.std.specs.Str.{bytes_eq}
-use Rattle.fact_model.specs.declared.fact.Value.{Value}
-use Rattle.fact_model.specs.declared.fact.Value.TheVariants.{Word, Number}
 use Rattle.fact_model.specs.declared.fact.Fact.{Fact}
 use Rattle.fact_model.specs.Fact.{value_at}
 use Rattle.cube_schema.specs.declared.Kind.{Kind}
 use Rattle.cube_schema.specs.declared.Kind.TheVariants as kind
 use Rattle.cube_schema.specs.Kinds.{max_of}
+use Rattle.cube_schema.specs.Agreeing.{IsOfKind}
 use Rattle.view_points.specs.Codes.{Text, admitted, texts_at, for_attr}
 use Rattle.view_points.specs.Points.{coord}
-use Rattle.view_points.specs.Agree.{number_limit}
 use Rattle.attr_dict.specs.Book.{Book, kind_at, names_at}
-
--- a value of the attribute's kind, within its limits
-abbrev pub IsOfKind : Kind → Value → Type 0
-IsOfKind (kind.Word max) (Word t) = length t ≤ 255
-IsOfKind (kind.Word max) (Number n) = ⊥
-IsOfKind kind.Number (Word t) = ⊥
-IsOfKind kind.Number (Number n) = n ≤ number_limit
 
 -- a fact has one value of the right kind for each attribute
 pub record Agrees (kinds : List Kind) (x : Fact) : Type 0 where

@@ -8,3 +8,4 @@ pub mod Parts
 pub mod TextLines
 pub mod Again
 pub mod Whole
+pub mod Lengths

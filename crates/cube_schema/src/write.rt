@@ -1,5 +1,6 @@
 //! Writing a schema as its canonical text.
 ghost use Rattle.std.specs.Prelude.{◌≡◌, ◌∷◌, ◌++◌, Ok, IfOk, OnOk, flat_map, map};
+ghost use Rattle.std.specs.List.{join_with_byte};
 ghost use Rattle.cube_schema.specs.Kinds.{name_at};
 ghost use Rattle.cube_schema.specs.Lawful.{IsSchema};
 ghost use Rattle.cube_schema.specs.Reading.{schema_of};
@@ -19,6 +20,16 @@ impl Schema {
         ensures read_back { IsSchema self.now → IfOk result (λ text. schema_of text ≡ Ok self.now) }
     {
         text_of(alloc, self)
+    }
+
+    /// Pushes the names of these attributes, with commas between. If memory is short, some of them may be pushed.
+    pub fn push_names(&self, text: &mut Vec<u8>, attrs: &[u32]) -> Result<(), Memory>
+        ensures { OnOk result (text.new.items ≡ text.old.items ++ join_with_byte 44 (map (name_at self.now) attrs.now)) }
+    {
+        match attrs {
+            [] => Ok(()),
+            [first, more @ ..] => push_some_names(text, self, *first, more),
+        }
     }
 }
 
@@ -93,20 +104,25 @@ fn push_views(text: &mut Vec<u8>, schema: &Schema) -> Result<(), Memory>
 fn push_view(text: &mut Vec<u8>, schema: &Schema, view: &AttrList) -> Result<(), Memory>
     ensures { OnOk result (text.new.items ≡ text.old.items ++ with_feed (view_line schema.now view.now)) }
 {
-    match view.as_slice() {
-        [] => Ok(text.extend_from_slice(b"view\n")?),
-        [first, more @ ..] => push_names(text, schema, *first, more),
+    if view.as_slice().is_empty() {
+        return Ok(text.extend_from_slice(b"view\n")?);
     }
+    text.extend_from_slice(b"view ")?;
+    schema.push_names(text, view.as_slice())?;
+    Ok(text.push(b'\n')?)
 }
 
 #[tactic(auto, using(crate::proofs::Writes::names_joined))]
-fn push_names(text: &mut Vec<u8>, schema: &Schema, first: u32, more: &[u32]) -> Result<(), Memory>
-    ensures { OnOk result (text.new.items ≡ text.old.items ++ with_feed (view_line schema.now (first ∷ more.now))) }
+fn push_some_names(
+    text: &mut Vec<u8>,
+    schema: &Schema,
+    first: u32,
+    more: &[u32],
+) -> Result<(), Memory>
+    ensures { OnOk result (text.new.items ≡ text.old.items ++ join_with_byte 44 (map (name_at schema.now) (first ∷ more.now))) }
 {
-    text.extend_from_slice(b"view ")?;
     push_name(text, schema, first)?;
-    push_more_names(text, schema, more)?;
-    Ok(text.push(b'\n')?)
+    push_more_names(text, schema, more)
 }
 
 fn push_more_names(text: &mut Vec<u8>, schema: &Schema, attrs: &[u32]) -> Result<(), Memory>

@@ -1,6 +1,7 @@
 //! Names of attributes: codes by first appearance, the entries of the names file, and refusals.
 ghost use Rattle.std.specs.Prelude.{◌≡◌, IsTrue, IfOk, All, map};
-ghost use Rattle.attr_dict.specs.Admitting.{Agrees, IsOfKind};
+ghost use Rattle.attr_dict.specs.Admitting.{Agrees};
+ghost use Rattle.cube_schema.specs.Agreeing.{IsOfKind};
 ghost use Rattle.cube_schema.specs.declared.Attr.{Attr};
 
 use crate::runs::sale;

@@ -10,6 +10,7 @@ use Rattle.cube_schema.specs.declared.schema.Attr.{Attr}
 use Rattle.cube_schema.specs.declared.schema.Kind.{Kind}
 use Rattle.cube_schema.specs.declared.schema.Kind.TheVariants as kind
 use Rattle.cube_schema.specs.declared.schema.Schema.{Schema}
+use Rattle.cube_schema.specs.Agreeing.{IsOfKind, Agrees}
 use Rattle.fact_model.specs.declared.fact.Fact.{Fact}
 use Rattle.fact_model.specs.declared.fact.Value.{Value}
 use Rattle.fact_model.specs.declared.fact.Value.TheVariants.{Word, Number}
@@ -17,7 +18,6 @@ use Rattle.fact_model.specs.Number.{number_in}
 use Rattle.fact_csv.specs.declared.refusal.RowRefusal.{RowRefusal}
 use Rattle.fact_csv.specs.Gathered.{with_first, gathered}
 use Rattle.fact_csv.specs.Batch.{coordinate_in, value_in, measure_in, values_in, measures_in, fact_from, fact_in, facts_in}
-use Rattle.fact_csv.specs.Agreeing.{IsOfKind, Agrees}
 
 ok_inj : {A E : Type 0} (x y : A) → (λ (r : Result A E). r) (Ok x) ≡ Ok y → x ≡ y
 ok_inj {A} {E} x y e = ap (λ (r : Result A E). unwrap_or (result_ok r) x) e

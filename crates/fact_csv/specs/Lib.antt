@@ -1,3 +1,2 @@
-pub mod Agreeing
 pub mod Batch
 pub mod Gathered

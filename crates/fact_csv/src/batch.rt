@@ -2,7 +2,7 @@
 ghost use Rattle.std.specs.Prelude.{◌≡◌, ◌≤◌, Ok, IfOk, IfErr, length, map};
 ghost use Rattle.std.specs.List.{All};
 ghost use Rattle.csv.specs.Records.{fields_of};
-ghost use Rattle.fact_csv.specs.Agreeing.{Agrees};
+ghost use Rattle.cube_schema.specs.Agreeing.{Agrees};
 ghost use Rattle.fact_csv.specs.Batch.{batch_of, facts_in, Refuses};
 
 use crate::refusal::RowRefusal;

@@ -2,7 +2,7 @@ use Rattle.std.proofs.Common.{ℕ, ◌<◌, get_or, map}
 use Rattle.fact_model.specs.Fact.{value_at}
 use Rattle.cube_schema.specs.declared.Attr.{Attr}
 use Rattle.cube_schema.specs.declared.Kind.TheVariants as kind
-use Rattle.attr_dict.specs.Admitting.{IsOfKind}
+use Rattle.cube_schema.specs.Agreeing.{IsOfKind}
 use Rattle.cube_tests.proofs.names.agrees.Given as goal
 
 -- the values passed are of their attributes' kinds
