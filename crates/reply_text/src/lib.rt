@@ -1,0 +1,10 @@
+//! The texts of replies.
+#![tactic(auto)]
+
+mod line;
+mod refusal;
+mod rows;
+
+pub use line::{committed, facts, plain};
+pub use refusal::{refused_batch, refused_mass, refused_schema};
+pub use rows::answer;

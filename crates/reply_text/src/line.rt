@@ -1,0 +1,34 @@
+//! Replies of one line.
+ghost use Rattle.std.specs.Prelude.{◌≡◌, IfOk};
+ghost use Rattle.reply_text.specs.Replies.{line, numbered, committed_text, facts_text};
+
+use fact_model::Memory;
+use std::alloc::Global;
+
+/// One fixed line.
+pub fn plain(alloc: Global, text: &str) -> Result<Vec<u8>, Memory>
+    ensures { IfOk result (λ reply. reply.items ≡ line text.now) }
+{
+    Ok(format!(in alloc; "{text}\n")?.into_bytes())
+}
+
+/// The reply to a batch that is accepted, with the number of facts afterwards.
+pub fn committed(alloc: Global, count: u64) -> Result<Vec<u8>, Memory>
+    ensures { IfOk result (λ reply. reply.items ≡ committed_text count) }
+{
+    numbered(alloc, "committed ", count)
+}
+
+/// How many facts there are.
+pub fn facts(alloc: Global, count: u64) -> Result<Vec<u8>, Memory>
+    ensures { IfOk result (λ reply. reply.items ≡ facts_text count) }
+{
+    numbered(alloc, "facts ", count)
+}
+
+/// One line of a text and a number behind it.
+pub(crate) fn numbered(alloc: Global, text: &str, number: u64) -> Result<Vec<u8>, Memory>
+    ensures { IfOk result (λ reply. reply.items ≡ numbered text.now number) }
+{
+    Ok(format!(in alloc; "{text}{number}\n")?.into_bytes())
+}

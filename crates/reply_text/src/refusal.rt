@@ -1,0 +1,71 @@
+//! Replies that refuse a schema or a batch.
+ghost use Rattle.std.specs.Prelude.{◌≡◌, ◌≢◌, IfOk, OnOk};
+ghost use Rattle.fact_csv.specs.declared.refusal.RowRefusal.TheVariants as rows;
+ghost use Rattle.reply_text.specs.Replies.{schema_text, batch_text, mass_text};
+
+use crate::line::{numbered, plain};
+use cube_schema::SchemaRefusal;
+use fact_csv::RowRefusal;
+use fact_model::Memory;
+use std::alloc::Global;
+
+/// The refusal of a schema by the first rule that it breaks. Want of memory has no reply.
+pub fn refused_schema(alloc: Global, refusal: SchemaRefusal) -> Result<Vec<u8>, Memory>
+    ensures text { IfOk result (λ reply. reply.items ≡ schema_text refusal) }
+    ensures refused { OnOk result (refusal ≢ SchemaRefusal.Memory) }
+{
+    match refusal {
+        SchemaRefusal::Line(line) => numbered(alloc, "refused schema line ", line),
+        SchemaRefusal::Name(line) => numbered(alloc, "refused schema name ", line),
+        SchemaRefusal::Repeated(line) => numbered(alloc, "refused schema repeated ", line),
+        SchemaRefusal::UnknownAttr(line) => numbered(alloc, "refused schema attribute ", line),
+        SchemaRefusal::TooMany(line) => numbered(alloc, "refused schema many ", line),
+        SchemaRefusal::Range(line) => numbered(alloc, "refused schema range ", line),
+        SchemaRefusal::NoAttribute => plain(alloc, "refused schema no attribute"),
+        SchemaRefusal::NoMeasure => plain(alloc, "refused schema no measure"),
+        SchemaRefusal::NoView => plain(alloc, "refused schema no view"),
+        SchemaRefusal::Memory => Err(Memory),
+    }
+}
+
+/// The refusal of a batch by its first fault. Want of memory has no reply.
+pub fn refused_batch(alloc: Global, refusal: RowRefusal) -> Result<Vec<u8>, Memory>
+    ensures text { IfOk result (λ reply. reply.items ≡ batch_text refusal) }
+    ensures refused { OnOk result (refusal ≢ RowRefusal.Memory) }
+{
+    match refusal {
+        RowRefusal::Rows => plain(alloc, "refused rows"),
+        RowRefusal::Fields(row) => refused_fields(alloc, row),
+        RowRefusal::Number { row, field } => refused_number(alloc, row, field),
+        RowRefusal::Long { row, field } => refused_long(alloc, row, field),
+        RowRefusal::Memory => Err(Memory),
+    }
+}
+
+fn refused_fields(alloc: Global, row: u64) -> Result<Vec<u8>, Memory>
+    ensures { IfOk result (λ reply. reply.items ≡ batch_text (rows.Fields row)) }
+{
+    Ok(format!(in alloc; "refused row {row} fields\n")?.into_bytes())
+}
+
+fn refused_number(alloc: Global, row: u64, field: u64) -> Result<Vec<u8>, Memory>
+    ensures { IfOk result (λ reply. reply.items ≡ batch_text (rows.Number row field)) }
+{
+    Ok(format!(in alloc; "refused row {row} number {field}\n")?.into_bytes())
+}
+
+fn refused_long(alloc: Global, row: u64, field: u64) -> Result<Vec<u8>, Memory>
+    ensures { IfOk result (λ reply. reply.items ≡ batch_text (rows.Long row field)) }
+{
+    Ok(format!(in alloc; "refused row {row} long {field}\n")?.into_bytes())
+}
+
+/// The refusal of a batch by the mass of the measure of this name.
+pub fn refused_mass(alloc: Global, name: &[u8]) -> Result<Vec<u8>, Memory>
+    ensures { IfOk result (λ reply. reply.items ≡ mass_text name.now) }
+{
+    let mut reply = Vec::from_slice(alloc, b"refused mass ")?;
+    reply.extend_from_slice(name)?;
+    reply.push(b'\n')?;
+    Ok(reply)
+}

@@ -1,0 +1,53 @@
+-- Keys that differ: as many are kept as there are, and no neighbours are joined.
+use Rattle.std.proofs.Common.{◌≡◌, suc, false, Bool, cond, List, [], ◌∷◌, map, length, refl, ◌∙◌, ap, true≢false}
+use Rattle.std.proofs.lemmas.Map.Keys.{IsDistinct-head, IsDistinct-tail}
+use Rattle.std.specs.declared.cmp.Ordering.{Ordering}
+use Rattle.std.specs.declared.cmp.Ordering.TheVariants.{Less, Equal, Greater}
+use Rattle.std.specs.List.{AllByRecursion, IsDistinct}
+use Rattle.std.specs.Ordering.{eq_by_cmp, is_eq}
+use Rattle.fact_model.specs.Distinct.{by_order, placed, distinct}
+use Rattle.view_points.proofs.Sorts.{onto, squeezed}
+
+module _ {K : Type 0} (R : K → K → Ordering) where
+  -- ---- how many
+
+  every-placed : (P : K → Type 0) (k : K) (ks : List K) → P k → AllByRecursion P ks → AllByRecursion P (placed R k ks)
+  every-placed P k [] p all = (p, tt)
+  every-placed P k (j ∷ js) p all = elim (R k j) as (λ r. AllByRecursion P (by_order r (k ∷ (j ∷ js)) (j ∷ js) (j ∷ placed R k js)))
+      [ Less ↦ (p, all) | Equal ↦ all | Greater ↦ (all.0, every-placed P k js p all.1) ]
+
+  every-distinct : (P : K → Type 0) (ks : List K) → AllByRecursion P ks → AllByRecursion P (distinct R ks)
+  every-distinct P [] all = tt
+  every-distinct P (k ∷ ks) all = every-placed P k (distinct R ks) all.0 (every-distinct P ks all.1)
+
+  length-placed : (k : K) (ks : List K) → AllByRecursion (λ j. eq_by_cmp R k j ≡ false) ks → length (placed R k ks) ≡ suc (length ks)
+  length-placed k [] other = refl
+  length-placed k (j ∷ js) other = by (R k j) (length-placed k js other.1) other.0
+    where
+      by : (r : Ordering) → length (placed R k js) ≡ suc (length js) → is_eq r ≡ false
+          → length (by_order r (k ∷ (j ∷ js)) (j ∷ js) (j ∷ placed R k js)) ≡ suc (suc (length js))
+      by Less more h = refl
+      by Equal more h = absurd (true≢false h)
+      by Greater more h = ap suc more
+
+  -- keys that differ are all kept
+  pub length-distinct : (ks : List K) → IsDistinct (eq_by_cmp R) ks → length (distinct R ks) ≡ length ks
+  length-distinct [] differ = refl
+  length-distinct (k ∷ ks) differ =
+      length-placed k (distinct R ks) (every-distinct (λ j. eq_by_cmp R k j ≡ false) ks (IsDistinct-head (eq_by_cmp R) k ks differ))
+      ∙ ap suc (length-distinct ks (IsDistinct-tail (eq_by_cmp R) k ks differ))
+
+  -- ---- neighbours
+
+  module _ {C : Type 0} (join : C → C → C) where
+    onto-other : (e : K × C) (es : List (K × C)) → AllByRecursion (λ k. eq_by_cmp R e.0 k ≡ false) (map (λ (d : K × C). d.0) es)
+        → onto R join e es ≡ e ∷ es
+    onto-other e [] other = refl
+    onto-other e (d ∷ ds) other = ap (λ (b : Bool). cond b ((e.0, join e.1 d.1) ∷ ds) (e ∷ d ∷ ds)) other.0
+
+    -- entries of keys that differ stay as they are
+    pub squeezed-distinct : (es : List (K × C)) → IsDistinct (eq_by_cmp R) (map (λ (e : K × C). e.0) es) → squeezed R join es ≡ es
+    squeezed-distinct [] differ = refl
+    squeezed-distinct (e ∷ es) differ =
+        ap (onto R join e) (squeezed-distinct es (IsDistinct-tail (eq_by_cmp R) e.0 (map (λ (d : K × C). d.0) es) differ))
+        ∙ onto-other e es (IsDistinct-head (eq_by_cmp R) e.0 (map (λ (d : K × C). d.0) es) differ)

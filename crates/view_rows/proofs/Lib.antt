@@ -1,0 +1,4 @@
+pub mod DistinctKeys
+pub mod PlaceKeys
+pub mod PointSums
+pub mod SortedRows
