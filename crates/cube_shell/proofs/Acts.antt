@@ -1,103 +1,257 @@
--- Two laws of the plain machine: each reply has a byte, and a command that makes no stage leaves the accepted facts.
-use Rattle.std.proofs.Common.{◌≡◌, ◌<◌, ℕ, Bool, true, false, cond, List, [], ◌∷◌, ◌++◌, length, Result, Ok, Err, refl, ◌∙◌, ap, append-nil, arith, length-append, codes, nat_lt, nat_le}
+-- Two laws of the plain machine: each reply has a byte, and a command that makes no stage leaves what is known.
+use Rattle.std.proofs.Common.{◌⊎◌, inl, inr, ◌≡◌, ◌<◌, ℕ, ◌+◌, Bool, true, false, cond, List, [], ◌∷◌, ◌++◌, length, map, Option, Some, None, Result, Ok, Err, refl, ◌∙◌, ap, append-nil, arith, length-append, codes, decimal, nat_lt, nat_le}
 use Rattle.std.proofs.lemmas.Bool.Decides.{nat_tests}
+use Rattle.cube_schema.specs.declared.schema.Schema.{Schema}
+use Rattle.cube_schema.specs.declared.schema.SchemaRefusal.{SchemaRefusal}
+use Rattle.cube_schema.specs.declared.schema.SchemaRefusal.TheVariants as schemas
+use Rattle.cube_schema.specs.Reading.{schema_of}
+use Rattle.fact_csv.specs.Batch.{batch_of}
+use Rattle.fact_csv.specs.declared.refusal.RowRefusal.{RowRefusal}
+use Rattle.fact_csv.specs.declared.refusal.RowRefusal.TheVariants as rows
 use Rattle.fact_model.specs.declared.fact.Fact.{Fact}
-use Rattle.fact_model.specs.Fact.{mass, mass_limit}
-use Rattle.fact_model.specs.Rows.{rows, keys_of}
-use Rattle.cube_shell.specs.declared.batch.RowFault.{RowFault}
-use Rattle.cube_shell.specs.declared.batch.RowFault.TheVariants as faults
-use Rattle.cube_shell.specs.Script.{Line, Said}
-use Rattle.cube_shell.specs.Script as says
-use Rattle.cube_shell.specs.Batch.{batch_from}
-use Rattle.cube_shell.specs.Replies.{line, fault_text, rows_text, records_text}
-use Rattle.cube_shell.specs.Machine.{World, Answer, act, load, accepted, fact_limit, value_limit, the_slice}
-use Rattle.cube_shell.specs.Headline.{makes_stage}
+use Rattle.fact_model.specs.declared.slice.Row.{Row}
+use Rattle.fact_model.specs.Rows.{rows as rows_of, keys_of}
+use Rattle.csv_text.specs.Rows.{row_fields, rows_text}
+use Rattle.leaf_store.specs.Built.{is_built, one_view, view_of}
+use Rattle.leaf_store.specs.Held.{leaf_limit}
+use Rattle.script_lang.specs.declared.command.Block.{Block}
+use Rattle.script_lang.specs.declared.command.Block.TheVariants.{Whole, Long}
+use Rattle.script_lang.specs.declared.command.Command.{Command}
+use Rattle.script_lang.specs.declared.command.Command.TheVariants as says
+use Rattle.cube_shell.specs.World.{World, Warehouse}
+use Rattle.reply_text.specs.Replies.{line, numbered, schema_text, batch_text, answer_text}
+use Rattle.view_rows.specs.Sums.{sums_of}
+use Rattle.cube_shell.specs.Slices.{asked}
+use Rattle.cube_shell.specs.Machine.{status_text, Answer, act, declared, declare, fact_limit, first_heavy, within_leaf, within_masses, loaded, load, answered, slice, replies_with}
+use Rattle.cube_shell.specs.Headline.{size, makes_stage}
 
 -- ---- replies have a byte
 
 some_line : (text : List ℕ) → 0 < length (line text)
 some_line text = omega (arith, length-append text (10 ∷ []))
 
+behind : (text more : List ℕ) → 0 < length more → 0 < length (text ++ more)
+behind text more some = omega (arith, some, length-append text more)
+
+some_number : (text : List ℕ) (n : ℕ) → 0 < length (numbered text n)
+some_number text n = behind text (line (decimal n)) (some_line (decimal n))
+
 either : (b : Bool) (x y : Answer) → 0 < length x.1 → 0 < length y.1 → 0 < length (cond b x y).1
 either true x y p q = p
 either false x y p q = q
 
-fault_some : (fault : RowFault) → 0 < length (fault_text fault)
-fault_some (faults.Fields row) = omega arith
-fault_some (faults.Number row field) = omega arith
+schema_some : (refusal : SchemaRefusal) → 0 < length (schema_text refusal)
+schema_some (schemas.Line n) = some_number (codes "refused schema line ") n
+schema_some (schemas.Name n) = some_number (codes "refused schema name ") n
+schema_some (schemas.Repeated n) = some_number (codes "refused schema repeated ") n
+schema_some (schemas.UnknownAttr n) = some_number (codes "refused schema attribute ") n
+schema_some (schemas.TooMany n) = some_number (codes "refused schema many ") n
+schema_some (schemas.Range n) = some_number (codes "refused schema range ") n
+schema_some schemas.NoAttribute = some_line (codes "refused schema no attribute")
+schema_some schemas.NoMeasure = some_line (codes "refused schema no measure")
+schema_some schemas.NoView = some_line (codes "refused schema no view")
+schema_some schemas.Memory = some_line []
 
-accepted_some : (facts : World) (batch : List Fact) → 0 < length (accepted facts batch).1
-accepted_some facts batch =
-    either (nat_le (length (facts ++ batch)) fact_limit) _ _
-    (either (nat_le (mass 0 (facts ++ batch)) mass_limit) _ _
-    (either (nat_le (length (keys_of the_slice (facts ++ batch))) value_limit) _ _ (omega arith) (some_line (codes "refused unbuilt")))
-    (some_line (codes "refused mass m"))) (some_line (codes "refused facts"))
+batch_some : (refusal : RowRefusal) → 0 < length (batch_text refusal)
+batch_some rows.Rows = some_line (codes "refused rows")
+batch_some (rows.Fields row) = behind (codes "refused row ") _ (behind (decimal row) _ (some_line (codes " fields")))
+batch_some (rows.Number row field) = behind (codes "refused row ") _ (behind (decimal row) _ (some_number (codes " number ") field))
+batch_some (rows.Long row field) = behind (codes "refused row ") _ (behind (decimal row) _ (some_number (codes " long ") field))
+batch_some rows.Memory = some_line []
 
-load_some : (facts : World) (batch : Result (List Fact) RowFault) → 0 < length (load facts batch).1
-load_some facts (Err fault) = fault_some fault
-load_some facts (Ok batch) = accepted_some facts batch
+declared_some : (read : Result Schema SchemaRefusal) → 0 < length (declared read).1
+declared_some (Err refusal) = schema_some refusal
+declared_some (Ok schema) = either (is_built schema) _ _ (some_line (codes "declared")) (some_line (codes "refused unbuilt"))
 
-pub reply_some : (facts : World) (command : Said) → 0 < length (act facts command).1
+declare_some : (world : World) (block : Block) → 0 < length (declare world block).1
+declare_some (Some warehouse) block = some_line (codes "refused declared")
+declare_some None Long = some_line (codes "refused schema block")
+declare_some None (Whole bytes) = declared_some (schema_of bytes)
+
+within_leaf_some : (warehouse : Warehouse) (all : List Fact) → 0 < length (within_leaf warehouse all).1
+within_leaf_some warehouse all =
+    either (nat_le (length (keys_of (sums_of (view_of warehouse.schema) 0) all)) (leaf_limit (one_view warehouse.schema))) _ _
+    (some_number (codes "committed ") (length all)) (some_line (codes "refused unbuilt"))
+
+within_masses_some : (warehouse : Warehouse) (all : List Fact) (heavy : Option (List ℕ)) → 0 < length (within_masses warehouse all heavy).1
+within_masses_some warehouse all (Some name) = behind (codes "refused mass ") _ (some_line name)
+within_masses_some warehouse all None = within_leaf_some warehouse all
+
+loaded_some : (warehouse : Warehouse) (read : Result (List Fact) RowRefusal) → 0 < length (loaded warehouse read).1
+loaded_some warehouse (Err refusal) = batch_some refusal
+loaded_some warehouse (Ok batch) =
+    either (nat_le (length (warehouse.facts ++ batch)) fact_limit) _ _
+    (within_masses_some warehouse (warehouse.facts ++ batch) (first_heavy 0 warehouse.schema.measures (warehouse.facts ++ batch)))
+    (some_line (codes "refused facts"))
+
+load_some : (world : World) (block : Block) → 0 < length (load world block).1
+load_some None block = some_line (codes "refused no schema")
+load_some (Some warehouse) Long = some_line (codes "refused block")
+load_some (Some warehouse) (Whole bytes) = loaded_some warehouse (batch_of warehouse.schema bytes)
+
+answer_some : (found : List Row) → 0 < length (answer_text found)
+answer_some found = behind (rows_text (map row_fields found)) _ (some_number (codes "rows ") (length found))
+
+answered_some : (warehouse : Warehouse) (measure : Option ℕ) → 0 < length (answered warehouse measure).1
+answered_some warehouse None = some_line (codes "refused unbuilt")
+answered_some warehouse (Some m) = answer_some (rows_of warehouse.facts (sums_of (view_of warehouse.schema) m))
+
+slice_some : (world : World) (text : List ℕ) → 0 < length (slice world text).1
+slice_some None text = some_line (codes "refused no schema")
+slice_some (Some warehouse) text = answered_some warehouse (asked warehouse.schema text)
+
+status_some : (world : World) → 0 < length (status_text world)
+status_some None = some_line (codes "no schema")
+status_some (Some warehouse) = some_number (codes "facts ") (length warehouse.facts)
+
+pub reply_some : (world : World) (command : Command) → 0 < length (act world command).1
 unfolding act
-reply_some facts (says.Load rows) = load_some facts (batch_from 1 rows)
-reply_some facts says.Slice = omega (arith, length-append (records_text (rows facts the_slice)) (codes "rows " ++ line (Rattle.std.specs.Prelude.decimal (length (rows facts the_slice)))))
-reply_some facts says.Unbuilt = some_line (codes "refused unbuilt")
-reply_some facts says.Unknown = some_line (codes "refused unknown")
-reply_some facts says.OpenBlock = some_line (codes "refused open block")
+reply_some world (says.Schema block) = declare_some world block
+reply_some world (says.Load block) = load_some world block
+reply_some world (says.Slice text) = slice_some world text
+reply_some world says.Status = status_some world
+reply_some world says.LongLine = some_line (codes "refused long line")
+reply_some world says.OpenBlock = some_line (codes "refused open block")
+reply_some world (says.Begin block) = some_line (codes "refused unknown")
+reply_some world (says.Step n) = some_line (codes "refused unknown")
+reply_some world says.Finish = some_line (codes "refused unknown")
+reply_some world says.Abandon = some_line (codes "refused unknown")
+reply_some world (says.Generate start rows) = some_line (codes "refused unknown")
+reply_some world says.Unknown = some_line (codes "refused unknown")
 
 -- ---- stages
+
+-- where what is known does not grow, it stays
+abbrev StaysOrGrows : World → Answer → Type 0
+StaysOrGrows world answer = nat_lt (size world) (size answer.0) ≡ false → answer.0 ≡ world
+
+stays_either : (world : World) (b : Bool) (x y : Answer) → StaysOrGrows world x → StaysOrGrows world y → StaysOrGrows world (cond b x y)
+stays_either world true x y p q = p
+stays_either world false x y p q = q
+
+declared_stage : (read : Result Schema SchemaRefusal) → StaysOrGrows None (declared read)
+declared_stage (Err refusal) = λ h. refl
+declared_stage (Ok schema) = stays_either None (is_built schema) _ _ (λ h. absurd (cc)) (λ h. refl)
+
+declare_stage : (world : World) (block : Block) → StaysOrGrows world (declare world block)
+declare_stage (Some warehouse) block = λ h. refl
+declare_stage None Long = λ h. refl
+declare_stage None (Whole bytes) = declared_stage (schema_of bytes)
 
 pub nothing_added : (batch : List Fact) → length batch ≡ 0 → batch ≡ []
 nothing_added [] h = refl
 nothing_added (x ∷ xs) h = absurd (omega arith)
 
-same_facts : (facts batch : List Fact) → nat_lt (length facts) (length (facts ++ batch)) ≡ false → facts ++ batch ≡ facts
+same_facts : (facts batch : List Fact) → nat_lt (length facts + 1) (length (facts ++ batch) + 1) ≡ false → facts ++ batch ≡ facts
 same_facts facts batch h =
     let none : batch ≡ [] = nothing_added batch (grind (arith, nat_tests, length-append facts batch)) in
     ap (λ (l : List Fact). facts ++ l) none ∙ append-nil facts
 
-kept_either : (facts : World) (b : Bool) (x y : Answer) → (nat_lt (length facts) (length x.0) ≡ false → x.0 ≡ facts) → (nat_lt (length facts) (length y.0) ≡ false → y.0 ≡ facts)
-    → nat_lt (length facts) (length (cond b x y).0) ≡ false → (cond b x y).0 ≡ facts
-kept_either facts true x y p q = p
-kept_either facts false x y p q = q
+within_leaf_stage : (warehouse : Warehouse) (batch : List Fact) → StaysOrGrows (Some warehouse) (within_leaf warehouse (warehouse.facts ++ batch))
+within_leaf_stage warehouse batch =
+    stays_either (Some warehouse)
+    (nat_le (length (keys_of (sums_of (view_of warehouse.schema) 0) (warehouse.facts ++ batch))) (leaf_limit (one_view warehouse.schema))) _ _
+    (λ h. ap (λ (l : List Fact). Some (record { schema = warehouse.schema; facts = l })) (same_facts warehouse.facts batch h))
+    (λ h. refl)
 
-accepted_stage : (facts : World) (batch : List Fact) → nat_lt (length facts) (length (accepted facts batch).0) ≡ false → (accepted facts batch).0 ≡ facts
-accepted_stage facts batch =
-    kept_either facts (nat_le (length (facts ++ batch)) fact_limit) _ _
-    (kept_either facts (nat_le (mass 0 (facts ++ batch)) mass_limit) _ _
-    (kept_either facts (nat_le (length (keys_of the_slice (facts ++ batch))) value_limit) _ _ (same_facts facts batch) (λ h. refl))
-    (λ h. refl)) (λ h. refl)
+within_masses_stage : (warehouse : Warehouse) (batch : List Fact) (heavy : Option (List ℕ))
+    → StaysOrGrows (Some warehouse) (within_masses warehouse (warehouse.facts ++ batch) heavy)
+within_masses_stage warehouse batch (Some name) = λ h. refl
+within_masses_stage warehouse batch None = within_leaf_stage warehouse batch
 
-load_stage : (facts : World) (batch : Result (List Fact) RowFault) → nat_lt (length facts) (length (load facts batch).0) ≡ false → (load facts batch).0 ≡ facts
-load_stage facts (Err fault) = λ h. refl
-load_stage facts (Ok batch) = accepted_stage facts batch
+loaded_stage : (warehouse : Warehouse) (read : Result (List Fact) RowRefusal) → StaysOrGrows (Some warehouse) (loaded warehouse read)
+loaded_stage warehouse (Err refusal) = λ h. refl
+loaded_stage warehouse (Ok batch) =
+    stays_either (Some warehouse) (nat_le (length (warehouse.facts ++ batch)) fact_limit) _ _
+    (within_masses_stage warehouse batch (first_heavy 0 warehouse.schema.measures (warehouse.facts ++ batch)))
+    (λ h. refl)
 
-pub no_stage : (facts : World) (command : Said) → makes_stage facts command ≡ false → (act facts command).0 ≡ facts
+load_stage : (world : World) (block : Block) → StaysOrGrows world (load world block)
+load_stage None block = λ h. refl
+load_stage (Some warehouse) Long = λ h. refl
+load_stage (Some warehouse) (Whole bytes) = loaded_stage warehouse (batch_of warehouse.schema bytes)
+
+answered_stage : (warehouse : Warehouse) (measure : Option ℕ) → StaysOrGrows (Some warehouse) (answered warehouse measure)
+answered_stage warehouse None = λ h. refl
+answered_stage warehouse (Some m) = λ h. refl
+
+slice_stage : (world : World) (text : List ℕ) → StaysOrGrows world (slice world text)
+slice_stage None text = λ h. refl
+slice_stage (Some warehouse) text = answered_stage warehouse (asked warehouse.schema text)
+
+pub no_stage : (world : World) (command : Command) → makes_stage world command ≡ false → (act world command).0 ≡ world
 unfolding act
-no_stage facts (says.Load rows) = load_stage facts (batch_from 1 rows)
-no_stage facts says.Slice = λ h. refl
-no_stage facts says.Unbuilt = λ h. refl
-no_stage facts says.Unknown = λ h. refl
-no_stage facts says.OpenBlock = λ h. refl
+no_stage world (says.Schema block) = declare_stage world block
+no_stage world (says.Load block) = load_stage world block
+no_stage world (says.Slice text) = slice_stage world text
+no_stage world says.Status = λ h. refl
+no_stage world says.LongLine = λ h. refl
+no_stage world says.OpenBlock = λ h. refl
+no_stage world (says.Begin block) = λ h. refl
+no_stage world (says.Step n) = λ h. refl
+no_stage world says.Finish = λ h. refl
+no_stage world says.Abandon = λ h. refl
+no_stage world (says.Generate start rows) = λ h. refl
+no_stage world says.Unknown = λ h. refl
 
 -- ---- what each command does
 
-pub act_load : (facts : World) (rows : List Line) → act facts (says.Load rows) ≡ load facts (batch_from 1 rows)
+pub act_schema : (world : World) (block : Block) → act world (says.Schema block) ≡ declare world block
 unfolding act
-act_load facts rows = refl
+act_schema world block = refl
 
-pub act_slice : (facts : World) → act facts says.Slice ≡ (facts, rows_text (rows facts the_slice))
+pub act_load : (world : World) (block : Block) → act world (says.Load block) ≡ load world block
 unfolding act
-act_slice facts = refl
+act_load world block = refl
 
-pub act_unbuilt : (facts : World) → act facts says.Unbuilt ≡ (facts, line (codes "refused unbuilt"))
+pub act_slice : (world : World) (text : List ℕ) → act world (says.Slice text) ≡ slice world text
 unfolding act
-act_unbuilt facts = refl
+act_slice world text = refl
 
-pub act_unknown : (facts : World) → act facts says.Unknown ≡ (facts, line (codes "refused unknown"))
+pub act_status : (world : World) → act world says.Status ≡ (world, status_text world)
 unfolding act
-act_unknown facts = refl
+act_status world = refl
 
-pub act_open_block : (facts : World) → act facts says.OpenBlock ≡ (facts, line (codes "refused open block"))
+pub act_long_line : (world : World) → act world says.LongLine ≡ replies_with world (codes "refused long line")
 unfolding act
-act_open_block facts = refl
+act_long_line world = refl
+
+pub act_open_block : (world : World) → act world says.OpenBlock ≡ replies_with world (codes "refused open block")
+unfolding act
+act_open_block world = refl
+
+pub act_begin : (world : World) (block : Block) → act world (says.Begin block) ≡ replies_with world (codes "refused unknown")
+unfolding act
+act_begin world block = refl
+
+pub act_step : (world : World) (n : ℕ) → act world (says.Step n) ≡ replies_with world (codes "refused unknown")
+unfolding act
+act_step world n = refl
+
+pub act_finish : (world : World) → act world says.Finish ≡ replies_with world (codes "refused unknown")
+unfolding act
+act_finish world = refl
+
+pub act_abandon : (world : World) → act world says.Abandon ≡ replies_with world (codes "refused unknown")
+unfolding act
+act_abandon world = refl
+
+pub act_generate : (world : World) (start rows : ℕ) → act world (says.Generate start rows) ≡ replies_with world (codes "refused unknown")
+unfolding act
+act_generate world start rows = refl
+
+pub act_unknown : (world : World) → act world says.Unknown ≡ replies_with world (codes "refused unknown")
+unfolding act
+act_unknown world = refl
+
+-- the commands that are not known yet, and a line that is none
+pub act_others : (world : World) (command : Command)
+    → ((block : Block) × (command ≡ says.Begin block)) ⊎ (((n : ℕ) × (command ≡ says.Step n)) ⊎ ((command ≡ says.Finish) ⊎ ((command ≡ says.Abandon)
+    ⊎ (((start : ℕ) × (rows : ℕ) × (command ≡ says.Generate start rows)) ⊎ (command ≡ says.Unknown)))))
+    → act world command ≡ replies_with world (codes "refused unknown")
+act_others world command (inl begin) = ap (act world) begin.1 ∙ act_begin world begin.0
+act_others world command (inr (inl step)) = ap (act world) step.1 ∙ act_step world step.0
+act_others world command (inr (inr (inl is))) = ap (act world) is ∙ act_finish world
+act_others world command (inr (inr (inr (inl is)))) = ap (act world) is ∙ act_abandon world
+act_others world command (inr (inr (inr (inr (inl generate))))) = ap (act world) generate.2 ∙ act_generate world generate.0 generate.1
+act_others world command (inr (inr (inr (inr (inr is))))) = ap (act world) is ∙ act_unknown world

@@ -1,12 +1,13 @@
 -- How a session goes on from command to command.
-use Rattle.std.proofs.Common.{◌≡◌, inl, inr, ℕ, List, [], ◌∷◌, ◌++◌, length, take, refl, sym, ◌∙◌, ap, subst, append-nil, append_assoc, arith, Result, Ok, Err, OnOk}
+use Rattle.std.proofs.Common.{◌≡◌, inl, inr, ℕ, List, [], ◌∷◌, ◌++◌, length, take, refl, sym, ◌∙◌, ap, subst, append-nil, arith, Result, Ok, Err, OnOk}
 use Rattle.site_core.specs.Disk.{Files, Disk}
 use Rattle.site_core.specs.Moments.{LeavesOnly}
-use Rattle.site_core.proofs.Run.{started, joined, wider, each_moment}
-use Rattle.site_core.specs.Calls.{Rests, Stays, TellsFront}
+use Rattle.site_core.proofs.Run.{started, joined, wider}
+use Rattle.site_core.specs.Calls.{TellsFront}
 use Rattle.cube_shell.specs.declared.state.State.{State}
-use Rattle.cube_shell.specs.Script.{Said}
-use Rattle.cube_shell.specs.Machine.{World, act}
+use Rattle.script_lang.specs.declared.command.Command.{Command}
+use Rattle.cube_shell.specs.World.{World}
+use Rattle.cube_shell.specs.Machine.{act}
 use Rattle.cube_shell.specs.Keeps.{Keeps}
 use Rattle.cube_shell.specs.Headline.{AfterStop, AfterRun, Meanwhile, Finished, replies_from, final}
 use Rattle.cube_shell.specs.Session.{Stands, Carried, Onward}
@@ -19,7 +20,8 @@ abbrev pub OnlyNow : Disk → Type 0
 OnlyNow d = (told : List ℕ) (files : Files) → d.left_since d.clock told files → (told ≡ d.told) × d.may_leave files
 
 -- a command that does nothing
-pub untouched : (session : State) (d : Disk) (w : World) (c : Said) → Stands session d w → OnlyNow d → LeavesOnly d d (Meanwhile w c d.told)
+pub untouched : (session : State) (d : Disk) (w : World) (c : Command) → Stands session d w → OnlyNow d
+    → LeavesOnly d d (Meanwhile w c d.told)
 untouched session d w c stands only_now = started d (Meanwhile w c d.told) (λ told files left.
     let now = only_now told files left in
     record {
@@ -32,22 +34,27 @@ untouched session d w c stands only_now = started d (Meanwhile w c d.told) (λ t
     })
 
 -- before the first command
-pub started_moments : (session : State) (d : Disk) (w : World) (cs : List Said) → Stands session d w → OnlyNow d → LeavesOnly d d (AfterStop w cs d.told)
+pub started_moments : (session : State) (d : Disk) (w : World) (cs : List Command) → Stands session d w → OnlyNow d
+    → LeavesOnly d d (AfterStop w cs d.told)
 started_moments session d w cs stands only_now = started d (AfterStop w cs d.told) (λ told files left.
     let now = only_now told files left in at_rest w cs d.told told files now.0 (stands_left session d w stands files now.1))
 
-abbrev pub started_onward : (session : State) (d : Disk) (w : World) (cs : List Said) → Stands session d w → Onward session d w cs d.told cs
+abbrev pub started_onward : (session : State) (d : Disk) (w : World) (cs : List Command) → Stands session d w
+    → Onward session d w cs d.told cs
 started_onward session d w cs stands = record { now = w; stands = stands; carried = carried_none w cs d.told d.told refl }
 
-module _ (old mid new : Disk) (session : State) (w : World) (cs : List Said) (c : Said) (all rest : List Said)
+module _ (old mid new : Disk) (session : State) (w : World) (cs : List Command) (c : Command) (all rest : List Command)
     (onward : Onward session mid w cs old.told all) (first : all ≡ c ∷ rest) where
   -- a command, whether it succeeds or fails
-  pub more_moments : LeavesOnly old mid (AfterStop w cs old.told) → LeavesOnly mid new (Meanwhile onward.now c mid.told) → LeavesOnly old new (AfterStop w cs old.told)
+  pub more_moments : LeavesOnly old mid (AfterStop w cs old.told) → LeavesOnly mid new (Meanwhile onward.now c mid.told)
+      → LeavesOnly old new (AfterStop w cs old.told)
   more_moments so_far call = joined old mid new (AfterStop w cs old.told) so_far
       (wider mid new (Meanwhile onward.now c mid.told) (AfterStop w cs old.told) (λ told files m.
-      onward.carried.onto told files (subst (λ (l : List Said). AfterStop onward.now l mid.told told files) (sym first) (during onward.now c rest mid.told told files m))) call)
+      onward.carried.onto told files (subst (λ (l : List Command). AfterStop onward.now l mid.told told files) (sym first)
+      (during onward.now c rest mid.told told files m))) call)
 
-  pub more_onward : (next : State) → Stands next new (act onward.now c).0 → new.told ≡ mid.told ++ (act onward.now c).1 → Onward next new w cs old.told rest
+  pub more_onward : (next : State) → Stands next new (act onward.now c).0 → new.told ≡ mid.told ++ (act onward.now c).1
+      → Onward next new w cs old.told rest
   more_onward next stands told = record {
     now = (act onward.now c).0;
     stands = stands;
@@ -55,62 +62,51 @@ module _ (old mid new : Disk) (session : State) (w : World) (cs : List Said) (c 
   }
 
 -- a run of commands, and then more of them
-module _ (old mid new : Disk) (session : State) (w : World) (cs all part rest : List Said) (onward : Onward session mid w cs old.told all) (same : all ≡ part) where
-  pub then_moments : LeavesOnly old mid (AfterStop w cs old.told) → LeavesOnly mid new (AfterStop onward.now part mid.told) → LeavesOnly old new (AfterStop w cs old.told)
+module _ (old mid new : Disk) (session : State) (w : World) (cs all part rest : List Command)
+    (onward : Onward session mid w cs old.told all) (same : all ≡ part) where
+  pub then_moments : LeavesOnly old mid (AfterStop w cs old.told) → LeavesOnly mid new (AfterStop onward.now part mid.told)
+      → LeavesOnly old new (AfterStop w cs old.told)
   then_moments so_far run = joined old mid new (AfterStop w cs old.told) so_far
-      (wider mid new (AfterStop onward.now part mid.told) (AfterStop w cs old.told) (λ told files a. onward.carried.onto told files (subst (λ (l : List Said). AfterStop onward.now l mid.told told files) (sym same) a)) run)
+      (wider mid new (AfterStop onward.now part mid.told) (AfterStop w cs old.told) (λ told files a.
+      onward.carried.onto told files (subst (λ (l : List Command). AfterStop onward.now l mid.told told files) (sym same) a)) run)
 
   pub then_onward : (next : State) → Onward next new onward.now part mid.told rest → Onward next new w cs old.told rest
   then_onward next o = record {
     now = o.now;
     stands = o.stands;
-    carried = carried_then w cs old.told onward.now all mid.told o.now rest new.told onward.carried (subst (λ (l : List Said). Carried onward.now l mid.told o.now rest new.told) (sym same) o.carried);
-  }
-
-  pub then_finished : Finished new onward.now part mid.told → Finished new w cs old.told
-  then_finished f = record {
-    told = f.told ∙ ap (λ (l : List ℕ). l ++ replies_from onward.now part) onward.carried.tells ∙ append_assoc old.told onward.carried.front (replies_from onward.now part)
-        ∙ ap (λ (l : List ℕ). old.told ++ l) (ap (λ (l : List Said). onward.carried.front ++ replies_from onward.now l) (sym same) ∙ sym onward.carried.replies);
-    kept = subst (λ (v : World). Keeps new.files v) (ap (final onward.now) (sym same) ∙ sym onward.carried.final) f.kept;
+    carried = carried_then w cs old.told onward.now all mid.told o.now rest new.told onward.carried
+        (subst (λ (l : List Command). Carried onward.now l mid.told o.now rest new.told) (sym same) o.carried);
   }
 
 -- nothing is left
-pub all_done : (session : State) (disk : Disk) (w : World) (cs rest : List Said) (before : List ℕ) → Onward session disk w cs before rest → rest ≡ [] → Finished disk w cs before
+pub all_done : (session : State) (disk : Disk) (w : World) (cs rest : List Command) (before : List ℕ)
+    → Onward session disk w cs before rest → rest ≡ [] → Finished disk w cs before
 all_done session disk w cs rest before o none = record {
-  told = o.carried.tells ∙ ap (λ (l : List ℕ). before ++ l) (sym (o.carried.replies ∙ ap (λ (l : List Said). o.carried.front ++ replies_from o.now l) none ∙ append-nil o.carried.front));
-  kept = subst (λ (v : World). Keeps disk.files v) (sym (o.carried.final ∙ ap (final o.now) none)) (stands_read session disk o.now o.stands);
+  told = o.carried.tells ∙ ap (λ (l : List ℕ). before ++ l)
+      (sym (o.carried.replies ∙ ap (λ (l : List Command). o.carried.front ++ replies_from o.now l) none ∙ append-nil o.carried.front));
+  kept = subst (λ (v : World). Keeps disk.files v) (sym (o.carried.final ∙ ap (final o.now) none))
+      (stands_read session disk o.now o.stands);
 }
 
-pub finished_at : {E : Type 0} (r : Result (Unit {0}) E) (session : State) (disk : Disk) (w : World) (cs rest : List Said) (ready : List Said) (before : List ℕ) (all : List Said)
-    → OnOk r (Onward session disk w cs before rest) → OnOk r (ready ≡ []) → (ready ≡ [] → rest ≡ []) → all ≡ cs → OnOk r (Finished disk w all before)
-finished_at (Ok x) session disk w cs rest ready before all onward none is same = subst (λ (l : List Said). Finished disk w l before) (sym same) (all_done session disk w cs rest before onward (is none))
+pub finished_at : {E : Type 0} (r : Result (Unit {0}) E) (session : State) (disk : Disk) (w : World) (cs rest ready : List Command)
+    (before : List ℕ) (all : List Command) → OnOk r (Onward session disk w cs before rest) → OnOk r (ready ≡ [])
+    → (ready ≡ [] → rest ≡ []) → all ≡ cs → OnOk r (Finished disk w all before)
+finished_at (Ok x) session disk w cs rest ready before all onward none is same =
+    subst (λ (l : List Command). Finished disk w l before) (sym same) (all_done session disk w cs rest before onward (is none))
 finished_at (Err e) session disk w cs rest ready before all onward none is same = tt
-
--- a run begins with calls that change nothing
-pub opened_moments : (old mid : Disk) (w : World) (cs : List Said) → OnlyNow old → Rests old mid → LeavesOnly old mid (AfterRun w cs old)
-opened_moments old mid w cs only_now rests = each_moment Stays old mid (AfterRun w cs old)
-    (λ told files left. inr (only_now told files left))
-    (λ told files same after. inr (same, subst old.may_leave (sym after.2) after.1)) rests
-
-pub run_moments : (old mid new : Disk) (w : World) (cs : List Said) → OnlyNow old → Rests old mid → LeavesOnly mid new (AfterStop w cs mid.told) → LeavesOnly old new (AfterRun w cs old)
-run_moments old mid new w cs only_now rests run = joined old mid new (AfterRun w cs old) (opened_moments old mid w cs only_now rests)
-    (wider mid new (AfterStop w cs mid.told) (AfterRun w cs old) (λ told files a. inl (subst (λ (l : List ℕ). AfterStop w cs l told files) rests.told a)) run)
-
-pub run_finished : {E : Type 0} (r : Result (Unit {0}) E) (old mid new : Disk) (w : World) (cs : List Said) → Rests old mid → OnOk r (Finished new w cs mid.told) → OnOk r (Finished new w cs old.told)
-run_finished (Ok x) old mid new w cs rests f = subst (Finished new w cs) rests.told f
-run_finished (Err e) old mid new w cs rests f = tt
-
--- where no moment is left but the last
-pub untouched_run : (d : Disk) (w : World) (cs : List Said) → OnlyNow d → LeavesOnly d d (AfterRun w cs d)
-untouched_run d w cs only_now = started d (AfterRun w cs d) (λ told files left. inr (only_now told files left))
 
 take_front : (front rest : List ℕ) → take (length front) (front ++ rest) ≡ front
 take_front [] rest = refl
 take_front (b ∷ front) rest = ap (λ bs. b ∷ bs) (take_front front rest)
 
 -- what was told in the end
-pub told_front : (old new : Disk) (w : World) (cs : List Said) → LeavesOnly old new (AfterRun w cs old) → new.left_since old.clock new.told new.files → TellsFront (replies_from w cs) old.told new.told
+pub told_front : (old new : Disk) (w : World) (cs : List Command) → LeavesOnly old new (AfterRun w cs old)
+    → new.left_since old.clock new.told new.files → TellsFront (replies_from w cs) old.told new.told
 told_front old new w cs run now = elim (run.each new.told new.files now) [
-  | inl a ↦ (length a.front, a.tells ∙ ap (λ (l : List ℕ). old.told ++ l) (sym (ap (take (length a.front)) a.prefix ∙ take_front a.front a.rest)))
+  | inl a ↦ (
+    length a.front,
+    a.tells
+        ∙ ap (λ (l : List ℕ). old.told ++ l) (sym (ap (take (length a.front)) a.prefix ∙ take_front a.front a.rest)),
+  )
   | inr same ↦ (0, same.0 ∙ sym (append-nil old.told))
 ]

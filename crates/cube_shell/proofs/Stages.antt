@@ -2,8 +2,9 @@
 use Rattle.std.proofs.Common.{◌≡◌, ◌⊎◌, inl, inr, ◌<◌, ◌≤◌, ℕ, ◌+◌, ◌-◌, suc, Bool, true, false, cond, List, [], ◌∷◌, ◌++◌, length, nat_le, nat_lt, slice_get, refl, sym, ◌∙◌, ap, subst, append_assoc, append-nil, arith, length-append}
 use Rattle.std.proofs.lemmas.Bool.Decides.{nat_tests}
 use Rattle.site_core.specs.Disk.{Files}
-use Rattle.cube_shell.specs.Script.{Said}
-use Rattle.cube_shell.specs.Machine.{World, act}
+use Rattle.script_lang.specs.declared.command.Command.{Command}
+use Rattle.cube_shell.specs.World.{World}
+use Rattle.cube_shell.specs.Machine.{act}
 use Rattle.cube_shell.specs.Keeps.{Keeps}
 use Rattle.cube_shell.specs.Headline.{replies_from, final, makes_stage, stages_after, stages, acked, AfterStop, Meanwhile}
 use Rattle.cube_shell.specs.Session.{Carried}
@@ -14,7 +15,7 @@ which true = inl refl
 which false = inr refl
 
 -- with nothing told, nothing is acknowledged
-pub acked_none : (w : World) (cs : List Said) → acked w cs 0 ≡ 0
+pub acked_none : (w : World) (cs : List Command) → acked w cs 0 ≡ 0
 acked_none w [] = refl
 acked_none w (c ∷ cs) =
     let some = reply_some w c in
@@ -22,7 +23,8 @@ acked_none w (c ∷ cs) =
     ap (λ b. cond b (cond (makes_stage w c) 1 0 + acked (act w c).0 cs (0 - length (act w c).1)) 0) no
 
 -- nothing of these commands is begun
-pub at_rest : (w : World) (cs : List Said) (before told : List ℕ) (files : Files) → told ≡ before → Keeps files w → AfterStop w cs before told files
+pub at_rest : (w : World) (cs : List Command) (before told : List ℕ) (files : Files) → told ≡ before → Keeps files w
+    → AfterStop w cs before told files
 at_rest w cs before told files same kept = record {
   front = [];
   rest = replies_from w cs;
@@ -43,16 +45,7 @@ nothing_left : (l : List ℕ) → length l ≡ 0 → l ≡ []
 nothing_left [] h = refl
 nothing_left (x ∷ xs) h = absurd (omega arith)
 
-module _ (w : World) (c : Said) (cs : List Said) where
-  next : World
-  next = (act w c).0
-
-  reply : List ℕ
-  reply = (act w c).1
-
-  step : ℕ
-  step = cond (makes_stage w c) 1 0
-
+module _ (w : World) (c : Command) (cs : List Command) where
   -- the whole reply, and so many bytes past it
   acked_past : (n : ℕ) → acked w (c ∷ cs) (length (act w c).1 + n) ≡ cond (makes_stage w c) 1 0 + acked (act w c).0 cs n
   acked_past n =
@@ -67,7 +60,8 @@ module _ (w : World) (c : Said) (cs : List Said) where
       ap (λ b. cond b (cond (makes_stage w c) 1 0 + acked (act w c).0 cs (n - length (act w c).1)) 0) no
 
   -- the stages after this command are stages from its start on
-  stage_past : (k : ℕ) → slice_get (stages w (c ∷ cs)) (cond (makes_stage w c) 1 0 + k) ≡ slice_get (stages (act w c).0 cs) k
+  stage_past : (k : ℕ) → slice_get (stages w (c ∷ cs)) (cond (makes_stage w c) 1 0 + k)
+      ≡ slice_get (stages (act w c).0 cs) k
   stage_past k =
       let one : 1 + k ≡ suc k = omega arith in
       let zero : 0 + k ≡ k = omega arith in
@@ -79,13 +73,19 @@ module _ (w : World) (c : Said) (cs : List Said) where
             ∙ ap (λ (v : World). slice_get (v ∷ stages_after (act w c).0 cs) k) (sym (no_stage w c kept))
       ]
 
-  goes_on : {before told : List ℕ} {files : Files} (m : Meanwhile w c before told files) → replies_from w (c ∷ cs) ≡ m.front ++ (m.rest ++ replies_from (act w c).0 cs)
-  goes_on m = ap (λ (l : List ℕ). l ++ replies_from (act w c).0 cs) m.prefix ∙ append_assoc m.front m.rest (replies_from (act w c).0 cs)
+  goes_on : {before told : List ℕ} {files : Files} (m : Meanwhile w c before told files)
+      → replies_from w (c ∷ cs) ≡ m.front ++ (m.rest ++ replies_from (act w c).0 cs)
+  goes_on m = ap (λ (l : List ℕ). l ++ replies_from (act w c).0 cs) m.prefix
+      ∙ append_assoc m.front m.rest (replies_from (act w c).0 cs)
 
   step_small : cond (makes_stage w c) 1 0 ≤ 1
-  step_small = elim (which (makes_stage w c)) [ inl made ↦ omega (arith, ap {B = ℕ} (λ b. cond b 1 0) made) | inr kept ↦ omega (arith, ap {B = ℕ} (λ b. cond b 1 0) kept) ]
+  step_small = elim (which (makes_stage w c)) [
+    | inl made ↦ omega (arith, ap {B = ℕ} (λ b. cond b 1 0) made)
+    | inr kept ↦ omega (arith, ap {B = ℕ} (λ b. cond b 1 0) kept)
+  ]
 
-  part : (before told : List ℕ) (files : Files) (m : Meanwhile w c before told files) → acked w (c ∷ cs) (length m.front) ≡ 0 → AfterStop w (c ∷ cs) before told files
+  part : (before told : List ℕ) (files : Files) (m : Meanwhile w c before told files) → acked w (c ∷ cs) (length m.front) ≡ 0
+      → AfterStop w (c ∷ cs) before told files
   part before told files m none = elim m.kept [
     | inl old ↦ record {
       front = m.front;
@@ -120,7 +120,8 @@ module _ (w : World) (c : Said) (cs : List Said) where
     | inr all ↦
         let none : m.rest ≡ [] = nothing_left m.rest (omega (arith, all, ap length m.prefix, length-append m.front m.rest)) in
         let is_whole : m.front ≡ (act w c).1 = sym (m.prefix ∙ ap (λ (l : List ℕ). m.front ++ l) none ∙ append-nil m.front) in
-        let count : acked w (c ∷ cs) (length m.front) ≡ cond (makes_stage w c) 1 0 + acked (act w c).0 cs 0 = ap (λ (l : List ℕ). acked w (c ∷ cs) (length l)) is_whole ∙ ap (acked w (c ∷ cs)) (omega arith) ∙ acked_past 0 in
+        let count : acked w (c ∷ cs) (length m.front) ≡ cond (makes_stage w c) 1 0 + acked (act w c).0 cs 0
+        = ap (λ (l : List ℕ). acked w (c ∷ cs) (length l)) is_whole ∙ ap (acked w (c ∷ cs)) (omega arith) ∙ acked_past 0 in
         record {
           front = m.front;
           rest = m.rest ++ replies_from (act w c).0 cs;
@@ -136,9 +137,11 @@ module _ (w : World) (c : Said) (cs : List Said) where
   ]
 
   -- a stop after this command is one of the whole
-  pub afterwards : (before told : List ℕ) (files : Files) → AfterStop (act w c).0 cs (before ++ (act w c).1) told files → AfterStop w (c ∷ cs) before told files
+  pub afterwards : (before told : List ℕ) (files : Files) → AfterStop (act w c).0 cs (before ++ (act w c).1) told files
+      → AfterStop w (c ∷ cs) before told files
   afterwards before told files a =
-      let count : acked w (c ∷ cs) (length ((act w c).1 ++ a.front)) ≡ cond (makes_stage w c) 1 0 + acked (act w c).0 cs (length a.front) = ap (acked w (c ∷ cs)) (length-append (act w c).1 a.front) ∙ acked_past (length a.front) in
+      let count : acked w (c ∷ cs) (length ((act w c).1 ++ a.front)) ≡ cond (makes_stage w c) 1 0 + acked (act w c).0 cs (length a.front)
+      = ap (acked w (c ∷ cs)) (length-append (act w c).1 a.front) ∙ acked_past (length a.front) in
       record {
         front = (act w c).1 ++ a.front;
         rest = a.rest;
@@ -153,7 +156,7 @@ module _ (w : World) (c : Said) (cs : List Said) where
       }
 
 -- nothing is carried out
-pub carried_none : (w : World) (cs : List Said) (before told : List ℕ) → told ≡ before → Carried w cs before w cs told
+pub carried_none : (w : World) (cs : List Command) (before told : List ℕ) → told ≡ before → Carried w cs before w cs told
 carried_none w cs before told same = record {
   front = [];
   tells = same ∙ sym (append-nil before);
@@ -163,24 +166,28 @@ carried_none w cs before told same = record {
 }
 
 -- one command more
-pub carried_more : (w : World) (cs : List Said) (before : List ℕ) (now : World) (c : Said) (rest mid : List Said) (told then : List ℕ)
-    → Carried w cs before now mid told → mid ≡ c ∷ rest → then ≡ told ++ (act now c).1 → Carried w cs before (act now c).0 rest then
+pub carried_more : (w : World) (cs : List Command) (before : List ℕ) (now : World) (c : Command) (rest mid : List Command)
+    (told then : List ℕ) → Carried w cs before now mid told → mid ≡ c ∷ rest → then ≡ told ++ (act now c).1
+    → Carried w cs before (act now c).0 rest then
 carried_more w cs before now c rest mid told then so_far first tells = record {
   front = so_far.front ++ (act now c).1;
   tells = tells ∙ ap (λ (l : List ℕ). l ++ (act now c).1) so_far.tells ∙ append_assoc before so_far.front (act now c).1;
-  replies = so_far.replies ∙ ap (λ (l : List Said). so_far.front ++ replies_from now l) first ∙ sym (append_assoc so_far.front (act now c).1 (replies_from (act now c).0 rest));
+  replies = so_far.replies ∙ ap (λ (l : List Command). so_far.front ++ replies_from now l) first
+      ∙ sym (append_assoc so_far.front (act now c).1 (replies_from (act now c).0 rest));
   final = so_far.final ∙ ap (final now) first;
-  onto = λ t files a. so_far.onto t files (subst (λ (l : List Said). AfterStop now l told t files) (sym first)
+  onto = λ t files a. so_far.onto t files (subst (λ (l : List Command). AfterStop now l told t files) (sym first)
       (afterwards now c rest told t files (subst (λ (l : List ℕ). AfterStop (act now c).0 rest l t files) tells a)));
 }
 
 -- two runs of commands
-pub carried_then : (w : World) (cs : List Said) (before : List ℕ) (mid : World) (left : List Said) (told : List ℕ) (now : World) (rest : List Said) (then : List ℕ)
-    → Carried w cs before mid left told → Carried mid left told now rest then → Carried w cs before now rest then
+pub carried_then : (w : World) (cs : List Command) (before : List ℕ) (mid : World) (left : List Command) (told : List ℕ)
+    (now : World) (rest : List Command) (then : List ℕ) → Carried w cs before mid left told → Carried mid left told now rest then
+    → Carried w cs before now rest then
 carried_then w cs before mid left told now rest then first second = record {
   front = first.front ++ second.front;
   tells = second.tells ∙ ap (λ (l : List ℕ). l ++ second.front) first.tells ∙ append_assoc before first.front second.front;
-  replies = first.replies ∙ ap (λ (l : List ℕ). first.front ++ l) second.replies ∙ sym (append_assoc first.front second.front (replies_from now rest));
+  replies = first.replies ∙ ap (λ (l : List ℕ). first.front ++ l) second.replies
+      ∙ sym (append_assoc first.front second.front (replies_from now rest));
   final = first.final ∙ second.final;
   onto = λ t files a. first.onto t files (second.onto t files a);
 }

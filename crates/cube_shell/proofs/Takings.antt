@@ -1,102 +1,107 @@
--- What a load of the store makes of the plain machine's facts.
-use Rattle.std.proofs.Common.{◌≡◌, ◌++◌, ℕ, List, length, inl, inr, Result, Ok, Err, IfOk, sym, ◌∙◌, ap, subst}
+-- What a load of the store makes of the plain machine's world.
+use Rattle.std.proofs.Common.{◌≡◌, ◌≤◌, ◌++◌, List, length, inl, inr, Some, sym, ◌∙◌, ap, subst}
 use Rattle.site_core.specs.Disk.{Files, Disk}
 use Rattle.site_core.specs.Moments.{LeavesOnly, IsStable}
-use Rattle.site_core.specs.Calls.{Stays, Rests}
-use Rattle.site_core.proofs.Run.{wider, started, each_moment}
-use Rattle.leaf_store.proofs.Standing.{rests_stable}
+use Rattle.site_core.proofs.Run.{wider}
+use Rattle.std.specs.List.{All}
+use Rattle.fact_model.specs.declared.fact.Fact.{Fact}
+use Rattle.cube_schema.specs.Agreeing.{Agrees}
+use Rattle.cube_schema.specs.declared.schema.Schema.{Schema}
 use Rattle.leaf_store.specs.declared.one_view.OneView.{OneView}
+use Rattle.leaf_store.specs.declared.opened.Opened.{Opened}
 use Rattle.leaf_store.specs.declared.store.Store.{Store}
 use Rattle.leaf_store.specs.declared.load.Refusal.{Refusal}
 use Rattle.leaf_store.specs.declared.load.Loaded.{Loaded}
 use Rattle.leaf_store.specs.declared.load.Loaded.TheVariants.{Committed, Refused}
+use Rattle.leaf_store.specs.Built.{one_view}
 use Rattle.leaf_store.specs.Held.{AreAccepted, IsLive, IsFactOf}
-use Rattle.leaf_store.specs.Loading.{IsLoaded, IsRefused}
+use Rattle.leaf_store.specs.Loading.{IsLoaded}
 use Rattle.leaf_store.specs.Loading as loading
-use Rattle.std.specs.List.{All}
-use Rattle.cube_shell.specs.declared.machine.Answered.{Answered}
-use Rattle.cube_shell.specs.declared.stop.Stop.{Stop}
-use Rattle.cube_shell.specs.Keeps.{the_schema, Keeps}
-use Rattle.cube_shell.specs.Machine.{World, Answer, accepted}
-use Rattle.cube_shell.specs.Session.{Belongs, KeepsEither}
-use Rattle.cube_shell.proofs.Limits.{all_accepted, all_refused, both_of}
-use Rattle.cube_shell.proofs.Standing.{belongs_left}
+use Rattle.leaf_store.proofs.Facts.{facts_of_view}
+use Rattle.leaf_store.proofs.Views.{few_measures}
+use Rattle.reply_text.specs.Replies.{committed_text}
+use Rattle.cube_shell.specs.Keeps.{IsLawful, Keeps}
+use Rattle.cube_shell.specs.Machine.{Answer, accepted}
+use Rattle.cube_shell.specs.Refusals.{refusal_text}
+use Rattle.cube_shell.specs.Session.{Belongs, Between, KeepsEither}
+use Rattle.cube_shell.specs.World.{Warehouse}
+use Rattle.cube_shell.proofs.Limits.{all_accepted, all_refused, both_agree}
 
--- ---- what was answered
+-- the facts of a block are those of the view
+pub batch_of_view : (opened : Opened) (batch : List Fact) → All (Agrees opened.schema) batch → All (IsFactOf opened.store.schema) batch
+batch_of_view opened batch agree = subst (λ (v : OneView). All (IsFactOf v) batch) (sym opened.view) (facts_of_view opened.schema opened.lawful opened.built batch agree)
 
--- the store that was handed on, and the text
-pub with_store : (result : Result Answered Stop) (store : Store) (disk : Disk) (facts next : World) → IfOk result (λ done. done.store ≡ store) → Belongs store disk facts → facts ≡ next
-    → IfOk result (λ done. Belongs done.store disk next)
-with_store (Ok done) store disk facts next same is to = subst (λ (s : Store). Belongs s disk next) (sym same) (subst (Belongs store disk) to is)
-with_store (Err stop) store disk facts next same is to = tt
+-- the store's view is that of the schema
+pub view_is : (opened : Opened) (disk : Disk) (warehouse : Warehouse) → Belongs opened disk warehouse → opened.store.schema ≡ one_view warehouse.schema
+view_is opened disk warehouse is = opened.view ∙ ap one_view is.schema
 
-pub with_reply : (result : Result Answered Stop) (text reply : List ℕ) → IfOk result (λ done. done.reply.items ≡ text) → text ≡ reply → IfOk result (λ done. done.reply.items ≡ reply)
-with_reply (Ok done) text reply same to = same ∙ to
-with_reply (Err stop) text reply same to = tt
+module _ (opened : Opened) (old new : Disk) (warehouse : Warehouse) (batch : List Fact) (is : Belongs opened old warehouse) (each : All (Agrees opened.schema) batch) where
+  abbrev next : Warehouse
+  next = record { schema = warehouse.schema; facts = warehouse.facts ++ batch }
 
--- ---- moments
+  agree : All (Agrees warehouse.schema) batch
+  agree = subst (λ (s : Schema). All (Agrees s) batch) is.schema each
 
--- nothing was called
-pub quiet_moments : (store : Store) (disk : Disk) (facts next : World) → Belongs store disk facts
-    → ((told : List ℕ) (files : Files) → disk.left_since disk.clock told files → (told ≡ disk.told) × disk.may_leave files)
-    → LeavesOnly disk disk (λ told files. (told ≡ disk.told) × KeepsEither facts next files)
-quiet_moments store disk facts next is only = started disk (λ told files. (told ≡ disk.told) × KeepsEither facts next files)
-    (λ told files left. let now = only told files left in (now.0, inl (belongs_left store disk facts is files now.1)))
+  pub measures : length warehouse.schema.measures ≤ 4
+  measures = few_measures warehouse.schema is.lawful.schema
 
-module _ (store : Store) (old new : Disk) (facts batch : World) (is : Belongs store old facts) where
-  -- a load keeps the facts, or what the plain machine makes of them
-  pub load_moments : (AreAccepted store.schema facts → IsLive store.schema store.live facts old.files
-      → LeavesOnly old new (λ told files. (told ≡ old.told) × loading.KeepsEither store.schema facts (facts ++ batch) files))
-      → LeavesOnly old new (λ told files. (told ≡ old.told) × KeepsEither facts (accepted facts batch).0 files)
+  lawful : AreAccepted (one_view warehouse.schema) (warehouse.facts ++ batch) → IsLawful next
+  lawful fine = record { schema = is.lawful.schema; built = is.lawful.built; agree = both_agree warehouse.schema warehouse.facts batch is.lawful.agree agree; accepted = fine }
+
+  -- a load keeps the world, or what the plain machine makes of it
+  pub load_moments : (AreAccepted opened.store.schema warehouse.facts → IsLive opened.store.schema opened.store.live warehouse.facts old.files
+      → LeavesOnly old new (λ told files. (told ≡ old.told) × loading.KeepsEither opened.store.schema warehouse.facts (warehouse.facts ++ batch) files))
+      → Between old new (Some warehouse) (accepted warehouse batch).0
   load_moments given =
-      let run = subst (λ (s : OneView). (AreAccepted s facts → IsLive s store.live facts old.files → LeavesOnly old new (λ told files. (told ≡ old.told) × loading.KeepsEither s facts (facts ++ batch) files))) is.schema given is.accepted is.live in
+      let run = subst (λ (v : OneView). (AreAccepted v warehouse.facts → IsLive v opened.store.live warehouse.facts old.files
+      → LeavesOnly old new (λ told files. (told ≡ old.told) × loading.KeepsEither v warehouse.facts (warehouse.facts ++ batch) files))) (view_is opened old warehouse is) given is.lawful.accepted is.live in
       wider old new _ _ (λ told files both. (both.0, by files both.1)) run
     where
-      by : (files : Files) → loading.KeepsEither the_schema facts (facts ++ batch) files → KeepsEither facts (accepted facts batch).0 files
-      by files (inl kept) = inl (record { accepted = is.accepted; kept = kept })
-      by files (inr both) = inr (subst (Keeps files) (sym (ap (λ (a : Answer). a.0) (all_accepted facts batch both.0))) (record { accepted = both.0; kept = both.1 }))
+      by : (files : Files) → loading.KeepsEither (one_view warehouse.schema) warehouse.facts (warehouse.facts ++ batch) files → KeepsEither (Some warehouse) (accepted warehouse batch).0 files
+      by files (inl kept) = inl (record { lawful = is.lawful; kept = kept })
+      by files (inr both) = inr (subst (Keeps files) (sym (ap (λ (a : Answer). a.0) (all_accepted warehouse batch measures both.0))) (record { lawful = lawful both.0; kept = both.1 }))
 
-  loaded_as : (loaded : Loaded) → (AreAccepted store.schema facts → IsLive store.schema store.live facts old.files → IsLoaded store.schema facts (facts ++ batch) new.files loaded)
-      → IsLoaded the_schema facts (facts ++ batch) new.files loaded
-  loaded_as loaded given = subst (λ (s : OneView). (AreAccepted s facts → IsLive s store.live facts old.files → IsLoaded s facts (facts ++ batch) new.files loaded)) is.schema given is.accepted is.live
+  loaded_as : (loaded : Loaded) → (AreAccepted opened.store.schema warehouse.facts → IsLive opened.store.schema opened.store.live warehouse.facts old.files
+      → IsLoaded opened.store.schema warehouse.facts (warehouse.facts ++ batch) new.files loaded) → IsLoaded (one_view warehouse.schema) warehouse.facts (warehouse.facts ++ batch) new.files loaded
+  loaded_as loaded given = subst (λ (v : OneView). (AreAccepted v warehouse.facts → IsLive v opened.store.live warehouse.facts old.files
+      → IsLoaded v warehouse.facts (warehouse.facts ++ batch) new.files loaded)) (view_is opened old warehouse is) given is.lawful.accepted is.live
 
   -- a batch that was committed
-  module _ (loaded : Loaded) (next : Store) (same : loaded ≡ Committed next) (stable : IsStable new)
-      (given : AreAccepted store.schema facts → IsLive store.schema store.live facts old.files → IsLoaded store.schema facts (facts ++ batch) new.files loaded) where
-    committed_as : IsLoaded the_schema facts (facts ++ batch) new.files (Committed next)
-    committed_as = subst (IsLoaded the_schema facts (facts ++ batch) new.files) same (loaded_as loaded given)
+  module _ (loaded : Loaded) (store : Store) (same : loaded ≡ Committed store) (stable : IsStable new)
+      (given : AreAccepted opened.store.schema warehouse.facts → IsLive opened.store.schema opened.store.live warehouse.facts old.files
+      → IsLoaded opened.store.schema warehouse.facts (warehouse.facts ++ batch) new.files loaded) where
+    committed_as : IsLoaded (one_view warehouse.schema) warehouse.facts (warehouse.facts ++ batch) new.files (Committed store)
+    committed_as = subst (IsLoaded (one_view warehouse.schema) warehouse.facts (warehouse.facts ++ batch) new.files) same (loaded_as loaded given)
 
-    pub committed_belongs : Belongs next new (facts ++ batch)
-    committed_belongs = record { accepted = committed_as.1; schema = committed_as.0; live = committed_as.2; stable = stable }
+    pub committed_belongs : (now : Opened) → now.schema ≡ opened.schema → now.store ≡ store → Belongs now new next
+    committed_belongs now schema at = record {
+      lawful = lawful committed_as.1;
+      schema = schema ∙ is.schema;
+      live = subst (λ (s : Store). IsLive (one_view warehouse.schema) s.live (warehouse.facts ++ batch) new.files) (sym at) committed_as.2;
+      stable = stable;
+    }
 
-    pub committed_answer : accepted facts batch ≡ (facts ++ batch, Rattle.cube_shell.specs.Replies.committed_text (length (facts ++ batch)))
-    committed_answer = all_accepted facts batch committed_as.1
+    pub committed_facts : store.live.facts ≡ length (warehouse.facts ++ batch)
+    committed_facts = committed_as.2.at.body_is.facts
+
+    pub committed_answer : accepted warehouse batch ≡ (Some next, committed_text (length (warehouse.facts ++ batch)))
+    committed_answer = all_accepted warehouse batch measures committed_as.1
 
   -- a batch that was refused
-  module _ (each : All (IsFactOf the_schema) batch) (loaded : Loaded) (next : Store) (refusal : Refusal) (same : loaded ≡ Refused next refusal) (stable : IsStable new)
-      (given : AreAccepted store.schema facts → IsLive store.schema store.live facts old.files → IsLoaded store.schema facts (facts ++ batch) new.files loaded) where
-    refused_as : IsLoaded the_schema facts (facts ++ batch) new.files (Refused next refusal)
-    refused_as = subst (IsLoaded the_schema facts (facts ++ batch) new.files) same (loaded_as loaded given)
+  module _ (loaded : Loaded) (store : Store) (refusal : Refusal) (same : loaded ≡ Refused store refusal) (stable : IsStable new)
+      (given : AreAccepted opened.store.schema warehouse.facts → IsLive opened.store.schema opened.store.live warehouse.facts old.files
+      → IsLoaded opened.store.schema warehouse.facts (warehouse.facts ++ batch) new.files loaded) where
+    refused_as : IsLoaded (one_view warehouse.schema) warehouse.facts (warehouse.facts ++ batch) new.files (Refused store refusal)
+    refused_as = subst (IsLoaded (one_view warehouse.schema) warehouse.facts (warehouse.facts ++ batch) new.files) same (loaded_as loaded given)
 
-    pub refused_belongs : Belongs next new facts
-    refused_belongs = record { accepted = is.accepted; schema = refused_as.0; live = refused_as.1; stable = stable }
+    pub refused_belongs : (now : Opened) → now.schema ≡ opened.schema → now.store ≡ store → Belongs now new warehouse
+    refused_belongs now schema at = record {
+      lawful = is.lawful;
+      schema = schema ∙ is.schema;
+      live = subst (λ (s : Store). IsLive (one_view warehouse.schema) s.live warehouse.facts new.files) (sym at) refused_as.1;
+      stable = stable;
+    }
 
-    pub refused_answer : accepted facts batch ≡ (facts, Rattle.cube_shell.specs.Replies.refusal_text refusal)
-    refused_answer = all_refused facts batch (both_of facts batch is.accepted.each each) refusal refused_as.2
-
--- ---- commands that only answer
-
-pub rests_belongs : (store : Store) (old new : Disk) (facts : World) → Rests old new → Belongs store old facts → Belongs store new facts
-rests_belongs store old new facts rests is = record {
-  accepted = is.accepted;
-  schema = is.schema;
-  live = subst (IsLive the_schema store.live facts) (sym rests.files) is.live;
-  stable = rests_stable old new rests is.stable;
-}
-
-pub rests_keeping : (store : Store) (old new : Disk) (facts next : World) → Belongs store old facts
-    → ((told : List ℕ) (files : Files) → old.left_since old.clock told files → (told ≡ old.told) × old.may_leave files) → Rests old new
-    → LeavesOnly old new (λ told files. (told ≡ old.told) × KeepsEither facts next files)
-rests_keeping store old new facts next is only rests = each_moment Stays old new (λ told files. (told ≡ old.told) × KeepsEither facts next files)
-    (λ told files left. let now = only told files left in (now.0, inl (belongs_left store old facts is files now.1)))
-    (λ told files same after. (same, inl (subst (λ (f : Files). Keeps f facts) (sym after.2) (belongs_left store old facts is after.0 after.1)))) rests
+    pub refused_answer : accepted warehouse batch ≡ (Some warehouse, refusal_text warehouse.schema refusal)
+    refused_answer = all_refused warehouse batch measures
+        (facts_of_view warehouse.schema is.lawful.schema is.lawful.built (warehouse.facts ++ batch) (both_agree warehouse.schema warehouse.facts batch is.lawful.agree agree)) refusal refused_as.2

@@ -57,13 +57,6 @@ StatusCause before now (Damaged file offset) = Unit {0}
 StatusCause before now TooLong = Unit {0}
 StatusCause before now Memory = Unit {0}
 
--- the same of reading the script
-abbrev pub PullCause : ℕ → ℕ → Status → Type 0
-PullCause before now Input = Rose before now
-PullCause before now Memory = Unit {0}
-PullCause before now TooLong = Unit {0}
-PullCause before now _ = ⊥
-
 -- no file is said to be damaged
 abbrev pub IsNoDamage : Stop → Type 0
 IsNoDamage stops.Disk = Unit {0}

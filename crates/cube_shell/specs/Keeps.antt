@@ -1,15 +1,27 @@
--- What files keep of accepted facts.
-use Rattle.std.specs.Prelude.{[], ◌∷◌, codes}
+-- What files keep of the plain machine's world.
+use Rattle.std.specs.Prelude.{IsTrue, Some, None}
+use Rattle.std.specs.List.{All}
 use Rattle.site_core.specs.Disk.{Files}
-use Rattle.leaf_store.specs.declared.one_view.OneView.{OneView}
-use Rattle.leaf_store.specs.Held.{AreAccepted, KeepsFacts}
-use Rattle.cube_shell.specs.Machine.{World}
+use Rattle.cube_schema.specs.Lawful.{IsSchema}
+use Rattle.cube_schema.specs.Agreeing.{Agrees}
+use Rattle.forest_root.specs.Keeps.{Keeps as Holds, KeepsNothing}
+use Rattle.leaf_store.specs.Built.{is_built, one_view}
+use Rattle.leaf_store.specs.Held.{AreAccepted, held}
+use Rattle.cube_shell.specs.World.{World, Warehouse}
 
--- the one schema
-abbrev pub the_schema : OneView
-the_schema = record { text = codes "attr a number\nmeasure m\nview a\n"; view = 0 ∷ []; measures = 1 }
+-- a schema that some block declares, and facts that agree with it and keep its limits
+pub record IsLawful (warehouse : Warehouse) : Type 0 where
+  pub schema : IsSchema warehouse.schema
+  pub built : IsTrue (is_built warehouse.schema)
+  pub agree : All (Agrees warehouse.schema) warehouse.facts
+  pub accepted : AreAccepted (one_view warehouse.schema) warehouse.facts
 
--- the files keep these facts, which the schema accepts
-pub record Keeps (files : Files) (facts : World) : Type 0 where
-  pub accepted : AreAccepted the_schema facts
-  pub kept : KeepsFacts the_schema facts files
+-- the files keep the schema and its facts
+pub record KeepsWarehouse (files : Files) (warehouse : Warehouse) : Type 0 where
+  pub lawful : IsLawful warehouse
+  pub kept : Holds files (held (one_view warehouse.schema) warehouse.facts)
+
+-- the files keep this world
+abbrev pub Keeps : Files → World → Type 0
+Keeps files None = KeepsNothing files
+Keeps files (Some warehouse) = KeepsWarehouse files warehouse

@@ -1,11 +1,10 @@
-pub mod Batch
+pub mod Damage
 pub mod Ends
 pub mod Headline
 pub mod Keeps
 pub mod Machine
-pub mod Points
 pub mod Pulls
-pub mod Reading
-pub mod Replies
-pub mod Script
+pub mod Refusals
 pub mod Session
+pub mod Slices
+pub mod World

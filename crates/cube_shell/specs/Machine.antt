@@ -1,60 +1,119 @@
--- The plain machine: accepted facts, and the reply to each command. The schema is `attr a number`, `measure m`, `view a`.
-use Rattle.std.specs.Prelude.{cond, List, [], ◌∷◌, ◌++◌, ℕ, Result, Ok, Err, codes, length, nat_le}
+-- The plain machine: the reply to each command, and what is known behind it.
+use Rattle.std.specs.Prelude.{ℕ, suc, cond, List, [], ◌∷◌, ◌++◌, codes, length, nat_le, Option, Some, None, Result, Ok, Err}
+use Rattle.cube_schema.specs.declared.schema.Schema.{Schema}
+use Rattle.cube_schema.specs.declared.schema.SchemaRefusal.{SchemaRefusal}
+use Rattle.cube_schema.specs.Reading.{schema_of}
+use Rattle.fact_csv.specs.Batch.{batch_of}
+use Rattle.fact_csv.specs.declared.refusal.RowRefusal.{RowRefusal}
 use Rattle.fact_model.specs.declared.fact.Fact.{Fact}
-use Rattle.fact_model.specs.declared.slice.Column.TheVariants.{Sum}
-use Rattle.fact_model.specs.declared.slice.Slice.{Slice}
 use Rattle.fact_model.specs.Fact.{mass, mass_limit}
 use Rattle.fact_model.specs.Rows.{rows, keys_of}
-use Rattle.cube_shell.specs.declared.batch.RowFault.{RowFault}
-use Rattle.cube_shell.specs.Script.{Said}
-use Rattle.cube_shell.specs.Script as says
-use Rattle.cube_shell.specs.Batch.{batch_from}
-use Rattle.cube_shell.specs.Replies.{line, committed_text, fault_text, rows_text}
+use Rattle.leaf_store.specs.Built.{is_built, one_view, view_of}
+use Rattle.leaf_store.specs.Held.{leaf_limit}
+use Rattle.script_lang.specs.declared.command.Block.{Block}
+use Rattle.script_lang.specs.declared.command.Block.TheVariants.{Whole, Long}
+use Rattle.script_lang.specs.declared.command.Command.{Command}
+use Rattle.script_lang.specs.declared.command.Command.TheVariants as says
+use Rattle.cube_shell.specs.World.{World, Warehouse}
+use Rattle.reply_text.specs.Replies.{line, committed_text, facts_text, schema_text, batch_text, mass_text, answer_text}
+use Rattle.view_rows.specs.Sums.{sums_of}
+use Rattle.cube_shell.specs.Slices.{asked}
 
--- what the machine knows: the accepted facts
-abbrev pub World : Type 0
-World = List Fact
-
--- the slice `sum(m) by a`
-abbrev pub the_slice : Slice
-the_slice = record { columns = Sum 0 ∷ []; group = 0 ∷ []; conds = [] }
+-- what is known behind a command, and the reply
+abbrev pub Answer : Type 0
+Answer = World × List ℕ
 
 -- the most facts
 abbrev pub fact_limit : ℕ
 fact_limit = 1099511627776
 
--- the most distinct values of the attribute, which are the points that one leaf has room for
-abbrev pub value_limit : ℕ
-value_limit = 68
+-- ---- schema
 
--- the accepted facts, and the reply
-abbrev pub Answer : Type 0
-Answer = World × List ℕ
+-- a schema without facts
+abbrev pub empty : Schema → World
+empty schema = Some (record { schema = schema; facts = [] })
 
--- all of these facts, with a batch of which this is the refusal that comes last
-abbrev pub if_built : World → List Fact → Answer
-if_built facts all =
-    cond (nat_le (length (keys_of the_slice all)) value_limit)
-    (all, committed_text (length all))
-    (facts, line (codes "refused unbuilt"))
+-- the schema of a block is declared, or the block is refused
+abbrev pub declared : Result Schema SchemaRefusal → Answer
+declared (Err refusal) = (None, schema_text refusal)
+declared (Ok schema) = cond (is_built schema) (empty schema, line (codes "declared")) (None, line (codes "refused unbuilt"))
 
--- a batch is accepted where the facts, the mass and the distinct values then keep their limits
-abbrev pub accepted : World → List Fact → Answer
-accepted facts batch =
-    let all = facts ++ batch in
+abbrev pub declare : World → Block → Answer
+declare (Some warehouse) block = (Some warehouse, line (codes "refused declared"))
+declare None Long = (None, line (codes "refused schema block"))
+declare None (Whole bytes) = declared (schema_of bytes)
+
+-- ---- load
+
+-- the name of the first of these measures, the first of which is measure m, whose mass passes the limit
+abbrev pub first_heavy : ℕ → List (List ℕ) → List Fact → Option (List ℕ)
+first_heavy m [] facts = None
+first_heavy m (name ∷ names) facts = cond (nat_le (mass m facts) mass_limit) (first_heavy (suc m) names facts) (Some name)
+
+-- all facts, where one leaf has room for the view's points
+abbrev pub within_leaf : Warehouse → List Fact → Answer
+within_leaf warehouse all =
+    cond (nat_le (length (keys_of (sums_of (view_of warehouse.schema) 0) all)) (leaf_limit (one_view warehouse.schema)))
+    (Some (record { schema = warehouse.schema; facts = all }), committed_text (length all))
+    (Some warehouse, line (codes "refused unbuilt"))
+
+-- all facts, where no mass passes the limit
+abbrev pub within_masses : Warehouse → List Fact → Option (List ℕ) → Answer
+within_masses warehouse all (Some name) = (Some warehouse, mass_text name)
+within_masses warehouse all None = within_leaf warehouse all
+
+-- a batch is accepted where all facts then keep the limits
+abbrev pub accepted : Warehouse → List Fact → Answer
+accepted warehouse batch =
+    let all = warehouse.facts ++ batch in
     cond (nat_le (length all) fact_limit)
-    (cond (nat_le (mass 0 all) mass_limit) (if_built facts all) (facts, line (codes "refused mass m")))
-    (facts, line (codes "refused facts"))
+    (within_masses warehouse all (first_heavy 0 warehouse.schema.measures all))
+    (Some warehouse, line (codes "refused facts"))
 
--- a block with a faulty row is refused
-abbrev pub load : World → Result (List Fact) RowFault → Answer
-load facts (Err fault) = (facts, fault_text fault)
-load facts (Ok batch) = accepted facts batch
+-- a batch with a faulty row is refused
+abbrev pub loaded : Warehouse → Result (List Fact) RowRefusal → Answer
+loaded warehouse (Err refusal) = (Some warehouse, batch_text refusal)
+loaded warehouse (Ok batch) = accepted warehouse batch
 
--- the facts behind a command, and the reply
-unfoldable pub act : World → Said → Answer
-act facts (says.Load rows) = load facts (batch_from 1 rows)
-act facts says.Slice = (facts, rows_text (rows facts the_slice))
-act facts says.Unbuilt = (facts, line (codes "refused unbuilt"))
-act facts says.Unknown = (facts, line (codes "refused unknown"))
-act facts says.OpenBlock = (facts, line (codes "refused open block"))
+abbrev pub load : World → Block → Answer
+load None block = (None, line (codes "refused no schema"))
+load (Some warehouse) Long = (Some warehouse, line (codes "refused block"))
+load (Some warehouse) (Whole bytes) = loaded warehouse (batch_of warehouse.schema bytes)
+
+-- ---- slice
+
+-- the sums of a measure by the view's attributes
+abbrev pub answered : Warehouse → Option ℕ → Answer
+answered warehouse None = (Some warehouse, line (codes "refused unbuilt"))
+answered warehouse (Some m) = (Some warehouse, answer_text (rows warehouse.facts (sums_of (view_of warehouse.schema) m)))
+
+abbrev pub slice : World → List ℕ → Answer
+slice None text = (None, line (codes "refused no schema"))
+slice (Some warehouse) text = answered warehouse (asked warehouse.schema text)
+
+-- ---- status
+
+abbrev pub status_text : World → List ℕ
+status_text None = line (codes "no schema")
+status_text (Some warehouse) = facts_text (length warehouse.facts)
+
+-- ---- all commands
+
+-- a command that only answers with a line
+abbrev pub replies_with : World → List ℕ → Answer
+replies_with world text = (world, line text)
+
+-- what is known behind a command, and the reply
+unfoldable pub act : World → Command → Answer
+act world (says.Schema block) = declare world block
+act world (says.Load block) = load world block
+act world (says.Slice text) = slice world text
+act world says.Status = (world, status_text world)
+act world says.LongLine = replies_with world (codes "refused long line")
+act world says.OpenBlock = replies_with world (codes "refused open block")
+act world (says.Begin block) = replies_with world (codes "refused unknown")
+act world (says.Step n) = replies_with world (codes "refused unknown")
+act world says.Finish = replies_with world (codes "refused unknown")
+act world says.Abandon = replies_with world (codes "refused unknown")
+act world (says.Generate start rows) = replies_with world (codes "refused unknown")
+act world says.Unknown = replies_with world (codes "refused unknown")

@@ -1,55 +1,77 @@
--- A session that stands for accepted facts, and how it goes on.
-use Rattle.std.specs.Prelude.{◌≡◌, ◌⊎◌, ℕ, List, ◌++◌}
+-- A session that stands for a world, and how it goes on.
+use Rattle.std.specs.Prelude.{◌≡◌, ◌⊎◌, ℕ, List, [], ◌++◌, codes, Some, None}
+use Rattle.script_lang.specs.declared.command.Command.{Command}
 use Rattle.site_core.specs.Disk.{Files, Disk}
-use Rattle.site_core.specs.Moments.{IsStable}
-use Rattle.leaf_store.specs.declared.store.Store.{Store}
-use Rattle.leaf_store.specs.Held.{AreAccepted, IsLive}
-use Rattle.leaf_store.specs.Opened.{IsOpened}
+use Rattle.site_core.specs.Moments.{IsStable, LeavesOnly}
+use Rattle.leaf_store.specs.declared.opened.Opened.{Opened}
+use Rattle.leaf_store.specs.Built.{one_view}
+use Rattle.leaf_store.specs.Held.{IsLive}
+use Rattle.leaf_store.specs.Opened.{IsEmpty, IsOpened}
+use Rattle.reply_text.specs.Replies.{line, facts_text}
+use Rattle.cube_shell.specs.declared.answered.Answered.{Answered}
 use Rattle.cube_shell.specs.declared.state.State.{State}
-use Rattle.cube_shell.specs.declared.state.State.TheVariants.{Stopped, Idle}
-use Rattle.cube_shell.specs.Script.{Said}
-use Rattle.cube_shell.specs.Machine.{World}
-use Rattle.cube_shell.specs.Keeps.{the_schema, Keeps}
+use Rattle.cube_shell.specs.declared.state.State.TheVariants.{Stopped, Empty, Idle}
 use Rattle.cube_shell.specs.Headline.{replies_from, final, AfterStop}
+use Rattle.cube_shell.specs.Keeps.{IsLawful, Keeps}
+use Rattle.cube_shell.specs.Machine.{Answer}
+use Rattle.cube_shell.specs.World.{World, Warehouse}
 
--- the store is that of the facts which the files keep
-pub record Belongs (store : Store) (disk : Disk) (facts : World) : Type 0 where
-  pub accepted : AreAccepted the_schema facts
-  pub schema : store.schema ≡ the_schema
-  pub live : IsLive the_schema store.live facts disk.files
+-- what was opened is the warehouse that the files keep
+pub record Belongs (opened : Opened) (disk : Disk) (warehouse : Warehouse) : Type 0 where
+  pub lawful : IsLawful warehouse
+  pub schema : opened.schema ≡ warehouse.schema
+  pub live : IsLive (one_view warehouse.schema) opened.store.live warehouse.facts disk.files
   -- a stop now leaves what a read gives
   pub stable : IsStable disk
 
 -- it has not stopped
 abbrev pub IsRunning : State → Type 0
 IsRunning Stopped = ⊥
-IsRunning (Idle store) = store.schema ≡ the_schema
+IsRunning Empty = Unit {0}
+IsRunning (Idle opened) = Unit {0}
 
 -- the files are those that it has opened, whatever they hold
 abbrev pub IsFit : State → Disk → Type 0
 IsFit Stopped disk = ⊥
-IsFit (Idle store) disk = IsOpened store.live disk
+IsFit Empty disk = IsEmpty disk
+IsFit (Idle opened) disk = IsOpened opened.store.live disk
 
--- it stands for these facts
+-- it stands for this world
 abbrev pub Stands : State → Disk → World → Type 0
-Stands Stopped disk facts = ⊥
-Stands (Idle store) disk facts = Belongs store disk facts
+Stands Stopped disk world = ⊥
+Stands Empty disk world = (world ≡ None) × IsEmpty disk
+Stands (Idle opened) disk world = (warehouse : Warehouse) × (world ≡ Some warehouse) × Belongs opened disk warehouse
 
--- the files keep these facts or those
+-- how many facts it knows
+abbrev pub state_text : State → List ℕ
+state_text Stopped = []
+state_text Empty = line (codes "no schema")
+state_text (Idle opened) = facts_text opened.store.live.facts
+
+-- the files keep this world or that
 abbrev pub KeepsEither : World → World → Files → Type 0
-KeepsEither facts next files = Keeps files facts ⊎ Keeps files next
+KeepsEither world next files = Keeps files world ⊎ Keeps files next
 
 -- Of these commands some are carried out, and the others are left. What a stop leaves that is right from here on is right from
 -- the start.
-pub record Carried (facts : World) (commands : List Said) (before : List ℕ) (now : World) (rest : List Said) (told : List ℕ) : Type 0 where
+pub record Carried (world : World) (commands : List Command) (before : List ℕ) (now : World) (rest : List Command) (told : List ℕ) : Type 0 where
   pub front : List ℕ
   pub tells : told ≡ before ++ front
-  pub replies : replies_from facts commands ≡ front ++ replies_from now rest
-  pub final : final facts commands ≡ final now rest
-  pub onto : (t : List ℕ) (files : Files) → AfterStop now rest told t files → AfterStop facts commands before t files
+  pub replies : replies_from world commands ≡ front ++ replies_from now rest
+  pub final : final world commands ≡ final now rest
+  pub onto : (t : List ℕ) (files : Files) → AfterStop now rest told t files → AfterStop world commands before t files
 
--- the session stands for facts from which the commands that are left are to be carried out
-pub record Onward (state : State) (disk : Disk) (facts : World) (commands : List Said) (before : List ℕ) (rest : List Said) : Type 0 where
+-- the session stands for a world from which the commands that are left are to be carried out
+pub record Onward (state : State) (disk : Disk) (world : World) (commands : List Command) (before : List ℕ) (rest : List Command) : Type 0 where
   pub now : World
   pub stands : Stands state disk now
-  pub carried : Carried facts commands before now rest disk.told
+  pub carried : Carried world commands before now rest disk.told
+
+-- nothing is told from old to new, and a stop at any moment there leaves files that keep this world or that
+abbrev pub Between : Disk → Disk → World → World → Type 0
+Between old new world next = LeavesOnly old new (λ told files. (told ≡ old.told) × KeepsEither world next files)
+
+-- the session stands for what is known behind a command, and the reply is the plain machine's
+pub record IsAnswer (disk : Disk) (answer : Answer) (done : Answered) : Type 0 where
+  pub stands : Stands done.state disk answer.0
+  pub reply : done.reply.items ≡ answer.1

@@ -1,17 +1,15 @@
 //! The warehouse behind its top call: a script in, one reply out for each command.
 #![tactic(auto)]
 
-mod batch;
-mod cut;
+mod answered;
+mod asked;
+mod declaring;
+mod loading;
 mod machine;
-mod printed;
 mod pull;
-mod reply;
-mod rows;
-mod schema;
-mod script;
 mod serve;
 mod session;
+mod slices;
 mod state;
 mod status;
 mod stop;

@@ -1,72 +1,33 @@
-//! The script, as a source gives it.
-ghost use Rattle.std.specs.Prelude.{◌≡◌, ◌≤◌, ◌<◌, ◌+◌, ◌^◌, ◌⊎◌, [], IsTrue, OnOk, IfOk, IfErr, IsErrOf, vec_len, length};
-ghost use Rattle.cube_shell.specs.Ends.{PullCause};
-ghost use Rattle.cube_shell.specs.Pulls.{Gave, GaveAtMost, Pulled};
+//! The script, as a source gives it in pieces.
+ghost use Rattle.std.specs.Prelude.{◌≡◌, ◌≤◌, ◌<◌, IsTrue, OnErr, IfOk, IfErr, vec_len};
+ghost use Rattle.site_core.specs.Causes.{HasCause};
+ghost use Rattle.site_core.specs.Pull.{Gives};
 
 use crate::status::Status;
 use site_core::Source;
 use std::alloc::{AllocError, Global};
 
-/// The most bytes that one pull asks for.
-const PIECE: usize = 65_536;
-
-/// Reads the whole script, and no more than one byte past the limit.
-pub fn read_script<S: Source>(alloc: Global, source: &mut S, limit: u64) -> Result<Vec<u8>, Status>
-    requires { limit ≤ 2 ^ 30 }
-    ensures script { IsTrue S.tells → IfOk result (λ script. script.items ≡ S.left source.old) }
-    ensures read { IsTrue S.tells → OnOk result (S.left source.new ≡ []) }
-    ensures too_long { IsTrue S.tells → IsErrOf result Status.TooLong
-        → Gave (S.left source.old) (S.left source.new) (limit + 1) }
-    ensures not_long { IsTrue S.tells → IsErrOf result Status.TooLong
-        ⊎ GaveAtMost (S.left source.old) (S.left source.new) limit }
-    ensures cause { IfErr result (PullCause (S.faults source.old) (S.faults source.new)) }
-    ensures no_fault { OnOk result (S.faults source.new ≡ S.faults source.old) }
+/// Room for one piece, which has 65,536 bytes.
+pub fn room(alloc: Global) -> Result<Vec<u8>, AllocError>
+    ensures { IfOk result (λ bytes. vec_len bytes ≡ 65536) }
 {
-    let mut script: Vec<u8> = Vec::new(alloc);
-    let mut buffer = zeros(alloc, PIECE)?;
-    loop {
-        let room = limit as usize + 1 - script.len();
-        let size = room.min(buffer.len());
-        if !pull_more(source, &mut buffer[..size], &mut script, limit)? {
-            return Ok(script);
-        }
-    }
+    vec![in alloc; 0u8; 65_536]
 }
 
-/// Pulls once, and tells whether anything came.
-fn pull_more<S: Source>(
-    source: &mut S,
-    into: &mut [u8],
-    script: &mut Vec<u8>,
-    limit: u64,
-) -> Result<bool, Status>
-    requires some { 0 < length into.old }
-    requires room { vec_len script.old + length into.old ≤ limit + 1 }
-    requires small { limit ≤ 2 ^ 30 }
-    ensures pulled { IsTrue S.tells → IfOk result
-        (λ more. Pulled (S.left source.old) (S.left source.new) script.old.items script.new.items more) }
-    ensures within { IfOk result (λ more. vec_len script.new ≤ limit) }
-    ensures longer { IfOk result (λ more. IsTrue more → vec_len script.old < vec_len script.new) }
-    ensures too_long { IsTrue S.tells → IsErrOf result Status.TooLong
-        → vec_len script.old + length (S.left source.old) ≡ limit + 1 + length (S.left source.new) }
-    ensures not_long { IsTrue S.tells → IsErrOf result Status.TooLong
-        ⊎ (vec_len script.old + length (S.left source.old) ≤ limit + length (S.left source.new)) }
-    ensures cause { IfErr result (PullCause (S.faults source.old) (S.faults source.new)) }
-    ensures no_fault { OnOk result (S.faults source.new ≡ S.faults source.old) }
+/// Pulls a piece of at most as many bytes as there is room for, and answers how many came: none only at the end of the script.
+/// A pull that fails takes nothing.
+pub fn pull<S: Source>(source: &mut S, into: &mut Vec<u8>) -> Result<usize, Status>
+    requires some { 0 < vec_len into.old }
+    requires few { vec_len into.old ≤ 65536 }
+    ensures bytes { IsTrue S.tells → IfOk result (λ count. Gives (S.left source.old) (S.left source.new) count into.new.items) }
+    ensures bound { IfOk result (λ count. count ≤ vec_len into.new) }
+    ensures room { vec_len into.new ≡ vec_len into.old }
+    ensures failed { IsTrue S.tells → OnErr result (S.left source.new ≡ S.left source.old) }
+    ensures input { IfErr result (λ status. status ≡ Status.Input) }
+    ensures cause { HasCause (S.faults source.old) (S.faults source.new) result }
 {
-    let count = match source.pull(into) {
-        Ok(count) => count,
-        Err(_) => return Err(Status::Input),
-    };
-    if (script.len() + count) as u64 > limit {
-        return Err(Status::TooLong);
+    match source.pull(into.as_mut_slice()) {
+        Ok(count) => Ok(count),
+        Err(_) => Err(Status::Input),
     }
-    script.extend_from_slice(&into[..count])?;
-    Ok(count > 0)
-}
-
-fn zeros(alloc: Global, count: usize) -> Result<Vec<u8>, AllocError>
-    ensures { IfOk result (λ bytes. vec_len bytes ≡ count) }
-{
-    vec![in alloc; 0u8; count]
 }

@@ -1,68 +1,86 @@
-//! The commands of a script, carried out one after the other.
-ghost use Rattle.std.specs.Prelude.{◌≡◌, [], ◌∷◌, IsTrue, List, OnOk, IfOk, IfErr};
+//! The commands of a script, carried out one after the other while its pieces come.
+ghost use Rattle.std.specs.Prelude.{◌≡◌, ◌≤◌, ◌+◌, ◌^◌, ◌↔◌, ◌++◌, ℕ, List, [], false, IsTrue, OnOk, IfErr, IsErrOf};
 ghost use Rattle.site_core.specs.Moments.{LeavesOnly};
-ghost use Rattle.cube_shell.specs.Ends.{IsNoDamage, StopCause};
+ghost use Rattle.script_lang.specs.Reading.{ready, to_come};
+ghost use Rattle.script_lang.specs.Script.{commands};
+ghost use Rattle.cube_shell.specs.Ends.{EndCause, StopCause, IsNoDamage, IsUndamaged, faults};
 ghost use Rattle.cube_shell.specs.Headline.{AfterStop, Finished};
-ghost use Rattle.cube_shell.specs.Machine.{World};
-ghost use Rattle.cube_shell.specs.Reading.{rows_of};
-ghost use Rattle.cube_shell.specs.Script.{Line, commands, commands_in};
+ghost use Rattle.cube_shell.specs.Pulls.{Gave, GaveAtMost};
 ghost use Rattle.cube_shell.specs.Session.{IsFit, IsRunning, Onward, Stands};
+ghost use Rattle.cube_shell.specs.World.{World};
 
-use crate::cut::cut;
-use crate::script::{Command, Rows, Taken, take_line};
+use crate::pull::{pull, room};
 use crate::session::Session;
+use crate::status::Status;
 use crate::stop::Stop;
-use site_core::Site;
+use script_lang::Lines;
+use site_core::{Site, Source};
 use std::alloc::Global;
 
-/// Carries out the commands of a script, and emits the reply to each.
-pub fn carry_out<T: Site>(
+/// Pulls a script piece by piece, and never more than one byte past the limit. After each pull it carries out every command that
+/// is whole by then, and emits its reply. Of a pull that passes the limit no byte is looked at.
+pub fn serve<S: Source, T: Site>(
     alloc: Global,
     session: &mut Session,
-    script: &[u8],
+    source: &mut S,
     site: &mut T,
+    limit: u64,
+) -> Result<(), Status>
+    requires limit { limit ≤ 2 ^ 30 }
+    requires running { IsRunning session.old.state }
+    requires fit { IsTrue T.tells → IsFit session.old.state (T.disk site.old) }
+
+    ensures finished { IsTrue S.tells → IsTrue T.tells → (world : World) → Stands session.old.state (T.disk site.old) world
+        → OnOk result (Finished (T.disk site.new) world (commands (S.left source.old)) (T.disk site.old).told) }
+    ensures any_moment { IsTrue S.tells → IsTrue T.tells → (world : World) → Stands session.old.state (T.disk site.old) world
+        → LeavesOnly (T.disk site.old) (T.disk site.new) (AfterStop world (commands (S.left source.old)) (T.disk site.old).told) }
+    ensures undamaged { IsTrue S.tells → IsTrue T.tells → (world : World) → Stands session.old.state (T.disk site.old) world
+        → IfErr result IsUndamaged }
+    ensures read { IsTrue S.tells → OnOk result (S.left source.new ≡ []) }
+    ensures too_long { IsTrue S.tells
+        → (IsErrOf result Status.TooLong ↔ Gave (S.left source.old) (S.left source.new) (limit + 1)) }
+    ensures bounded { IsTrue S.tells → GaveAtMost (S.left source.old) (S.left source.new) (limit + 1) }
+    ensures no_usage { IsErrOf result Status.Usage → ⊥ }
+    ensures cause { IfErr result (EndCause (faults (S.faults source.old) (T.disk_faults site.old) (T.told_faults site.old))
+        (faults (S.faults source.new) (T.disk_faults site.new) (T.told_faults site.new))) }
+{
+    let mut lines = Lines::new(alloc);
+    let mut buffer = room(alloc)?;
+    let mut taken = 0;
+    loop {
+        buffer.truncate((limit + 1 - taken) as usize);
+        let count = pull(source, &mut buffer)?;
+        if count == 0 {
+            return Ok(take_end(session, &mut lines, site)?);
+        }
+        taken += count as u64;
+        if taken > limit {
+            return Err(Status::TooLong);
+        }
+        take_piece(session, &mut lines, site, &buffer[..count])?;
+    }
+}
+
+/// Takes in a piece of the script, and carries out the commands that are whole then.
+fn take_piece<T: Site>(
+    session: &mut Session,
+    lines: &mut Lines,
+    site: &mut T,
+    piece: &[u8],
 ) -> Result<(), Stop>
     requires running { IsRunning session.old.state }
     requires fit { IsTrue T.tells → IsFit session.old.state (T.disk site.old) }
+    requires goes_on { lines.old.over ≡ false }
 
-    ensures finished { IsTrue T.tells → (facts : World) → Stands session.old.state (T.disk site.old) facts
-        → OnOk result (Finished (T.disk site.new) facts (commands script.now) (T.disk site.old).told) }
-    ensures any_moment { IsTrue T.tells → (facts : World) → Stands session.old.state (T.disk site.old) facts
-        → LeavesOnly (T.disk site.old) (T.disk site.new) (AfterStop facts (commands script.now) (T.disk site.old).told) }
-    ensures undamaged { IsTrue T.tells → (facts : World) → Stands session.old.state (T.disk site.old) facts
-        → IfErr result IsNoDamage }
-    ensures cause { IfErr result (StopCause (T.disk_faults site.old) (T.disk_faults site.new) (T.told_faults site.old) (T.told_faults site.new)) }
-{
-    let mut block = None;
-    let mut rest = script;
-    while !rest.is_empty() {
-        let (line, after) = cut(rest, b'\n');
-        rest = after;
-        block = take(alloc, session, block, line, site)?;
-    }
-    finish(session, block, site)
-}
-
-/// Takes one line, and carries out the command that ends with it. It gives the rows so far of the block that is open behind it,
-/// if one is.
-fn take<'a, T: Site>(
-    alloc: Global,
-    session: &mut Session,
-    block: Option<Rows<'a>>,
-    line: &'a [u8],
-    site: &mut T,
-) -> Result<Option<Rows<'a>>, Stop>
-    requires running { IsRunning session.old.state }
-    requires fit { IsTrue T.tells → IsFit session.old.state (T.disk site.old) }
-
-    ensures onward { IsTrue T.tells → (facts : World) (behind : List Line) → Stands session.old.state (T.disk site.old) facts
-        → IfOk result (λ more. Onward session.new.state (T.disk site.new) facts (commands_in (rows_of block.entry) (line.now ∷ behind))
-        (T.disk site.old).told (commands_in (rows_of more) behind)) }
-    ensures any_moment { IsTrue T.tells → (facts : World) (behind : List Line) → Stands session.old.state (T.disk site.old) facts
+    ensures onward { IsTrue T.tells → (world : World) (more : List ℕ) → Stands session.old.state (T.disk site.old) world
+        → OnOk result (Onward session.new.state (T.disk site.new) world (to_come lines.old (piece.now ++ more))
+        (T.disk site.old).told (to_come lines.new more)) }
+    ensures any_moment { IsTrue T.tells → (world : World) (more : List ℕ) → Stands session.old.state (T.disk site.old) world
         → LeavesOnly (T.disk site.old) (T.disk site.new)
-        (AfterStop facts (commands_in (rows_of block.entry) (line.now ∷ behind)) (T.disk site.old).told) }
-    ensures undamaged { IsTrue T.tells → (facts : World) → Stands session.old.state (T.disk site.old) facts
+        (AfterStop world (to_come lines.old (piece.now ++ more)) (T.disk site.old).told) }
+    ensures undamaged { IsTrue T.tells → (world : World) → Stands session.old.state (T.disk site.old) world
         → IfErr result IsNoDamage }
+    ensures goes_on { lines.new.over ≡ false }
 
     ensures running { OnOk result (IsRunning session.new.state) }
     ensures fit { IsTrue T.tells → OnOk result (IsFit session.new.state (T.disk site.new)) }
@@ -70,29 +88,54 @@ fn take<'a, T: Site>(
     ensures disk_faults { OnOk result (T.disk_faults site.new ≡ T.disk_faults site.old) }
     ensures told_faults { OnOk result (T.told_faults site.new ≡ T.told_faults site.old) }
 {
-    let Taken { command, block } = take_line(alloc, block, line)?;
-    let Some(command) = command else {
-        return Ok(block);
-    };
-    session.command(site, &command)?;
-    Ok(block)
+    lines.feed(piece)?;
+    carry_out(session, lines, site)
 }
 
-/// Ends a script behind its last line, where a block is open with these rows or none is.
-fn finish<T: Site>(session: &mut Session, block: Option<Rows<'_>>, site: &mut T) -> Result<(), Stop>
+/// Carries out the commands that are left at the end of the script.
+fn take_end<T: Site>(session: &mut Session, lines: &mut Lines, site: &mut T) -> Result<(), Stop>
+    requires running { IsRunning session.old.state }
+    requires fit { IsTrue T.tells → IsFit session.old.state (T.disk site.old) }
+    requires goes_on { lines.old.over ≡ false }
+
+    ensures finished { IsTrue T.tells → (world : World) → Stands session.old.state (T.disk site.old) world
+        → OnOk result (Finished (T.disk site.new) world (to_come lines.old []) (T.disk site.old).told) }
+    ensures any_moment { IsTrue T.tells → (world : World) → Stands session.old.state (T.disk site.old) world
+        → LeavesOnly (T.disk site.old) (T.disk site.new) (AfterStop world (to_come lines.old []) (T.disk site.old).told) }
+    ensures undamaged { IsTrue T.tells → (world : World) → Stands session.old.state (T.disk site.old) world
+        → IfErr result IsNoDamage }
+
+    ensures cause { IfErr result (StopCause (T.disk_faults site.old) (T.disk_faults site.new) (T.told_faults site.old) (T.told_faults site.new)) }
+    ensures disk_faults { OnOk result (T.disk_faults site.new ≡ T.disk_faults site.old) }
+    ensures told_faults { OnOk result (T.told_faults site.new ≡ T.told_faults site.old) }
+{
+    lines.end();
+    carry_out(session, lines, site)
+}
+
+/// Carries out the commands that are whole by now, and emits the reply to each.
+fn carry_out<T: Site>(session: &mut Session, lines: &mut Lines, site: &mut T) -> Result<(), Stop>
     requires running { IsRunning session.old.state }
     requires fit { IsTrue T.tells → IsFit session.old.state (T.disk site.old) }
 
-    ensures finished { IsTrue T.tells → (facts : World) → Stands session.old.state (T.disk site.old) facts
-        → OnOk result (Finished (T.disk site.new) facts (commands_in (rows_of block.entry) []) (T.disk site.old).told) }
-    ensures any_moment { IsTrue T.tells → (facts : World) → Stands session.old.state (T.disk site.old) facts
-        → LeavesOnly (T.disk site.old) (T.disk site.new) (AfterStop facts (commands_in (rows_of block.entry) []) (T.disk site.old).told) }
-    ensures undamaged { IsTrue T.tells → (facts : World) → Stands session.old.state (T.disk site.old) facts
+    ensures onward { IsTrue T.tells → (world : World) (more : List ℕ) → Stands session.old.state (T.disk site.old) world
+        → OnOk result (Onward session.new.state (T.disk site.new) world (to_come lines.old more) (T.disk site.old).told
+        (to_come lines.new more)) }
+    ensures any_moment { IsTrue T.tells → (world : World) (more : List ℕ) → Stands session.old.state (T.disk site.old) world
+        → LeavesOnly (T.disk site.old) (T.disk site.new) (AfterStop world (to_come lines.old more) (T.disk site.old).told) }
+    ensures undamaged { IsTrue T.tells → (world : World) → Stands session.old.state (T.disk site.old) world
         → IfErr result IsNoDamage }
+    ensures ready { OnOk result (ready lines.new ≡ []) }
+    ensures over { lines.new.over ≡ lines.old.over }
+
+    ensures running { OnOk result (IsRunning session.new.state) }
+    ensures fit { IsTrue T.tells → OnOk result (IsFit session.new.state (T.disk site.new)) }
     ensures cause { IfErr result (StopCause (T.disk_faults site.old) (T.disk_faults site.new) (T.told_faults site.old) (T.told_faults site.new)) }
+    ensures disk_faults { OnOk result (T.disk_faults site.new ≡ T.disk_faults site.old) }
+    ensures told_faults { OnOk result (T.told_faults site.new ≡ T.told_faults site.old) }
 {
-    if block.is_some() {
-        return session.command(site, &Command::OpenBlock);
+    while let Some(command) = lines.next_command()? {
+        session.command(site, command)?;
     }
     Ok(())
 }

@@ -1,12 +1,14 @@
 //! What a session has between two commands.
 
-use leaf_store::Store;
+use leaf_store::Opened;
 
 /// What a session has.
 #[derive(Drop)]
 pub enum State {
     /// It has stopped, or a command is under way.
     Stopped,
-    /// The files are opened, and stand as this store says.
-    Idle(Store),
+    /// The files are opened, and keep no schema.
+    Empty,
+    /// The files are opened, and keep this warehouse.
+    Idle(Opened),
 }

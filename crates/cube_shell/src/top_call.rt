@@ -2,15 +2,17 @@
 ghost use Rattle.std.specs.Prelude.{◌≡◌, ◌≢◌, ◌≤◌, ◌+◌, ◌^◌, ◌↔◌, [], IsTrue, OnOk, IfErr, IsErrOf, length};
 ghost use Rattle.site_core.specs.Causes.{Rose};
 ghost use Rattle.site_core.specs.Moments.{LeavesOnly};
+ghost use Rattle.leaf_store.specs.Breaks.{BreaksAt};
+ghost use Rattle.leaf_store.specs.Opening.{Place};
+ghost use Rattle.script_lang.specs.Script.{commands};
+ghost use Rattle.cube_shell.specs.Damage.{EndsAt};
 ghost use Rattle.cube_shell.specs.Ends.{EndCause, StatusCause, IsDoneOrMemory, IsUndamaged, faults};
 ghost use Rattle.cube_shell.specs.Headline.{AfterRun, Finished, Headline};
 ghost use Rattle.cube_shell.specs.Keeps.{Keeps};
-ghost use Rattle.cube_shell.specs.Machine.{World};
-ghost use Rattle.cube_shell.specs.Pulls.{Gave};
-ghost use Rattle.cube_shell.specs.Script.{commands};
+ghost use Rattle.cube_shell.specs.Pulls.{Gave, GaveAtMost};
+ghost use Rattle.cube_shell.specs.World.{World};
 
-use crate::pull::read_script;
-use crate::serve::carry_out;
+use crate::serve::serve;
 use crate::session::Session;
 use crate::status::Status;
 use site_core::{Site, Source};
@@ -19,7 +21,7 @@ use std::alloc::Global;
 /// The most bytes of a script.
 const SCRIPT_LIMIT: u64 = 1 << 30;
 
-/// Runs a script of at most 2^30 bytes: opens the files, reads the script from the source, carries out its commands, and tells the
+/// Runs a script of at most 2^30 bytes: opens the files, pulls the script from the source, carries out its commands, and tells the
 /// reply to each. It is `run_within` with that limit.
 pub fn run<S: Source, T: Site>(
     alloc: Global,
@@ -27,29 +29,36 @@ pub fn run<S: Source, T: Site>(
     source: &mut S,
     site: &mut T,
 ) -> Status
-    ensures headline { IsTrue S.tells → IsTrue T.tells → (facts : World) → Keeps (T.disk site.old).files facts
-        → Headline facts (S.left source.old) (S.left source.new) (T.disk site.old) (T.disk site.new) result }
-    ensures undamaged { IsTrue S.tells → IsTrue T.tells → (facts : World) → Keeps (T.disk site.old).files facts
+    ensures headline { IsTrue S.tells → IsTrue T.tells → (world : World) → Keeps (T.disk site.old).files world
+        → Headline world (S.left source.old) (S.left source.new) (T.disk site.old) (T.disk site.new) result }
+    ensures undamaged { IsTrue S.tells → IsTrue T.tells → (world : World) → Keeps (T.disk site.old).files world
         → IsUndamaged result }
-    ensures complete { IsTrue S.tells → IsTrue T.tells → (facts : World) → Keeps (T.disk site.old).files facts
+    ensures complete { IsTrue S.tells → IsTrue T.tells → (world : World) → Keeps (T.disk site.old).files world
         → words.now ≡ [] → length (S.left source.old) ≤ 2 ^ 30
         → ¬ (Rose (S.faults source.old) (S.faults source.new))
         → ¬ (Rose (T.disk_faults site.old) (T.disk_faults site.new))
         → ¬ (Rose (T.told_faults site.old) (T.told_faults site.new)) → IsDoneOrMemory result }
+    ensures broken { IsTrue T.tells → words.now ≡ [] → (place : Place) → BreaksAt (T.disk site.old).files place
+        → EndsAt place result }
+    ensures unpulled { IsTrue T.tells → words.now ≡ [] → (place : Place) → BreaksAt (T.disk site.old).files place
+        → source.new ≡ source.old }
+    ensures untold { IsTrue T.tells → words.now ≡ [] → (place : Place) → BreaksAt (T.disk site.old).files place
+        → (T.disk site.new).told ≡ (T.disk site.old).told }
     ensures usage { (result ≡ Status.Usage) ↔ (words.now ≢ []) }
     ensures unread { result ≡ Status.Usage → source.new ≡ source.old }
     ensures untouched { result ≡ Status.Usage → site.new ≡ site.old }
     ensures too_long { IsTrue S.tells
         → ((result ≡ Status.TooLong) ↔ Gave (S.left source.old) (S.left source.new) (2 ^ 30 + 1)) }
+    ensures bounded { IsTrue S.tells → GaveAtMost (S.left source.old) (S.left source.new) (2 ^ 30 + 1) }
     ensures cause { StatusCause (faults (S.faults source.old) (T.disk_faults site.old) (T.told_faults site.old))
         (faults (S.faults source.new) (T.disk_faults site.new) (T.told_faults site.new)) result }
 {
     run_within(alloc, words, source, site, SCRIPT_LIMIT)
 }
 
-/// Runs a script within a limit of bytes, which is at most 2^30. Any word is `Usage`. The files are opened first; then the script
-/// is read whole, and at most one byte past the limit, before its first command is carried out. Each status but `Done` ends the
-/// run at once.
+/// Runs a script within a limit of bytes, which is at most 2^30. Any word is `Usage`. The files are opened first, and damage that
+/// is found then is named before the first pull. The script is pulled in pieces, and at most one byte past the limit; after each
+/// pull every command that is whole by then is carried out. Each status but `Done` ends the run at once.
 pub fn run_within<S: Source, T: Site>(
     alloc: Global,
     words: &[String],
@@ -58,20 +67,27 @@ pub fn run_within<S: Source, T: Site>(
     limit: u64,
 ) -> Status
     requires { limit ≤ 2 ^ 30 }
-    ensures headline { IsTrue S.tells → IsTrue T.tells → (facts : World) → Keeps (T.disk site.old).files facts
-        → Headline facts (S.left source.old) (S.left source.new) (T.disk site.old) (T.disk site.new) result }
-    ensures undamaged { IsTrue S.tells → IsTrue T.tells → (facts : World) → Keeps (T.disk site.old).files facts
+    ensures headline { IsTrue S.tells → IsTrue T.tells → (world : World) → Keeps (T.disk site.old).files world
+        → Headline world (S.left source.old) (S.left source.new) (T.disk site.old) (T.disk site.new) result }
+    ensures undamaged { IsTrue S.tells → IsTrue T.tells → (world : World) → Keeps (T.disk site.old).files world
         → IsUndamaged result }
-    ensures complete { IsTrue S.tells → IsTrue T.tells → (facts : World) → Keeps (T.disk site.old).files facts
+    ensures complete { IsTrue S.tells → IsTrue T.tells → (world : World) → Keeps (T.disk site.old).files world
         → words.now ≡ [] → length (S.left source.old) ≤ limit
         → ¬ (Rose (S.faults source.old) (S.faults source.new))
         → ¬ (Rose (T.disk_faults site.old) (T.disk_faults site.new))
         → ¬ (Rose (T.told_faults site.old) (T.told_faults site.new)) → IsDoneOrMemory result }
+    ensures broken { IsTrue T.tells → words.now ≡ [] → (place : Place) → BreaksAt (T.disk site.old).files place
+        → EndsAt place result }
+    ensures unpulled { IsTrue T.tells → words.now ≡ [] → (place : Place) → BreaksAt (T.disk site.old).files place
+        → source.new ≡ source.old }
+    ensures untold { IsTrue T.tells → words.now ≡ [] → (place : Place) → BreaksAt (T.disk site.old).files place
+        → (T.disk site.new).told ≡ (T.disk site.old).told }
     ensures usage { (result ≡ Status.Usage) ↔ (words.now ≢ []) }
     ensures unread { result ≡ Status.Usage → source.new ≡ source.old }
     ensures untouched { result ≡ Status.Usage → site.new ≡ site.old }
     ensures too_long { IsTrue S.tells
         → ((result ≡ Status.TooLong) ↔ Gave (S.left source.old) (S.left source.new) (limit + 1)) }
+    ensures bounded { IsTrue S.tells → GaveAtMost (S.left source.old) (S.left source.new) (limit + 1) }
     ensures cause { StatusCause (faults (S.faults source.old) (T.disk_faults site.old) (T.told_faults site.old))
         (faults (S.faults source.new) (T.disk_faults site.new) (T.told_faults site.new)) result }
 {
@@ -90,18 +106,25 @@ fn attempt<S: Source, T: Site>(
     limit: u64,
 ) -> Result<(), Status>
     requires { limit ≤ 2 ^ 30 }
-    ensures finished { IsTrue S.tells → IsTrue T.tells → (facts : World) → Keeps (T.disk site.old).files facts
-        → OnOk result (Finished (T.disk site.new) facts (commands (S.left source.old)) (T.disk site.old).told) }
-    ensures any_moment { IsTrue S.tells → IsTrue T.tells → (facts : World) → Keeps (T.disk site.old).files facts
-        → LeavesOnly (T.disk site.old) (T.disk site.new) (AfterRun facts (commands (S.left source.old)) (T.disk site.old)) }
-    ensures undamaged { IsTrue S.tells → IsTrue T.tells → (facts : World) → Keeps (T.disk site.old).files facts
+    ensures finished { IsTrue S.tells → IsTrue T.tells → (world : World) → Keeps (T.disk site.old).files world
+        → OnOk result (Finished (T.disk site.new) world (commands (S.left source.old)) (T.disk site.old).told) }
+    ensures any_moment { IsTrue S.tells → IsTrue T.tells → (world : World) → Keeps (T.disk site.old).files world
+        → LeavesOnly (T.disk site.old) (T.disk site.new) (AfterRun world (commands (S.left source.old)) (T.disk site.old)) }
+    ensures undamaged { IsTrue S.tells → IsTrue T.tells → (world : World) → Keeps (T.disk site.old).files world
         → IfErr result IsUndamaged }
+    ensures broken { IsTrue T.tells → words.now ≡ [] → (place : Place) → BreaksAt (T.disk site.old).files place
+        → IfErr result (EndsAt place) × OnOk result ⊥ }
+    ensures unpulled { IsTrue T.tells → words.now ≡ [] → (place : Place) → BreaksAt (T.disk site.old).files place
+        → source.new ≡ source.old }
+    ensures untold { IsTrue T.tells → words.now ≡ [] → (place : Place) → BreaksAt (T.disk site.old).files place
+        → (T.disk site.new).told ≡ (T.disk site.old).told }
     ensures read { IsTrue S.tells → OnOk result (S.left source.new ≡ []) }
     ensures usage { IsErrOf result Status.Usage ↔ (words.now ≢ []) }
     ensures unread { words.now ≢ [] → source.new ≡ source.old }
     ensures untouched { words.now ≢ [] → site.new ≡ site.old }
     ensures too_long { IsTrue S.tells
         → (IsErrOf result Status.TooLong ↔ Gave (S.left source.old) (S.left source.new) (limit + 1)) }
+    ensures bounded { IsTrue S.tells → GaveAtMost (S.left source.old) (S.left source.new) (limit + 1) }
     ensures cause { IfErr result (EndCause (faults (S.faults source.old) (T.disk_faults site.old) (T.told_faults site.old))
         (faults (S.faults source.new) (T.disk_faults site.new) (T.told_faults site.new))) }
 {
@@ -109,6 +132,5 @@ fn attempt<S: Source, T: Site>(
         return Err(Status::Usage);
     }
     let mut session = Session::start(alloc, site)?;
-    let script = read_script(alloc, source, limit)?;
-    Ok(carry_out(alloc, &mut session, &script, site)?)
+    serve(alloc, &mut session, source, site, limit)
 }

@@ -130,16 +130,3 @@ fn a_batch_may_have_262144_rows(rt: HostRuntime) -> Result<(), Fail> {
     }
     Ok(())
 }
-
-#[test]
-fn quoted_numbers(rt: HostRuntime) -> Result<(), Fail> {
-    let alloc = rt.alloc();
-    let schema = Schema::read(alloc, b"attr a number\nmeasure m\nview a\n")?;
-    let quoted = read_batch(alloc, &schema, b"\"3\",\"5\"\n")?;
-    assert_eq!(rt; shown(alloc, &quoted)?.as_slice(), b"3,5\n".as_slice());
-    let longer = refusal(alloc, &schema, b"1,2,3\n");
-    assert_eq!(rt; longer, Some(RowRefusal::Fields(1)));
-    let empty = read_batch(alloc, &schema, b"")?;
-    assert_eq!(rt; shown(alloc, &empty)?.as_slice(), b"".as_slice());
-    Ok(())
-}

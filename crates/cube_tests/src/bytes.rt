@@ -5,6 +5,9 @@ use leaf_pack::LeafBuffer;
 use page_fmt::{BadPage, Head, Node, take_page};
 use std::test::Fail;
 
+/// The text of the dumped schema.
+pub const DUMPED_NAMES: &str = "attr a number\nmeasure m\nview a\n";
+
 const SHAPE: Shape = Shape {
     dims: 1,
     measures: 1,
@@ -26,6 +29,32 @@ pub fn dumped_leaf() -> [u8; 4096] {
     page[111] = 4;
     page[127] = 5;
     page
+}
+
+/// The bodies of generation 0, without facts, and of generation 1, with three facts of mass 11 at two points; and both gates.
+pub fn dumped_root() -> [u8; 2050] {
+    let mut root = [0; 2050];
+    root[..8].copy_from_slice(b"CUBETREE");
+    root[1024..1032].copy_from_slice(b"CUBETREE");
+    for (place, byte) in [
+        (9usize, 1u8),
+        (11, 1),
+        (15, 31),
+        (31, 31),
+        (1033, 1),
+        (1035, 1),
+        (1039, 31),
+        (1047, 1),
+        (1055, 31),
+        (1063, 3),
+        (1079, 11),
+        (1135, 2),
+        (2048, 1),
+        (2049, 1),
+    ] {
+        root[place % 2050] = byte;
+    }
+    root
 }
 
 #[test]

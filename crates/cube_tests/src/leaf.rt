@@ -1,44 +1,39 @@
 //! Warehouses of one leaf: runs one after the other over the same files, the files themselves, and what a stop leaves.
-use crate::bytes::dumped_leaf;
-use cube_shell::{Status, run};
-use fact_model::{Memory, Text};
-use site_mem::{Call, MemorySite, MemorySource};
+use crate::bytes::{DUMPED_NAMES, dumped_leaf, dumped_root};
+use crate::runs::run_over;
+use cube_shell::Status;
+use fact_model::Text;
+use site_mem::{Call, MemorySite};
 use std::alloc::Global;
 use std::process::Abort;
 use std::test::Fail;
 
-const LOAD: &str = "load\n3,5\n1,-2\n3,4\nend\n";
+const SCHEMA: &str = "schema\nattr a number\nmeasure m\nview a\nend\n";
 
-const TWO_LOADS: &str = "load\n3,5\n1,-2\n3,4\nend\nload\n2,6\n3,1\nend\n";
+const SCHEMA_AND_LOAD: &str =
+    "schema\nattr a number\nmeasure m\nview a\nend\nload\n3,5\n1,-2\n3,4\nend\n";
 
-const SLICE: &str = "slice sum(m) by a\n";
+const SCHEMA_AND_TWO_LOADS: &str =
+    "schema\nattr a number\nmeasure m\nview a\nend\nload\n3,5\n1,-2\n3,4\nend\nload\n2,6\n3,1\nend\n";
 
-/// The slice behind no load, behind the first, and behind both.
-const STAGES: [&str; 3] = [
-    "rows 0\n",
-    "1,-2\n3,9\nrows 2\n",
-    "1,-2\n2,6\n3,10\nrows 3\n",
+const LOOK: &str = "status\nslice sum(m) by a\n";
+
+/// What a look tells without a schema, behind it, behind the first load, and behind both.
+const STAGES: [&str; 4] = [
+    "no schema\nrefused no schema\n",
+    "facts 0\nrows 0\n",
+    "facts 3\n1,-2\n3,9\nrows 2\n",
+    "facts 5\n1,-2\n2,6\n3,10\nrows 3\n",
 ];
-
-/// Runs a script over the files of a site.
-fn run_over(alloc: Global, site: &mut MemorySite, script: &[u8]) -> Result<Status, Memory> {
-    let mut source = MemorySource::new(Text::from_bytes(alloc, script)?, 64);
-    Ok(run(alloc, &[], &mut source, site))
-}
-
-/// What a slice over these files tells.
-fn sliced(rt: &impl Abort, alloc: Global, files: [Text; 4]) -> Result<MemorySite, Fail> {
-    let mut site = MemorySite::from_files(alloc, files)?;
-    let ended = run_over(alloc, &mut site, SLICE.as_bytes())?;
-    assert_eq!(rt; ended, Status::Done);
-    Ok(site)
-}
 
 #[test]
 fn leaf_second_run(rt: HostRuntime) -> Result<(), Fail> {
     let alloc = rt.alloc();
     let mut site = MemorySite::new(alloc);
-    assert_eq!(rt; run_over(alloc, &mut site, LOAD.as_bytes())?, Status::Done);
+    assert_eq!(rt;
+        run_over(alloc, &mut site, SCHEMA_AND_LOAD.as_bytes())?,
+        Status::Done
+    );
     let mut later = MemorySite::from_files(alloc, site.image(alloc, 1)?)?;
     let script = b"slice sum(m) by a\nload\n2,6\n3,1\nend\nslice sum(m) by a\n".as_slice();
     assert_eq!(rt; run_over(alloc, &mut later, script)?, Status::Done);
@@ -47,42 +42,16 @@ fn leaf_second_run(rt: HostRuntime) -> Result<(), Fail> {
     Ok(())
 }
 
-/// The bodies of generation 0, without facts, and of generation 1, with three facts of mass 11 at two points; and both gates.
-fn dumped_root() -> [u8; 2050] {
-    let mut root = [0; 2050];
-    root[..8].copy_from_slice(b"CUBETREE");
-    root[1024..1032].copy_from_slice(b"CUBETREE");
-    for (place, byte) in [
-        (9usize, 1u8),
-        (11, 1),
-        (15, 31),
-        (31, 31),
-        (1033, 1),
-        (1035, 1),
-        (1039, 31),
-        (1047, 1),
-        (1055, 31),
-        (1063, 3),
-        (1079, 11),
-        (1135, 2),
-        (2048, 1),
-        (2049, 1),
-    ] {
-        root[place % 2050] = byte;
-    }
-    root
-}
-
 #[test]
 fn leaf_bytes(rt: HostRuntime) -> Result<(), Fail> {
     let alloc = rt.alloc();
     let mut site = MemorySite::new(alloc);
-    assert_eq!(rt; run_over(alloc, &mut site, LOAD.as_bytes())?, Status::Done);
-    assert_eq!(rt; site.file(0), dumped_root().as_slice());
     assert_eq!(rt;
-        site.file(1),
-        b"attr a number\nmeasure m\nview a\n".as_slice()
+        run_over(alloc, &mut site, SCHEMA_AND_LOAD.as_bytes())?,
+        Status::Done
     );
+    assert_eq!(rt; site.file(0), dumped_root().as_slice());
+    assert_eq!(rt; site.file(1), DUMPED_NAMES.as_bytes());
     assert_eq!(rt; site.file(2), b"".as_slice());
     assert_eq!(rt; site.file(3), dumped_leaf().as_slice());
     Ok(())
@@ -104,24 +73,20 @@ fn load_values(alloc: Global, count: u8) -> Result<Vec<u8>, Fail> {
 #[test]
 fn leaf_full(rt: HostRuntime) -> Result<(), Fail> {
     let alloc = rt.alloc();
+    let too_many = load_values(alloc, 69)?;
+    let most = load_values(alloc, 68)?;
     let mut site = MemorySite::new(alloc);
-    assert_eq!(rt;
-        run_over(alloc, &mut site, &load_values(alloc, 69)?)?,
-        Status::Done
-    );
-    assert_eq!(rt; site.told(), b"refused unbuilt\n".as_slice());
-    // The refused load has written nothing.
-    for file in 0..4 {
-        assert_eq!(rt; site.file(file), b"".as_slice(), "file {file}");
+    for script in [
+        SCHEMA.as_bytes(),
+        too_many.as_slice(),
+        b"slice sum(m) by a\n",
+        most.as_slice(),
+        b"load\n78,1\nend\nload\n77,1\nend\n",
+    ] {
+        assert_eq!(rt; run_over(alloc, &mut site, script)?, Status::Done);
     }
-    assert_eq!(rt;
-        run_over(alloc, &mut site, &load_values(alloc, 68)?)?,
-        Status::Done
-    );
-    let others = b"load\n78,1\nend\nload\n77,1\nend\n".as_slice();
-    assert_eq!(rt; run_over(alloc, &mut site, others)?, Status::Done);
-    let told = b"refused unbuilt\ncommitted 68\nrefused unbuilt\ncommitted 69\n".as_slice();
-    assert_eq!(rt; site.told(), told);
+    let told = "declared\nrefused unbuilt\nrows 0\ncommitted 68\nrefused unbuilt\ncommitted 69\n";
+    assert_eq!(rt; site.told(), told.as_bytes());
     Ok(())
 }
 
@@ -130,9 +95,12 @@ fn leaf_first_write_fails(rt: HostRuntime) -> Result<(), Fail> {
     let alloc = rt.alloc();
     let mut site = MemorySite::new(alloc);
     site.fail_at(3)?;
-    assert_eq!(rt; run_over(alloc, &mut site, LOAD.as_bytes())?, Status::Disk);
+    assert_eq!(rt;
+        run_over(alloc, &mut site, SCHEMA_AND_LOAD.as_bytes())?,
+        Status::Disk
+    );
     assert_eq!(rt; site.told(), b"".as_slice());
-    // Opening synced, looked for a root, and the load looked again; then the first write failed.
+    // Opening synced and looked for a root, and the schema looked for gates; then the first write failed.
     let calls = [
         Call::Sync,
         Call::Length { file: 0 },
@@ -145,46 +113,95 @@ fn leaf_first_write_fails(rt: HostRuntime) -> Result<(), Fail> {
     ];
     assert_eq!(rt; site.calls(), calls.as_slice());
     for choice in 0..10 {
-        let later = sliced(&rt, alloc, site.image(alloc, choice)?)?;
-        assert_eq!(rt; later.told(), STAGES[0].as_bytes(), "image {choice}");
+        assert_eq!(rt;
+            stage(&rt, alloc, site.image(alloc, choice)?)?,
+            Some(0),
+            "image {choice}"
+        );
     }
     Ok(())
 }
 
-/// How many loads were acknowledged.
-fn acknowledged(told: &[u8]) -> usize {
-    if told.starts_with(b"committed 3\ncommitted 5\n") {
-        2
-    } else if told.starts_with(b"committed 3\n") {
-        1
-    } else {
-        0
+/// The stage of these files, as a look at them tells.
+fn stage(rt: &impl Abort, alloc: Global, files: [Text; 4]) -> Result<Option<usize>, Fail> {
+    let mut site = MemorySite::from_files(alloc, files)?;
+    let ended = run_over(alloc, &mut site, LOOK.as_bytes())?;
+    assert_eq!(rt; ended, Status::Done);
+    Ok(
+        STAGES
+            .iter()
+            .position(|told| told.as_bytes() == site.told()),
+    )
+}
+
+/// How a run of a schema and two loads ends, of 29 calls, that is stopped before a call: in an output, which are the calls 8, 17
+/// and 28, or elsewhere.
+fn end_before(calls: u64) -> Status {
+    match calls {
+        8 | 17 | 28 => Status::Output,
+        29 => Status::Done,
+        _ => Status::Disk,
     }
 }
 
-/// Whether a slice tells what stands behind so many loads, or behind one more.
-fn is_kept(told: &[u8], loads: usize) -> bool {
-    let behind = |loads: usize| STAGES
-        .get(loads)
-        .is_some_and(|stage| told == stage.as_bytes());
-    behind(loads) || behind(loads.saturating_add(1))
+/// What was told before a call.
+fn told_before(calls: u64) -> &'static str {
+    match calls {
+        0..=8 => "",
+        9..=17 => "declared\n",
+        18..=28 => "declared\ncommitted 3\n",
+        _ => "declared\ncommitted 3\ncommitted 5\n",
+    }
+}
+
+/// Before this call each image is of the stage that is live or, where an unstable gate is raised in it, of the next one.
+fn leaves(
+    rt: &impl Abort,
+    alloc: Global,
+    calls: u64,
+    live: usize,
+    next: usize,
+) -> Result<(), Fail> {
+    let mut site = MemorySite::new(alloc);
+    site.stop_after(calls);
+    let ended = run_over(alloc, &mut site, SCHEMA_AND_TWO_LOADS.as_bytes())?;
+    assert_eq!(rt; ended, end_before(calls), "before call {calls}");
+    assert_eq!(rt;
+        site.told(),
+        told_before(calls).as_bytes(),
+        "before call {calls}"
+    );
+    for choice in 0..6 {
+        let found = stage(rt, alloc, site.image(alloc, choice)?)?;
+        // An unstable gate is as read, as it was, 1, 0, and then anything.
+        let is_right = match choice {
+            0 | 2 => found == Some(next),
+            1 | 3 => found == Some(live),
+            _ => found == Some(live) || found == Some(next),
+        };
+        assert!(rt;
+            is_right,
+            "before call {calls}, image {choice}: stage {found:?}"
+        );
+    }
+    Ok(())
 }
 
 #[test]
-fn a_stop_at_any_call_keeps_each_acknowledged_load(rt: HostRuntime) -> Result<(), Fail> {
+fn a_stop_at_any_call_keeps_what_is_acknowledged(rt: HostRuntime) -> Result<(), Fail> {
     let alloc = rt.alloc();
-    for calls in 0..30 {
-        let mut site = MemorySite::new(alloc);
-        site.stop_after(calls);
-        let ended = run_over(alloc, &mut site, TWO_LOADS.as_bytes())?;
-        assert!(rt; ended == Status::Done || ended == Status::Disk || ended == Status::Output);
-        for choice in 0..6 {
-            let later = sliced(&rt, alloc, site.image(alloc, choice)?)?;
-            let loads = acknowledged(site.told());
-            assert!(rt;
-                is_kept(later.told(), loads % 3),
-                "before call {calls}, image {choice}"
-            );
+    // The gates are raised by the calls 6, 15 and 26, and each is stable after the call that follows.
+    for (first, last, live, next) in [
+        (0u64, 6u64, 0usize, 0usize),
+        (7, 7, 0, 1),
+        (8, 15, 1, 1),
+        (16, 16, 1, 2),
+        (17, 26, 2, 2),
+        (27, 27, 2, 3),
+        (28, 29, 3, 3),
+    ] {
+        for calls in first..=last {
+            leaves(&rt, alloc, calls, live, next)?;
         }
     }
     Ok(())

@@ -1,5 +1,5 @@
 -- A plan makes of accepted facts all of them.
-use Rattle.std.proofs.Common.{◌≡◌, ◌≢◌, ◌⊎◌, ◌<◌, ◌+◌, ◌%◌, ℕ, List, [], ◌∷◌, ◌++◌, length, zero, suc, slice_index, inl, inr, Some, Result, Ok, Err, OnOk, refl, sym, ◌∙◌, ap, subst, append-nil, arith}
+use Rattle.std.proofs.Common.{◌≡◌, ◌≢◌, ◌<◌, ◌+◌, ◌%◌, ℕ, List, [], ◌∷◌, ◌++◌, length, zero, suc, slice_index, inl, inr, Result, Ok, Err, OnOk, refl, sym, ◌∙◌, ap, subst, append-nil, arith}
 use Rattle.std.specs.Prelude.{replicate}
 use Rattle.site_core.specs.Disk.{Files, Disk}
 use Rattle.site_core.specs.Moments.{IsStable, LeavesOnly}
@@ -53,21 +53,12 @@ pub either_facts : (schema : OneView) (accepted all : List Fact) (old new : Disk
 either_facts schema accepted all old new fine run = wider old new _ _ (λ told files both. (both.0, by files both.1)) run
   where
     by : (files : Files) → commits.KeepsEither (held schema accepted) (held schema all) files → KeepsEither schema accepted all files
-    by files (inl old) = inl (inr old)
-    by files (inr new) = inr (fine, inr new)
-
--- what a moment of the declaration keeps: no facts
-pub first_facts : (schema : OneView) (all : List Fact) (old new : Disk) → EachMoment old new (λ files. KeepsNothing files ⊎ Keeps files (held schema []))
-    → LeavesOnly old new (λ told files. (told ≡ old.told) × KeepsEither schema [] all files)
-first_facts schema all old new run = wider old new _ _ (λ told files both. (both.0, by files both.1)) run
-  where
-    by : (files : Files) → KeepsNothing files ⊎ Keeps files (held schema []) → KeepsEither schema [] all files
-    by files (inl none) = inl (inl (refl, none))
-    by files (inr first) = inl (inr first)
+    by files (inl old) = inl old
+    by files (inr new) = inr (fine, new)
 
 -- the live body of all facts
-pub live_facts : (schema : OneView) (all : List Fact) (slot : ℕ) (body : Body) (disk : Disk) (result : Result (Unit {0}) Rattle.site_core.specs.declared.site.Fault.Fault) → OnOk result (IsLiveNow (held schema all) slot body disk) → OnOk result (IsLive schema (Some body) all disk.files)
-live_facts schema all slot body disk (Ok done) now = (slot, now.read)
+pub live_facts : (schema : OneView) (all : List Fact) (slot : ℕ) (body : Body) (disk : Disk) (result : Result (Unit {0}) Rattle.site_core.specs.declared.site.Fault.Fault) → OnOk result (IsLiveNow (held schema all) slot body disk) → OnOk result (IsLive schema body all disk.files)
+live_facts schema all slot body disk (Ok done) now = record { slot = slot; at = now.read }
 live_facts schema all slot body disk (Err fault) now = tt
 
 first_arity : (n : ℕ) (es : List Entry) → All (λ (e : Entry). e.point.arity ≡ n) es → 0 < length es → leaf_arity es ≡ n

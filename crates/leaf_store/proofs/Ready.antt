@@ -1,7 +1,6 @@
 -- The body of the next generation is lawful, and a plan with it makes the facts of the batch accepted.
-use Rattle.std.proofs.Common.{◌≡◌, ℕ, true, min, zero, suc, ◌+◌, ◌<◌, ◌≤◌, ◌^◌, ◌-◌, List, [], ◌∷◌, ◌++◌, map, length, replicate, slice_index, Option, Some, None, Result, Ok, Err, IfOk, IfErr, refl, sym, ◌∙◌, ap, subst, arith, length-append}
+use Rattle.std.proofs.Common.{◌≡◌, ℕ, true, min, zero, suc, ◌+◌, ◌<◌, ◌≤◌, ◌^◌, ◌-◌, List, [], ◌∷◌, ◌++◌, map, length, replicate, slice_index, Result, Ok, Err, IfOk, IfErr, refl, sym, ◌∙◌, ap, subst, arith, length-append}
 use Rattle.std.specs.List.{All}
-use Rattle.std.specs.Option.{ForSome}
 use Rattle.std.proofs.lemmas.List.{length-map}
 use Rattle.std.specs.Prelude.{IsErrAnd}
 use Rattle.site_core.specs.Disk.{Files}
@@ -22,37 +21,17 @@ use Rattle.leaf_store.specs.declared.load.Refusal.TheVariants as refusals
 use Rattle.leaf_store.specs.declared.plan.Plan.{Plan}
 use Rattle.leaf_store.specs.Held.{IsOneView, IsFactOf, IsLive, entries_of, leaf_limit, masses_of, shape_of}
 use Rattle.leaf_store.specs.Loading.{IsRefused}
-use Rattle.leaf_store.specs.Next.{IsPlan, IsEntryOf, HasMass, KeepsLimits, added, facts_in, points_in, masses_in, next_body, next_generation}
+use Rattle.leaf_store.specs.Next.{IsPlan, IsEntryOf, HasMass, KeepsLimits, added, points_in, next_body}
 use Rattle.leaf_store.specs.Opening.{slot_of}
 
 -- ---- what a live body tells
 
-abbrev pub IsLawful : Option Body → Type 0
-IsLawful live = ForSome live (λ (body : Body). IsBody (slot_of body) body)
-
--- its facts are within the limit
-pub facts_few : (live : Option Body) → IsLawful live → facts_in live ≤ max_facts
-facts_few None is = omega arith
-facts_few (Some body) is = omega (arith, (is body refl).within.facts)
+abbrev pub IsSound : Body → Type 0
+IsSound body = IsBody (slot_of body) body
 
 -- there are no more points than facts
-points_few : (live : Option Body) → IsLawful live → points_in live ≤ facts_in live
-points_few None is = omega arith
-points_few (Some body) is = (is body refl).each_count.few 0 (omega (arith, (is body refl).counts))
-
--- the next generation is no greater than the number of more facts
-generation_few : (live : Option Body) (more : ℕ) → IsLawful live → 0 < more → next_generation live ≤ facts_in live + more
-generation_few None more is some = omega arith
-generation_few (Some body) more is some = omega (arith, (is body refl).within.generation)
-
-module _ (schema : OneView) (files : Files) where
-  pub live_count : (live : Option Body) (facts : List Fact) → IsLive schema live facts files → facts_in live ≡ length facts
-  live_count None facts is = ap length (sym is.0)
-  live_count (Some body) facts is = is.1.body_is.facts
-
-  pub live_masses : (live : Option Body) (facts : List Fact) → IsLive schema live facts files → masses_in live ≡ masses_of facts
-  live_masses None facts is = ap masses_of (sym is.0)
-  live_masses (Some body) facts is = is.1.body_is.masses
+points_few : (live : Body) → IsSound live → points_in live ≤ live.facts
+points_few live is = is.each_count.few 0 (omega (arith, is.counts))
 
 -- ---- masses
 
@@ -95,12 +74,12 @@ limits old accepted batch same few within = record {
 }
 
 -- what is counted and added up is that of all, and keeps the limits
-pub summed : (schema : OneView) (files : Files) (live : Option Body) (accepted batch : List Fact) (facts : ℕ) (old masses : List ℕ) → IsLive schema live accepted files
-    → facts ≡ facts_in live + length batch → facts ≤ max_facts → old ≡ masses_in live → masses ≡ added old batch → ((m : ℕ) → m < 4 → slice_index masses m ≤ mass_limit)
+pub summed : (schema : OneView) (files : Files) (live : Body) (accepted batch : List Fact) (facts : ℕ) (old masses : List ℕ) → IsLive schema live accepted files
+    → facts ≡ live.facts + length batch → facts ≤ max_facts → old ≡ live.masses → masses ≡ added old batch → ((m : ℕ) → m < 4 → slice_index masses m ≤ mass_limit)
     → (facts ≡ length (accepted ++ batch)) × (masses ≡ masses_of (accepted ++ batch)) × KeepsLimits (accepted ++ batch)
 summed schema files live accepted batch facts old masses is counted few from up within =
-    let all : facts ≡ length (accepted ++ batch) = omega (arith, counted, live_count schema files live accepted is, length-append accepted batch) in
-    let were : old ≡ masses_of accepted = from ∙ live_masses schema files live accepted is in (
+    let all : facts ≡ length (accepted ++ batch) = omega (arith, counted, is.at.body_is.facts, length-append accepted batch) in
+    let were : old ≡ masses_of accepted = from ∙ is.at.body_is.masses in (
       all,
       up ∙ (ap (λ (l : List ℕ). added l batch) were ∙ masses_all accepted batch),
       limits old accepted batch were (omega (arith, all, few)) (subst (λ (l : List ℕ). (m : ℕ) → m < 4 → slice_index l m ≤ mass_limit) up within),
@@ -134,7 +113,7 @@ leaf_entries schema entries some order each fits =
     }
 
 -- the body of the next generation
-pub body_is : (schema : OneView) (live : Option Body) (facts : ℕ) (masses : List ℕ) (count more : ℕ) → IsOneView schema → IsLawful live → 0 < more → facts ≡ facts_in live + more → facts ≤ max_facts
+pub body_is : (schema : OneView) (live : Body) (facts : ℕ) (masses : List ℕ) (count more : ℕ) → IsOneView schema → IsSound live → 0 < more → facts ≡ live.facts + more → facts ≤ max_facts
     → length masses ≡ 4 → ((m : ℕ) → m < 4 → slice_index masses m ≤ mass_limit) → count ≤ points_in live + more
     → IsBody (slot_of (next_body schema live facts masses count)) (next_body schema live facts masses count)
 body_is schema live facts masses count more one lawful some all few long within low = record {
@@ -144,7 +123,7 @@ body_is schema live facts masses count more one lawful some all few long within 
     schema_len = omega arith;
     names_len = omega (arith, one.short);
     facts = few;
-    generation = omega (arith, all, generation_few live more lawful some);
+    generation = omega (arith, all, lawful.within.generation, some);
     side = refl;
   };
   schema_fits = omega (arith, one.short);
@@ -162,7 +141,7 @@ All_append schema xs ys h k = All-from_every (IsFactOf schema) (xs ++ ys) (every
 points_as : (schema : OneView) (all : List Fact) (entries : List Entry) → entries ≡ entries_of schema all → length entries ≡ length (points schema.measures schema.view all)
 points_as schema all entries same = ap length same ∙ length-map (points schema.measures schema.view all) entry_of
 
-pub plan_is : (schema : OneView) (live : Option Body) (accepted batch : List Fact) (entries : List Entry) (plan : Plan) (facts : ℕ) (masses : List ℕ)
+pub plan_is : (schema : OneView) (live : Body) (accepted batch : List Fact) (entries : List Entry) (plan : Plan) (facts : ℕ) (masses : List ℕ)
     → All (IsFactOf schema) accepted → All (IsFactOf schema) batch → KeepsLimits (accepted ++ batch) → entries ≡ entries_of schema (accepted ++ batch) → length entries ≤ leaf_limit schema
     → facts ≡ length (accepted ++ batch) → masses ≡ masses_of (accepted ++ batch)
     → plan.entries ≡ entries → plan.body ≡ next_body schema live facts masses (length entries) → IsPlan schema (accepted ++ batch) plan

@@ -1,5 +1,5 @@
 -- What files with a live body keep while nothing is written.
-use Rattle.std.proofs.Common.{◌≡◌, List, ℕ, inl, inr, Option, Some, None, sym, subst, ◌∙◌}
+use Rattle.std.proofs.Common.{◌≡◌, List, ℕ, inl, sym, subst, ◌∙◌}
 use Rattle.site_core.specs.Disk.{Files, Disk}
 use Rattle.site_core.specs.Calls.{Stays, Rests}
 use Rattle.site_core.specs.Moments.{IsStable, LeavesOnly}
@@ -12,12 +12,11 @@ use Rattle.leaf_store.specs.Loading.{KeepsEither}
 use Rattle.leaf_store.specs.Opened.{HasRoot, IsOpened}
 
 -- files with a live body keep its facts
-pub live_keeps : (schema : OneView) (live : Option Body) (facts : List Fact) (files : Files) → IsLive schema live facts files → KeepsFacts schema facts files
-live_keeps schema None facts files is = inl is
-live_keeps schema (Some body) facts files is = inr (is.0, body, is.1)
+pub live_keeps : (schema : OneView) (live : Body) (facts : List Fact) (files : Files) → IsLive schema live facts files → KeepsFacts schema facts files
+live_keeps schema live facts files is = (is.slot, live, is.at)
 
 -- a run that does nothing; `only` is the site's law only_now
-pub rests_keeping : (schema : OneView) (live : Option Body) (facts all : List Fact) (disk : Disk) → IsLive schema live facts disk.files → IsStable disk
+pub rests_keeping : (schema : OneView) (live : Body) (facts all : List Fact) (disk : Disk) → IsLive schema live facts disk.files → IsStable disk
     → ((told : List ℕ) (files : Files) → disk.left_since disk.clock told files → (told ≡ disk.told) × disk.may_leave files)
     → LeavesOnly disk disk (λ told files. (told ≡ disk.told) × KeepsEither schema facts all files)
 rests_keeping schema live facts all disk is stable only = started disk (λ told files. (told ≡ disk.told) × KeepsEither schema facts all files) (λ told files left.
@@ -30,7 +29,7 @@ rests_stable old new rests stable = λ files left.
     let was = rests.time.now files left in was.2 ∙ (stable was.0 was.1 ∙ sym rests.files)
 
 -- the same over calls that change nothing
-pub rests_moments : (schema : OneView) (live : Option Body) (facts all : List Fact) (old new : Disk) → IsLive schema live facts old.files → IsStable old
+pub rests_moments : (schema : OneView) (live : Body) (facts all : List Fact) (old new : Disk) → IsLive schema live facts old.files → IsStable old
     → ((told : List ℕ) (files : Files) → old.left_since old.clock told files → (told ≡ old.told) × old.may_leave files) → Rests old new
     → LeavesOnly old new (λ told files. (told ≡ old.told) × KeepsEither schema facts all files)
 rests_moments schema live facts all old new is stable only rests =
@@ -42,5 +41,5 @@ rests_moments schema live facts all old new is stable only rests =
     keeps files left = inl (subst (KeepsFacts schema facts) (sym (stable files left)) (live_keeps schema live facts old.files is))
 
 -- what is known of opened files goes over such calls
-pub rests_opened : (live : Option Body) (old new : Disk) → Rests old new → IsOpened live old → IsOpened live new
+pub rests_opened : (live : Body) (old new : Disk) → Rests old new → IsOpened live old → IsOpened live new
 rests_opened live old new rests opened = record { stable = rests_stable old new rests opened.stable; root = subst (HasRoot live) (sym rests.files) opened.root }

@@ -1,5 +1,5 @@
 -- What the files of a warehouse with one view in one leaf hold of a list of facts.
-use Rattle.std.specs.Prelude.{◌≡◌, ◌⊎◌, ℕ, ◌<◌, ◌≤◌, List, [], ◌∷◌, length, map, replicate, Option, Some, None}
+use Rattle.std.specs.Prelude.{◌≡◌, ℕ, ◌<◌, ◌≤◌, List, [], ◌∷◌, length, map, replicate}
 use Rattle.std.specs.List.{All}
 use Rattle.site_core.specs.Disk.{Files}
 use Rattle.fact_model.specs.declared.fact.Value.{Value}
@@ -14,7 +14,7 @@ use Rattle.view_points.specs.Agree.{number_limit}
 use Rattle.page_fmt.specs.Pages.{room, entry_size, leaf_bytes}
 use Rattle.forest_root.specs.declared.body.Body.{Body}
 use Rattle.forest_root.specs.Body.{max_facts}
-use Rattle.forest_root.specs.Keeps.{Held, LiveAt, Keeps, KeepsNothing}
+use Rattle.forest_root.specs.Keeps.{Held, LiveAt, Keeps}
 use Rattle.leaf_store.specs.declared.one_view.OneView.{OneView}
 
 -- a schema with one view: a text that one page holds, at most eight attributes in the view, one to four measures
@@ -76,11 +76,11 @@ held schema facts = record {
   forest = leaf_of schema (entries_of schema facts);
 }
 
--- the files keep these facts; where no slot is raised they keep none
+-- the files keep these facts
 abbrev pub KeepsFacts : OneView → List Fact → Files → Type 0
-KeepsFacts schema facts files = ((facts ≡ []) × KeepsNothing files) ⊎ Keeps files (held schema facts)
+KeepsFacts schema facts files = Keeps files (held schema facts)
 
--- this is the live body of files that keep these facts, if one is live
-abbrev pub IsLive : OneView → Option Body → List Fact → Files → Type 0
-IsLive schema None facts files = (facts ≡ []) × KeepsNothing files
-IsLive schema (Some body) facts files = (slot : ℕ) × LiveAt (held schema facts) slot body files
+-- this is the live body of files that keep these facts
+pub record IsLive (schema : OneView) (body : Body) (facts : List Fact) (files : Files) : Type 0 where
+  pub slot : ℕ
+  pub at : LiveAt (held schema facts) slot body files

@@ -1,3 +1,5 @@
+pub mod Breaks
+pub mod Built
 pub mod Held
 pub mod Leaf
 pub mod Loading

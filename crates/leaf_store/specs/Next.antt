@@ -1,5 +1,5 @@
 -- What a live body tells, and the body of the generation behind it.
-use Rattle.std.specs.Prelude.{◌≡◌, ℕ, ◌+◌, ◌<◌, ◌≤◌, ◌-◌, ◌^◌, min, map, List, [], ◌∷◌, length, slice_index, replicate, Option, Some, None}
+use Rattle.std.specs.Prelude.{◌≡◌, ℕ, ◌+◌, ◌<◌, ◌≤◌, ◌-◌, ◌^◌, min, map, List, [], ◌∷◌, length, slice_index, replicate}
 use Rattle.fact_model.specs.declared.fact.Fact.{Fact}
 use Rattle.fact_model.specs.declared.fact.Value.{Value}
 use Rattle.fact_model.specs.declared.fact.Value.TheVariants.{Word, Number}
@@ -19,30 +19,16 @@ use Rattle.leaf_store.specs.Opening.{slot_of}
 use Rattle.leaf_store.specs.Opened.{IsNoDamage}
 use Rattle.leaf_store.specs.Loading.{IsRefused}
 
--- how many facts and points there are, and the masses
-abbrev pub facts_in : Option Body → ℕ
-facts_in None = 0
-facts_in (Some body) = body.facts
-
-abbrev pub points_in : Option Body → ℕ
-points_in None = 0
-points_in (Some body) = slice_index body.counts 0
-
-abbrev pub masses_in : Option Body → List ℕ
-masses_in None = 0 ∷ 0 ∷ 0 ∷ 0 ∷ []
-masses_in (Some body) = body.masses
-
--- the next generation; before the first one the schema is declared as generation 0
-abbrev pub next_generation : Option Body → ℕ
-next_generation None = 1
-next_generation (Some body) = body.generation + 1
+-- how many points the view has
+abbrev pub points_in : Body → ℕ
+points_in body = slice_index body.counts 0
 
 -- a plan that may be carried out, whatever the files hold: points of one leaf of the view, and a body in the next generation
-pub record IsReady (schema : OneView) (live : Option Body) (plan : Plan) : Type 0 where
+pub record IsReady (schema : OneView) (live : Body) (plan : Plan) : Type 0 where
   pub some : 0 < length plan.entries
   pub entries : AreEntries (shape_of schema) plan.entries
   pub body : IsBody (slot_of plan.body) plan.body
-  pub generation : plan.body.generation ≡ next_generation live
+  pub generation : plan.body.generation ≡ live.generation + 1
   pub names_len : plan.body.names_len ≡ length schema.text
 
 -- the plan makes these the accepted facts
@@ -75,11 +61,11 @@ pub record IsPointOf (schema : OneView) (entry : Entry) : Type 0 where
   pub measures : entry.cell.measures ≡ schema.measures
 
 -- the body of the next generation, with so many facts, these masses and so many points
-abbrev pub next_body : OneView → Option Body → ℕ → List ℕ → ℕ → Body
+abbrev pub next_body : OneView → Body → ℕ → List ℕ → ℕ → Body
 next_body schema live facts masses points = record {
   views = 1;
   schema_len = length schema.text;
-  generation = next_generation live;
+  generation = live.generation + 1;
   names_len = length schema.text;
   facts = facts;
   masses = masses;

@@ -1,6 +1,5 @@
-//! A plan is carried out: the schema is declared where there is none, and then the new leaf and body are committed.
-ghost use Rattle.std.specs.Prelude.{◌≡◌, ◌<◌, ◌≤◌, ◌+◌, ℕ, IsTrue, IfOk, OnOk, List, [], length, Some, None};
-ghost use Rattle.std.specs.Option.{ForSome};
+//! A plan is carried out: the new leaf and body are committed.
+ghost use Rattle.std.specs.Prelude.{◌≡◌, ◌<◌, ◌≤◌, ◌+◌, ℕ, IsTrue, IfOk, OnOk, List, length};
 ghost use Rattle.site_core.specs.Moments.{IsStable, LeavesOnly};
 ghost use Rattle.site_core.specs.Causes.{HasCause};
 ghost use Rattle.fact_model.specs.declared.fact.Fact as facts;
@@ -12,15 +11,14 @@ ghost use Rattle.forest_commit.specs.Commit.{IsLiveNow};
 ghost use Rattle.leaf_store.specs.Held.{AreAccepted, IsLive, IsOneView, held, shape_of};
 ghost use Rattle.leaf_store.specs.Opening.{slot_of};
 ghost use Rattle.leaf_store.specs.Loading.{KeepsEither};
-ghost use Rattle.leaf_store.specs.Next.{IsReady, IsPlan, first_body};
+ghost use Rattle.leaf_store.specs.Next.{IsReady, IsPlan};
 ghost use Rattle.leaf_store.specs.Opened.{IsOpened};
 
 use crate::leaf::shape;
 use crate::one_view::OneView;
 use crate::plan::Plan;
 use crate::store::Store;
-use forest_commit::{Commit, commit, declare};
-use forest_root::Body;
+use forest_commit::{Commit, commit};
 use page_fmt::put_leaf;
 use site_core::{Fault, Site};
 
@@ -44,77 +42,20 @@ impl Store {
             (told ≡ (T.disk site.old).told) × KeepsEither self.schema accepted all files) }
 
         ensures schema { IfOk result (λ store. store.schema ≡ self.schema) }
-        ensures live { IfOk result (λ store. store.live ≡ Some plan.body) }
+        ensures live { IfOk result (λ store. store.live ≡ plan.body) }
         ensures opened { IsTrue T.tells → IfOk result (λ store. IsOpened store.live (T.disk site.new)) }
         ensures told { IsTrue T.tells → (T.disk site.new).told ≡ (T.disk site.old).told }
         ensures cause { HasCause (T.disk_faults site.old) (T.disk_faults site.new) result }
         ensures told_faults { T.told_faults site.new ≡ T.told_faults site.old }
-        ensures reads { T.reads site.new ≤ T.reads site.old + 2 }
-        ensures writes { T.writes site.new ≤ T.writes site.old + 10 }
+        ensures reads { T.reads site.new ≤ T.reads site.old + 1 }
+        ensures writes { T.writes site.new ≤ T.writes site.old + 5 }
     {
-        carry_out(site, &self.schema, &self.live, &plan)?;
+        put(site, &self.schema, &plan)?;
         Ok(Store {
             schema: self.schema,
-            live: Some(plan.body),
+            live: plan.body,
         })
     }
-}
-
-/// Carries out a plan of the store with this schema and live body.
-fn carry_out<T: Site>(
-    site: &mut T,
-    schema: &OneView,
-    live: &Option<Body>,
-    plan: &Plan,
-) -> Result<(), Fault>
-    requires schema { IsOneView schema.now }
-    requires ready { IsReady schema.now live.now plan.now }
-    requires text { ForSome live.now (λ body. body.names_len ≡ length schema.now.text) }
-    requires opened { IsTrue T.tells → IsOpened live.now (T.disk site.old) }
-
-    ensures committed { IsTrue T.tells → (accepted all : List facts.Fact)
-        → IsLive schema.now live.now accepted (T.disk site.old).files → IsPlan schema.now all plan.now
-        → OnOk result (IsLive schema.now (Some plan.now.body) all (T.disk site.new).files) }
-    ensures any_moment { IsTrue T.tells → (accepted all : List facts.Fact)
-        → IsLive schema.now live.now accepted (T.disk site.old).files → IsPlan schema.now all plan.now
-        → LeavesOnly (T.disk site.old) (T.disk site.new) (λ told files.
-        (told ≡ (T.disk site.old).told) × KeepsEither schema.now accepted all files) }
-
-    ensures opened { IsTrue T.tells → OnOk result (IsOpened (Some plan.now.body) (T.disk site.new)) }
-    ensures told { IsTrue T.tells → (T.disk site.new).told ≡ (T.disk site.old).told }
-    ensures cause { HasCause (T.disk_faults site.old) (T.disk_faults site.new) result }
-    ensures told_faults { T.told_faults site.new ≡ T.told_faults site.old }
-    ensures reads { T.reads site.new ≤ T.reads site.old + 2 }
-    ensures writes { T.writes site.new ≤ T.writes site.old + 10 }
-{
-    match live {
-        None => declare_and_put(site, schema, plan),
-        Some(_) => put(site, schema, plan),
-    }
-}
-
-/// Declares the schema as generation 0, and then commits the first facts.
-fn declare_and_put<T: Site>(site: &mut T, schema: &OneView, plan: &Plan) -> Result<(), Fault>
-    requires schema { IsOneView schema.now }
-    requires ready { IsReady schema.now None plan.now }
-    requires opened { IsTrue T.tells → IsOpened None (T.disk site.old) }
-
-    ensures committed { IsTrue T.tells → (all : List facts.Fact) → IsPlan schema.now all plan.now
-        → OnOk result (IsLive schema.now (Some plan.now.body) all (T.disk site.new).files) }
-    ensures any_moment { IsTrue T.tells → (all : List facts.Fact) → IsPlan schema.now all plan.now
-        → LeavesOnly (T.disk site.old) (T.disk site.new) (λ told files.
-        (told ≡ (T.disk site.old).told) × KeepsEither schema.now [] all files) }
-
-    ensures opened { IsTrue T.tells → OnOk result (IsOpened (Some plan.now.body) (T.disk site.new)) }
-    ensures told { IsTrue T.tells → (T.disk site.new).told ≡ (T.disk site.old).told }
-    ensures cause { HasCause (T.disk_faults site.old) (T.disk_faults site.new) result }
-    ensures told_faults { T.told_faults site.new ≡ T.told_faults site.old }
-    ensures reads { T.reads site.new ≤ T.reads site.old + 2 }
-    ensures writes { T.writes site.new ≤ T.writes site.old + 10 }
-{
-    let first = first_body(schema);
-    declare(site, schema.text.as_bytes(), &first)?;
-    put(site, schema, plan)
 }
 
 /// Writes the leaf of the plan to the other side, and commits its body.
@@ -131,14 +72,14 @@ fn put<T: Site>(site: &mut T, schema: &OneView, plan: &Plan) -> Result<(), Fault
     ensures committed { IsTrue T.tells → (accepted all : List facts.Fact) (slot : ℕ) (live : bodies.Body)
         → IsLiveNow (held schema.now accepted) slot live (T.disk site.old)
         → plan.now.body.generation ≡ live.generation + 1 → IsPlan schema.now all plan.now
-        → OnOk result (IsLive schema.now (Some plan.now.body) all (T.disk site.new).files) }
+        → OnOk result (IsLive schema.now plan.now.body all (T.disk site.new).files) }
     ensures any_moment { IsTrue T.tells → (accepted all : List facts.Fact) (slot : ℕ) (live : bodies.Body)
         → IsLiveNow (held schema.now accepted) slot live (T.disk site.old)
         → plan.now.body.generation ≡ live.generation + 1 → IsPlan schema.now all plan.now
         → LeavesOnly (T.disk site.old) (T.disk site.new) (λ told files.
         (told ≡ (T.disk site.old).told) × KeepsEither schema.now accepted all files) }
 
-    ensures opened { IsTrue T.tells → OnOk result (IsOpened (Some plan.now.body) (T.disk site.new)) }
+    ensures opened { IsTrue T.tells → OnOk result (IsOpened plan.now.body (T.disk site.new)) }
     ensures told { IsTrue T.tells → (T.disk site.new).told ≡ (T.disk site.old).told }
     ensures cause { HasCause (T.disk_faults site.old) (T.disk_faults site.new) result }
     ensures told_faults { T.told_faults site.new ≡ T.told_faults site.old }
@@ -153,21 +94,4 @@ fn put<T: Site>(site: &mut T, schema: &OneView, plan: &Plan) -> Result<(), Fault
         body: &plan.body,
     };
     commit(site, &page, &end)
-}
-
-/// The body of the schema without facts, as generation 0.
-fn first_body(schema: &OneView) -> Body
-    requires { IsOneView schema.now }
-    ensures { result ≡ first_body schema.now }
-{
-    let text_len = schema.text.as_bytes().len();
-    Body {
-        views: 1,
-        schema_len: text_len as u32,
-        generation: 0,
-        names_len: text_len as u64,
-        facts: 0,
-        masses: [0; 4],
-        counts: [0; 32],
-    }
 }

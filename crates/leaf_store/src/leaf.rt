@@ -69,14 +69,11 @@ impl Store {
         ensures reads { T.reads site.new ≤ T.reads site.old + 1 }
         ensures writes { T.writes site.new ≡ T.writes site.old }
     {
-        let Some(body) = &self.live else {
-            return Ok(ListOf::new(alloc));
-        };
-        let count = body.counts[0];
+        let count = self.live.counts[0];
         if count == 0 {
             return Ok(ListOf::new(alloc));
         }
-        let side = SIDE + slot(body);
+        let side = SIDE + slot(&self.live);
         let mut page = [0; PAGE];
         if site.read(side, 0, &mut page)? < PAGE {
             return Err(StoreStop::Damaged {

@@ -65,8 +65,8 @@ impl Store {
         ensures told { IsTrue T.tells → (T.disk site.new).told ≡ (T.disk site.old).told }
         ensures cause { HasCauseWhere StoreStop.Disk (T.disk_faults site.old) (T.disk_faults site.new) result }
         ensures told_faults { T.told_faults site.new ≡ T.told_faults site.old }
-        ensures reads { T.reads site.new ≤ T.reads site.old + 3 }
-        ensures writes { T.writes site.new ≤ T.writes site.old + 10 }
+        ensures reads { T.reads site.new ≤ T.reads site.old + 2 }
+        ensures writes { T.writes site.new ≤ T.writes site.old + 5 }
         ensures unwritten { IfOk result (λ loaded. IsRefusal loaded → T.writes site.new ≡ T.writes site.old) }
     {
         match self.plan(alloc, site, batch) {
@@ -95,8 +95,8 @@ impl Store {
         ensures told { IsTrue T.tells → (T.disk site.new).told ≡ (T.disk site.old).told }
         ensures cause { HasCauseWhere StoreStop.Disk (T.disk_faults site.old) (T.disk_faults site.new) result }
         ensures told_faults { T.told_faults site.new ≡ T.told_faults site.old }
-        ensures reads { T.reads site.new ≤ T.reads site.old + 2 }
-        ensures writes { T.writes site.new ≤ T.writes site.old + 10 }
+        ensures reads { T.reads site.new ≤ T.reads site.old + 1 }
+        ensures writes { T.writes site.new ≤ T.writes site.old + 5 }
         ensures committed { IfOk result (λ loaded. IsRefusal loaded → ⊥) }
     {
         match self.commit(site, plan) {

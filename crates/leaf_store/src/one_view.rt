@@ -2,7 +2,7 @@
 
 use fact_model::{AttrList, Text};
 
-/// A schema with one view: its attributes are numbers.
+/// What one leaf needs of a schema with one view, whose attributes are numbers.
 #[derive(Debug, Drop)]
 pub struct OneView {
     /// The canonical text of the schema, with which the names file begins.

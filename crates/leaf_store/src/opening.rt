@@ -1,24 +1,28 @@
 //! The files are opened: the live body is found, and what it counts on is looked at.
-ghost use Rattle.std.specs.Prelude.{◌≡◌, ◌≤◌, ◌+◌, ◌==◌, ◌&&◌, ℕ, IsTrue, IfOk, IfErr, OnOk, List, Some, None, length, take, drop, nat_eq};
+ghost use Rattle.std.specs.Prelude.{◌≡◌, ◌≤◌, ◌+◌, ◌==◌, ◌&&◌, ℕ, IsTrue, IfOk, IfErr, IfSome, OnOk, List, Some, None, length, drop, take};
 ghost use Rattle.std.specs.List.{list_all};
-ghost use Rattle.std.specs.Cmp.Lexicographic.{pointwise};
 ghost use Rattle.site_core.specs.Calls.{Rests};
-ghost use Rattle.site_core.specs.Moments.{IsStable};
-ghost use Rattle.site_core.specs.Causes.{HasCause};
 ghost use Rattle.fact_model.specs.declared.fact.Fact as facts;
+ghost use Rattle.cube_schema.specs.Lawful.{IsSchema};
+ghost use Rattle.cube_schema.specs.declared.schema.Schema as schemas;
 ghost use Rattle.forest_root.specs.Body.{IsBody};
 ghost use Rattle.forest_root.specs.Causes.{HasCauseWhere};
 ghost use Rattle.forest_root.specs.Live.{IsLiveBody, NoneRaised, IsFirstDamaged};
 ghost use Rattle.forest_root.specs.Root.{body_at};
 ghost use Rattle.forest_root.specs.declared.body.Body as bodies;
-ghost use Rattle.leaf_store.specs.Held.{IsOneView, AreAccepted, KeepsFacts, IsLive};
-ghost use Rattle.leaf_store.specs.Opening.{broken_rule, slot_of, pages_of, is_zero};
-ghost use Rattle.leaf_store.specs.Opened.{IsOpened, IsNoDamage, Judges, Names};
+ghost use Rattle.leaf_store.specs.Breaks.{BreaksAt, TellsBreak};
+ghost use Rattle.leaf_store.specs.Built.{is_built, one_view};
+ghost use Rattle.leaf_store.specs.Held.{AreAccepted, KeepsFacts};
+ghost use Rattle.leaf_store.specs.Opening.{Place, first_broken, rules_with, schema_in, broken_rule, slot_of, pages_of, is_zero};
+ghost use Rattle.leaf_store.specs.Opened.{IsWarehouse, IsNoDamage, IsOf, JudgesOpened, Judges, MayBeOpened, Names};
 
-use crate::one_view::OneView;
+use crate::built::{declared_by, leaf_view};
+use crate::opened::Opened;
 use crate::store::{Store, StoreStop};
+use cube_schema::Schema;
 use forest_root::{Body, RootStop, live};
-use site_core::{Fault, Site};
+use site_core::Site;
+use std::alloc::Global;
 
 /// The root file, the names file and the first side file.
 const ROOT: u32 = 0;
@@ -40,80 +44,51 @@ pub fn slot(body: &Body) -> u32
     (body.generation % 2) as u32
 }
 
-impl Store {
-    /// Opens the files of a warehouse with this schema: syncs them, finds the live body, and looks at what it counts on. Nothing
-    /// is changed, also after an error.
-    ///
-    /// `Damaged` names the first rule that is broken: a raised slot whose body does not decode; a names file that is too short, or
-    /// begins with another schema; a body of other views or measures, or with names; a side that is too short.
-    pub fn open<T: Site>(site: &mut T, schema: OneView) -> Result<Store, StoreStop>
-        requires { IsOneView schema }
+/// Opens the files: syncs them, finds the live body, and looks at what it counts on. `None` where no slot is raised, and so no
+/// schema is declared. Nothing is changed, also after an error.
+///
+/// `Damaged` names the first rule that is broken: a raised slot whose body does not decode; a names file that is too short, or
+/// does not begin with the canonical text of a schema that one leaf can serve; a body of other views or measures, or with
+/// names; a side that is too short.
+pub fn open<T: Site>(alloc: Global, site: &mut T) -> Result<Option<Opened>, StoreStop>
+    ensures warehouse { IsTrue T.tells → (schema : schemas.Schema) (accepted : List facts.Fact) → IsSchema schema
+        → IsTrue (is_built schema) → AreAccepted (one_view schema) accepted
+        → KeepsFacts (one_view schema) accepted (T.disk site.old).files
+        → IfOk result (IsWarehouse schema accepted (T.disk site.new).files) }
+    ensures undamaged { IsTrue T.tells → (schema : schemas.Schema) (accepted : List facts.Fact) → IsSchema schema
+        → IsTrue (is_built schema) → AreAccepted (one_view schema) accepted
+        → KeepsFacts (one_view schema) accepted (T.disk site.old).files → IfErr result IsNoDamage }
+    ensures none { IsTrue T.tells → NoneRaised ((T.disk site.old).files 0)
+        → IfOk result (λ found. found ≡ None) × IfErr result IsNoDamage }
 
-        ensures live { IsTrue T.tells → (accepted : List facts.Fact) → AreAccepted schema accepted
-            → KeepsFacts schema accepted (T.disk site.old).files
-            → IfOk result (λ store. IsLive schema store.live accepted (T.disk site.new).files) }
-        ensures undamaged { IsTrue T.tells → (accepted : List facts.Fact) → AreAccepted schema accepted
-            → KeepsFacts schema accepted (T.disk site.old).files → IfErr result IsNoDamage }
+    // Whatever the files hold: opened exactly where no rule is broken, and otherwise the first broken one is named.
+    ensures judged { IsTrue T.tells → (body : bodies.Body) → IsLiveBody body ((T.disk site.old).files 0)
+        → Judges body (T.disk site.old).files result }
+    ensures broken { IsTrue T.tells → (place : Place) → BreaksAt (T.disk site.old).files place
+        → IfErr result (Names (Some place)) × OnOk result ⊥ }
+    ensures damaged { IsTrue T.tells → IfErr result (TellsBreak (T.disk site.old).files) }
 
-        // Whatever the files hold: opened exactly where no rule is broken, and otherwise the first broken one is named.
-        ensures judged { IsTrue T.tells → (body : bodies.Body) → IsLiveBody body ((T.disk site.old).files 0)
-            → Judges (Some body) (broken_rule schema body (T.disk site.old).files) result }
-        ensures none { IsTrue T.tells → NoneRaised ((T.disk site.old).files 0) → Judges None None result }
-        ensures undecoded { IsTrue T.tells → (slot : ℕ) → IsFirstDamaged slot ((T.disk site.old).files 0)
-            → IfErr result (Names (Some (0, body_at slot))) × OnOk result ⊥ }
-
-        ensures schema { IfOk result (λ store. store.schema ≡ schema) }
-        ensures opened { IsTrue T.tells → IfOk result (λ store. IsOpened store.live (T.disk site.new)) }
-        ensures disk { IsTrue T.tells → Rests (T.disk site.old) (T.disk site.new) }
-        ensures cause { HasCauseWhere StoreStop.Disk (T.disk_faults site.old) (T.disk_faults site.new) result }
-        ensures told_faults { T.told_faults site.new ≡ T.told_faults site.old }
-        ensures reads { T.reads site.new ≤ T.reads site.old + 2 }
-        ensures writes { T.writes site.new ≡ T.writes site.old }
-    {
-        site.sync()?;
-        match live(site) {
-            Ok(None) => Ok(Store { schema, live: None }),
-            Ok(Some(body)) => open_live(site, schema, body),
-            Err(RootStop::Disk) => Err(StoreStop::Disk),
-            Err(RootStop::Damaged { slot }) => Err(StoreStop::Damaged {
-                file: ROOT,
-                offset: BODY_SIZE * slot as u64,
-            }),
-        }
+    ensures opened { IsTrue T.tells → IfOk result (λ found. MayBeOpened found (T.disk site.new)) }
+    ensures disk { IsTrue T.tells → Rests (T.disk site.old) (T.disk site.new) }
+    ensures cause { HasCauseWhere StoreStop.Disk (T.disk_faults site.old) (T.disk_faults site.new) result }
+    ensures told_faults { T.told_faults site.new ≡ T.told_faults site.old }
+    ensures reads { T.reads site.new ≤ T.reads site.old + 2 }
+    ensures writes { T.writes site.new ≡ T.writes site.old }
+{
+    site.sync()?;
+    match live(site) {
+        Ok(None) => Ok(None),
+        Ok(Some(body)) => open_live(alloc, site, body),
+        Err(RootStop::Disk) => Err(StoreStop::Disk),
+        Err(RootStop::Damaged { slot }) => Err(damaged(ROOT, BODY_SIZE * slot as u64)),
     }
 }
 
 /// Opens files that have this live body.
-fn open_live<T: Site>(site: &mut T, schema: OneView, body: Body) -> Result<Store, StoreStop>
-    requires schema { IsOneView schema }
+fn open_live<T: Site>(alloc: Global, site: &mut T, body: Body) -> Result<Option<Opened>, StoreStop>
     requires body { IsBody (slot_of body) body }
 
-    ensures judged { IsTrue T.tells → Judges (Some body) (broken_rule schema body (T.disk site.old).files) result }
-    ensures schema { IfOk result (λ store. store.schema ≡ schema) }
-    ensures disk { IsTrue T.tells → Rests (T.disk site.old) (T.disk site.new) }
-    ensures cause { HasCauseWhere StoreStop.Disk (T.disk_faults site.old) (T.disk_faults site.new) result }
-    ensures told_faults { T.told_faults site.new ≡ T.told_faults site.old }
-    ensures reads { T.reads site.new ≤ T.reads site.old + 1 }
-    ensures writes { T.writes site.new ≡ T.writes site.old }
-{
-    match check(site, &schema, &body) {
-        Ok(()) => Ok(Store {
-            schema,
-            live: Some(body),
-        }),
-        Err(stop) => Err(stop),
-    }
-}
-
-/// Looks at the rules of files with this live body, and names the first that is broken.
-fn check<T: Site>(site: &mut T, schema: &OneView, body: &Body) -> Result<(), StoreStop>
-    requires schema { IsOneView schema.now }
-    requires body { IsBody (slot_of body.now) body.now }
-
-    ensures kept { IsTrue T.tells → OnOk result (broken_rule schema.now body.now (T.disk site.old).files ≡ None) }
-    ensures text { OnOk result (body.now.names_len ≡ length schema.now.text) }
-    ensures broken { IsTrue T.tells
-        → IfErr result (Names (broken_rule schema.now body.now (T.disk site.old).files)) }
+    ensures judged { IsTrue T.tells → Judges body (T.disk site.old).files result }
     ensures disk { IsTrue T.tells → Rests (T.disk site.old) (T.disk site.new) }
     ensures cause { HasCauseWhere StoreStop.Disk (T.disk_faults site.old) (T.disk_faults site.new) result }
     ensures told_faults { T.told_faults site.new ≡ T.told_faults site.old }
@@ -124,10 +99,56 @@ fn check<T: Site>(site: &mut T, schema: &OneView, body: &Body) -> Result<(), Sto
     if names < body.names_len {
         return Err(damaged(NAMES, names));
     }
-    if !has_text(site, schema, body)? {
-        return Err(damaged(NAMES, 0));
+    match read_schema(alloc, site, &body)? {
+        Some(schema) => open_declared(alloc, site, schema, body),
+        None => Err(damaged(NAMES, 0)),
     }
-    if !is_of_view(schema, body) {
+}
+
+/// Opens files that have this live body and this schema.
+fn open_declared<T: Site>(
+    alloc: Global,
+    site: &mut T,
+    schema: Schema,
+    body: Body,
+) -> Result<Option<Opened>, StoreStop>
+    requires body { IsBody (slot_of body) body }
+    requires lawful { IsSchema schema }
+    requires built { IsTrue (is_built schema) }
+    requires text { body.schema_len ≡ length (one_view schema).text }
+
+    ensures judged { IsTrue T.tells → JudgesOpened schema body (first_broken (rules_with body (T.disk site.old).files schema)) result }
+    ensures disk { IsTrue T.tells → Rests (T.disk site.old) (T.disk site.new) }
+    ensures cause { HasCauseWhere StoreStop.Disk (T.disk_faults site.old) (T.disk_faults site.new) result }
+    ensures told_faults { T.told_faults site.new ≡ T.told_faults site.old }
+    ensures reads { T.reads site.new ≡ T.reads site.old }
+    ensures writes { T.writes site.new ≡ T.writes site.old }
+{
+    check(site, &schema, &body)?;
+    let view = leaf_view(alloc, &schema)?;
+    let store = Store {
+        schema: view,
+        live: body,
+    };
+    Ok(Some(Opened { schema, store }))
+}
+
+/// Looks at the rules of files with this live body and this schema, and names the first that is broken.
+fn check<T: Site>(site: &mut T, schema: &Schema, body: &Body) -> Result<(), StoreStop>
+    requires schema { IsSchema schema.now }
+    requires body { IsBody (slot_of body.now) body.now }
+
+    ensures kept { IsTrue T.tells → OnOk result (first_broken (rules_with body.now (T.disk site.old).files schema.now) ≡ None) }
+    ensures names { OnOk result (body.now.names_len ≡ body.now.schema_len) }
+    ensures broken { IsTrue T.tells
+        → IfErr result (Names (first_broken (rules_with body.now (T.disk site.old).files schema.now))) }
+    ensures disk { IsTrue T.tells → Rests (T.disk site.old) (T.disk site.new) }
+    ensures cause { HasCauseWhere StoreStop.Disk (T.disk_faults site.old) (T.disk_faults site.new) result }
+    ensures told_faults { T.told_faults site.new ≡ T.told_faults site.old }
+    ensures reads { T.reads site.new ≡ T.reads site.old }
+    ensures writes { T.writes site.new ≡ T.writes site.old }
+{
+    if !is_of_view(schema.measures.as_slice().len(), body) {
         return Err(damaged(ROOT, BODY_SIZE * slot(body) as u64));
     }
     if body.names_len != body.schema_len as u64 {
@@ -147,44 +168,44 @@ fn damaged(file: u32, offset: u64) -> StoreStop
     StoreStop::Damaged { file, offset }
 }
 
-/// Whether the names file begins with the schema's text, as long as the body says. The file has all that the body counts.
-fn has_text<T: Site>(site: &mut T, schema: &OneView, body: &Body) -> Result<bool, Fault>
-    requires { IsOneView schema.now }
+/// The schema with whose canonical text the names file begins, if one leaf can serve it. The file has all that the body counts.
+fn read_schema<T: Site>(
+    alloc: Global,
+    site: &mut T,
+    body: &Body,
+) -> Result<Option<Schema>, StoreStop>
+    requires { IsBody (slot_of body.now) body.now }
 
-    ensures answer { IsTrue T.tells → IfOk result (λ same. same ≡ (body.now.schema_len == length schema.now.text)
-        && pointwise nat_eq (take (length schema.now.text) ((T.disk site.old).files 1)) schema.now.text) }
-    ensures long { IfOk result (λ same. IsTrue same → body.now.schema_len ≡ length schema.now.text) }
+    ensures found { IsTrue T.tells → body.now.names_len ≤ length ((T.disk site.old).files 1)
+        → IfOk result (λ found. found ≡ schema_in body.now (T.disk site.old).files) }
+    ensures undamaged { IfErr result IsNoDamage }
+    ensures lawful { IfOk result (λ found. IfSome found IsSchema) }
+    ensures built { IfOk result (λ found. IfSome found (λ schema. IsTrue (is_built schema))) }
+    ensures text { IfOk result (λ found. IfSome found (λ schema. body.now.schema_len ≡ length (one_view schema).text)) }
     ensures disk { IsTrue T.tells → Rests (T.disk site.old) (T.disk site.new) }
-    ensures cause { HasCause (T.disk_faults site.old) (T.disk_faults site.new) result }
+    ensures cause { HasCauseWhere StoreStop.Disk (T.disk_faults site.old) (T.disk_faults site.new) result }
     ensures told_faults { T.told_faults site.new ≡ T.told_faults site.old }
     ensures reads { T.reads site.new ≤ T.reads site.old + 1 }
     ensures writes { T.writes site.new ≡ T.writes site.old }
 {
-    let text = schema.text.as_bytes();
-    if body.schema_len as usize != text.len() {
-        return Ok(false);
+    // No schema that one leaf can serve has a text of more bytes.
+    if body.schema_len as usize > PAGE {
+        return Ok(None);
     }
     let mut front = [0; PAGE];
     let count = site.read(NAMES, 0, &mut front)?;
-    Ok(begins_with(&front[..count], text))
-}
-
-/// Whether the bytes begin with this text.
-fn begins_with(bytes: &[u8], text: &[u8]) -> bool
-    ensures { result ≡ pointwise nat_eq (take (length text.now) bytes.now) text.now }
-{
-    if bytes.len() < text.len() {
-        return false;
+    if count < body.schema_len as usize {
+        return Ok(None);
     }
-    &bytes[..text.len()] == text
+    Ok(declared_by(alloc, &front[..body.schema_len as usize])?)
 }
 
-/// Whether the body is of one view, without masses past the measures.
-fn is_of_view(schema: &OneView, body: &Body) -> bool
-    requires { schema.now.measures ≤ 4 }
-    ensures { result ≡ (body.now.views == 1) && list_all is_zero (drop schema.now.measures body.now.masses) }
+/// Whether the body is of one view, without masses past so many measures.
+fn is_of_view(measures: usize, body: &Body) -> bool
+    requires { measures ≤ 4 }
+    ensures { result ≡ (body.now.views == 1) && list_all is_zero (drop measures body.now.masses) }
 {
-    body.views == 1 && are_zero(&body.masses[schema.measures as usize..])
+    body.views == 1 && are_zero(&body.masses[measures..])
 }
 
 /// Whether all masses are zero.

@@ -13,7 +13,7 @@ ghost use Rattle.forest_root.specs.Body.{max_facts};
 ghost use Rattle.forest_root.specs.Causes.{HasCauseWhere};
 ghost use Rattle.leaf_store.specs.Held.{AreAccepted, IsFactOf, IsLive, IsOneView, entries_of, leaf_limit};
 ghost use Rattle.leaf_store.specs.Opened.{IsNoDamage};
-ghost use Rattle.leaf_store.specs.Next.{IsReady, IsPlan, IsEntryOf, IsPointOf, KeepsLimits, IsStopped, HasMass, added, coordinate, facts_in, masses_in, points_in, next_body, next_generation};
+ghost use Rattle.leaf_store.specs.Next.{IsReady, IsPlan, IsEntryOf, IsPointOf, KeepsLimits, IsStopped, HasMass, added, coordinate, points_in, next_body};
 
 use crate::load::Refusal;
 use crate::one_view::OneView;
@@ -80,8 +80,8 @@ impl Store {
         ensures reads { T.reads site.new ≤ T.reads site.old + 1 }
         ensures writes { T.writes site.new ≡ T.writes site.old }
     {
-        let facts = total(self.facts(), batch.as_slice().len())?;
-        let masses = masses(&self.masses(), batch.as_slice())?;
+        let facts = total(self.live.facts, batch.as_slice().len())?;
+        let masses = masses(&self.live.masses, batch.as_slice())?;
         match self.all_points(alloc, site, batch) {
             Ok(entries) => self.planned(entries, facts, masses),
             Err(stop) => Err(PlanStop::Stopped(stop)),
@@ -232,36 +232,6 @@ fn coordinate(value: &Value) -> u64
 }
 
 impl Store {
-    /// How many facts there are.
-    pub fn facts(&self) -> u64
-        ensures { result ≡ facts_in self.now.live }
-    {
-        match &self.live {
-            Some(body) => body.facts,
-            None => 0,
-        }
-    }
-
-    /// The masses of the facts.
-    fn masses(&self) -> [u128; 4]
-        ensures { result ≡ masses_in self.now.live }
-    {
-        match &self.live {
-            Some(body) => body.masses,
-            None => [0; 4],
-        }
-    }
-
-    /// The generation of the next body.
-    fn generation(&self) -> u64
-        ensures { result ≡ next_generation self.now.live }
-    {
-        match &self.live {
-            Some(body) => body.generation + 1,
-            None => 1,
-        }
-    }
-
     /// The old points and those of the batch, merged.
     fn merged(
         &self,
@@ -288,10 +258,7 @@ impl Store {
 
     /// The file of the live side.
     fn side(&self) -> u32 {
-        match &self.live {
-            Some(body) => SIDE + slot(body),
-            None => SIDE,
-        }
+        SIDE + slot(&self.live)
     }
 
     /// The plan for these points, facts and masses, where one leaf has room for the points.
@@ -322,7 +289,7 @@ impl Store {
         Body {
             views: 1,
             schema_len: text_len as u32,
-            generation: self.generation(),
+            generation: self.live.generation + 1,
             names_len: text_len as u64,
             facts,
             masses,

@@ -1,6 +1,5 @@
 //! What is known of the files of a warehouse with one view.
 ghost use Rattle.std.specs.Prelude.{◌≡◌, length};
-ghost use Rattle.std.specs.Option.{ForSome};
 ghost use Rattle.forest_root.specs.Body.{IsBody};
 ghost use Rattle.leaf_store.specs.Held.{IsOneView};
 ghost use Rattle.leaf_store.specs.Opening.{slot_of};
@@ -46,14 +45,14 @@ impl From<Memory> for StoreStop {
     }
 }
 
-/// The schema of a warehouse, and the live body of its files.
+/// The view of a warehouse, and the live body of its files.
 #[derive(Debug, Drop)]
 pub struct Store {
-    /// The schema.
+    /// What one leaf needs of the schema.
     pub schema: OneView,
-    /// The live body; none where no slot is raised, and then there are no facts.
-    pub live: Option<Body>,
+    /// The live body.
+    pub live: Body,
     ghost one_view: { IsOneView schema },
-    ghost within: { ForSome live (λ body. IsBody (slot_of body) body) },
-    ghost text: { ForSome live (λ body. body.names_len ≡ length schema.text) },
+    ghost within: { IsBody (slot_of live) live },
+    ghost text: { live.names_len ≡ length schema.text },
 }

@@ -1,8 +1,8 @@
 use Rattle.std.proofs.Common.{◌≡◌, subst}
+use Rattle.script_lang.specs.Script.{commands}
 use Rattle.cube_shell.specs.declared.status.Status.{Status}
 use Rattle.cube_shell.specs.declared.status.Status.TheVariants.{Done}
 use Rattle.cube_shell.specs.Ends.{Faults, EndCause}
-use Rattle.cube_shell.specs.Script.{commands}
 use Rattle.cube_shell.proofs.Going.{told_front}
 use Rattle.cube_shell.proofs.top_call.run_within.Goals as goal
 
@@ -11,25 +11,33 @@ not_done : (before now : Faults) (status : Status) → EndCause before now statu
 not_done before now status cause is = subst (EndCause before now) is cause
 
 pub returns-in-Ok-clause-headline : goal.returns-in-Ok-clause-headline
-returns-in-Ok-clause-headline g c = λ s t facts keeps.
-    let run = c.attempt.ensures.any_moment s t facts keeps in
+returns-in-Ok-clause-headline g c = λ s t world keeps.
+    let run = c.attempt.ensures.any_moment s t world keeps in
     record {
-      prefix = told_front (g.T.Site.disk c.args.site.now) (g.T.Site.disk c.attempt.new.site) facts (commands (g.S.Source.left c.args.source.now)) run
+      prefix = told_front (g.T.Site.disk c.args.site.now) (g.T.Site.disk c.attempt.new.site) world
+          (commands (g.S.Source.left c.args.source.now)) run
           (g.met.T.Site.counts_now c.attempt.new.site (g.T.Site.disk c.args.site.now).clock (g.T.Site.disk c.attempt.new.site).files t run.later
           (g.met.T.Site.read_now c.attempt.new.site t));
-      whole = λ is. c.in-Ok.ensures.finished s t facts keeps;
+      whole = λ is. c.in-Ok.ensures.finished s t world keeps;
       read = λ is. c.in-Ok.ensures.read s;
       any_stop = run;
     }
 
 pub returns-in-Err-clause-headline : goal.returns-in-Err-clause-headline
-returns-in-Err-clause-headline g c = λ s t facts keeps.
-    let run = c.attempt.ensures.any_moment s t facts keeps in
+returns-in-Err-clause-headline g c = λ s t world keeps.
+    let run = c.attempt.ensures.any_moment s t world keeps in
     record {
-      prefix = told_front (g.T.Site.disk c.args.site.now) (g.T.Site.disk c.attempt.new.site) facts (commands (g.S.Source.left c.args.source.now)) run
+      prefix = told_front (g.T.Site.disk c.args.site.now) (g.T.Site.disk c.attempt.new.site) world
+          (commands (g.S.Source.left c.args.source.now)) run
           (g.met.T.Site.counts_now c.attempt.new.site (g.T.Site.disk c.args.site.now).clock (g.T.Site.disk c.attempt.new.site).files t run.later
           (g.met.T.Site.read_now c.attempt.new.site t));
       whole = λ is. absurd (not_done _ _ _ c.in-Err.ensures.cause is);
       read = λ is. absurd (not_done _ _ _ c.in-Err.ensures.cause is);
       any_stop = run;
     }
+
+pub returns-in-Ok-clause-broken : goal.returns-in-Ok-clause-broken
+returns-in-Ok-clause-broken g c = λ t no_words place breaks. absurd (c.in-Ok.ensures.broken t no_words place breaks).1
+
+pub returns-in-Err-clause-broken : goal.returns-in-Err-clause-broken
+returns-in-Err-clause-broken g c = λ t no_words place breaks. (c.in-Err.ensures.broken t no_words place breaks).0

@@ -1,11 +1,10 @@
-use Rattle.std.proofs.Common.{◌∙◌}
-use Rattle.cube_shell.proofs.Commanded.{opened_live}
+use Rattle.cube_shell.proofs.Openings.{opened_stands, stops_at}
 use Rattle.cube_shell.proofs.session.Session.start.Goals as goal
 
-pub returns-in-Ok-clause-opened : goal.returns-in-Ok-clause-opened
-returns-in-Ok-clause-opened g c = λ t facts keeps. record {
-  accepted = keeps.accepted;
-  schema = c.in-Ok.ensures.schema ∙ c.in_ok-schema.ensures;
-  live = opened_live _ c.in-Ok.store.live facts _ _ c.in_ok-schema.ensures keeps (c.in-Ok.ensures.live t facts);
-  stable = (c.in-Ok.ensures.opened t).stable;
-}
+pub returns-in-Ok-Some-clause-opened : goal.returns-in-Ok-Some-clause-opened
+returns-in-Ok-Some-clause-opened g c = λ t world keeps.
+    opened_stands c.in-Ok-Some.field-0 c.in-Ok-Some.opened (g.T.Site.disk c.args.site.now).files (g.T.Site.disk c.open.new.site) world c.in-Ok-Some.field-0-is (c.in-Ok-Some.ensures.opened t)
+    keeps (λ none. (c.in-Ok-Some.ensures.none t none).0) (λ schema facts. c.in-Ok-Some.ensures.warehouse t schema facts)
+
+pub returns-in-Err-clause-broken : goal.returns-in-Err-clause-broken
+returns-in-Err-clause-broken g c = λ t place breaks. stops_at place c.in-Err.stop c.from.result c.from.ensures (c.in-Err.ensures.broken t place breaks)

@@ -1,0 +1,49 @@
+-- What opening the files makes of a session.
+use Rattle.std.proofs.Common.{◌≡◌, List, Option, Some, None, refl, sym, ◌∙◌, ap, subst}
+use Rattle.std.specs.Prelude.{IsTrue}
+use Rattle.site_core.specs.Disk.{Files, Disk}
+use Rattle.fact_model.specs.declared.fact.Fact.{Fact}
+use Rattle.cube_schema.specs.Lawful.{IsSchema}
+use Rattle.cube_schema.specs.declared.schema.Schema.{Schema}
+use Rattle.forest_root.specs.Live.{NoneRaised}
+use Rattle.leaf_store.specs.declared.opened.Opened.{Opened}
+use Rattle.leaf_store.specs.declared.store.StoreStop.{StoreStop}
+use Rattle.leaf_store.specs.declared.store.StoreStop.TheVariants as store
+use Rattle.leaf_store.specs.Built.{is_built, one_view}
+use Rattle.leaf_store.specs.Held.{AreAccepted, KeepsFacts}
+use Rattle.leaf_store.specs.Opened.{IsWarehouse, MayBeOpened, Names}
+use Rattle.leaf_store.specs.Opening.{Place}
+use Rattle.cube_shell.specs.declared.stop.Stop.{Stop}
+use Rattle.cube_shell.specs.Damage.{StopsAt}
+use Rattle.cube_shell.specs.Ends.{stop_of}
+use Rattle.cube_shell.specs.Keeps.{Keeps}
+use Rattle.cube_shell.specs.Session.{Belongs}
+use Rattle.cube_shell.specs.World.{World, Warehouse}
+
+-- what was opened is the warehouse that the files keep
+pub opened_stands : (found : Option Opened) (opened : Opened) (files : Files) (disk : Disk) (world : World) → found ≡ Some opened → MayBeOpened found disk → Keeps files world
+    → (NoneRaised (files 0) → found ≡ None)
+    → ((schema : Schema) (facts : List Fact) → IsSchema schema → IsTrue (is_built schema) → AreAccepted (one_view schema) facts → KeepsFacts (one_view schema) facts files → IsWarehouse schema facts disk.files found)
+    → (warehouse : Warehouse) × (world ≡ Some warehouse) × Belongs opened disk warehouse
+opened_stands found opened files disk None is fit keeps none given = let no : Some opened ≡ None = sym is ∙ none keeps in absurd (cc)
+opened_stands found opened files disk (Some warehouse) is fit keeps none given =
+    let all = subst (IsWarehouse warehouse.schema warehouse.facts disk.files) is
+    (given warehouse.schema warehouse.facts keeps.lawful.schema keeps.lawful.built keeps.lawful.accepted keeps.kept) in (
+      warehouse,
+      refl,
+      record {
+        lawful = keeps.lawful;
+        schema = all.0;
+        live = all.1;
+        stable = (subst (λ (o : Option Opened). MayBeOpened o disk) is fit).stable;
+      },
+    )
+
+-- a stop at a place that is named
+named : (place : Place) (stop : StoreStop) → Names (Some place) stop → StopsAt place (stop_of stop)
+named place store.Disk is = tt
+named place (store.Damaged file offset) is = ap (λ o. Rattle.std.specs.Prelude.unwrap_or o place) is
+named place store.Memory is = tt
+
+pub stops_at : (place : Place) (stop : StoreStop) (answer : Stop) → answer ≡ stop_of stop → Names (Some place) stop × Unit {0} → StopsAt place answer × Unit {0}
+stops_at place stop answer same is = (subst (StopsAt place) (sym same) (named place stop is.0), tt)

@@ -1,0 +1,34 @@
+use Rattle.std.proofs.Common.{◌≡◌, ◌≤◌, ◌<◌, ◌+◌, ◌-◌, IsTrue, false, length, vec_len}
+use Rattle.site_core.specs.Moments.{LeavesOnly}
+use Rattle.script_lang.specs.Reading.{to_come}
+use Rattle.script_lang.specs.Script.{commands}
+use Rattle.cube_shell.specs.Headline.{AfterStop}
+use Rattle.cube_shell.specs.Session.{IsFit, IsRunning, Onward, Stands}
+use Rattle.cube_shell.specs.World.{World}
+use Rattle.cube_shell.proofs.serve.serve.Given as goal
+
+-- so many bytes were taken, and with those that are left in the source the other commands are still to come
+abbrev pub invariant-loop-buffer : goal.invariant-loop-buffer
+invariant-loop-buffer g l = record {
+  running : IsRunning l.session.state;
+  fit : IsTrue g.T.Site.tells → IsFit l.session.state (g.T.Site.disk l.site);
+  over : l.lines.over ≡ false;
+  some : 0 < vec_len l.buffer;
+  piece : vec_len l.buffer ≤ 65536;
+  taken : l.taken ≤ l.limit;
+  given : IsTrue g.S.Source.tells → length (g.S.Source.left l.fn.source) ≡ l.taken + length (g.S.Source.left l.source);
+  onward : IsTrue g.S.Source.tells → IsTrue g.T.Site.tells → (world : World)
+      → Stands l.fn.session.state (g.T.Site.disk l.fn.site) world
+      → Onward l.session.state (g.T.Site.disk l.site) world (commands (g.S.Source.left l.fn.source))
+      (g.T.Site.disk l.fn.site).told (to_come l.lines (g.S.Source.left l.source));
+  any_moment : IsTrue g.S.Source.tells → IsTrue g.T.Site.tells → (world : World)
+      → Stands l.fn.session.state (g.T.Site.disk l.fn.site) world
+      → LeavesOnly (g.T.Site.disk l.fn.site) (g.T.Site.disk l.site)
+      (AfterStop world (commands (g.S.Source.left l.fn.source)) (g.T.Site.disk l.fn.site).told);
+  faults : g.S.Source.faults l.source ≡ g.S.Source.faults l.fn.source;
+  disk_faults : g.T.Site.disk_faults l.site ≡ g.T.Site.disk_faults l.fn.site;
+  told_faults : g.T.Site.told_faults l.site ≡ g.T.Site.told_faults l.fn.site;
+}
+
+abbrev pub decreases-loop-buffer : goal.decreases-loop-buffer
+decreases-loop-buffer g l = l.limit + 1 - l.taken

@@ -1,0 +1,20 @@
+use Rattle.std.proofs.Common.{◌∙◌, sym, subst, ap, List, []}
+use Rattle.site_core.specs.Moments.{LeavesOnly}
+use Rattle.script_lang.specs.declared.command.Command.{Command}
+use Rattle.script_lang.specs.Reading.{Reading}
+use Rattle.script_lang.proofs.Feeding.{ended, none_to_come}
+use Rattle.cube_shell.specs.Headline.{AfterStop}
+use Rattle.cube_shell.proofs.Going.{finished_at}
+use Rattle.cube_shell.proofs.serve.take_end.Goals as goal
+
+pub returns-clause-finished : goal.returns-clause-finished
+returns-clause-finished g c = λ t world stands.
+    finished_at _ _ _ world _ _ _ _ _ (c.carry_out.ensures.onward t world [] stands) c.carry_out.ensures.ready
+    (none_to_come c.carry_out.new.lines (c.carry_out.ensures.over ∙ ap (λ (r : Reading). r.over) c.end.ensures))
+    (ended c.args.lines.now c.end.new.self c.requires.goes_on c.end.ensures)
+
+pub returns-clause-any_moment : goal.returns-clause-any_moment
+returns-clause-any_moment g c = λ t world stands.
+    subst (λ (cs : List Command). LeavesOnly (g.T.Site.disk c.args.site.now) (g.T.Site.disk c.carry_out.new.site)
+    (AfterStop world cs (g.T.Site.disk c.args.site.now).told))
+    (sym (ended c.args.lines.now c.end.new.self c.requires.goes_on c.end.ensures)) (c.carry_out.ensures.any_moment t world [] stands)

@@ -1,0 +1,22 @@
+use Rattle.std.proofs.Common.{◌∙◌, sym, subst}
+use Rattle.cube_shell.specs.declared.state.State.{State}
+use Rattle.cube_shell.specs.Session.{Stands}
+use Rattle.cube_shell.proofs.Commanded.{untold, telling}
+use Rattle.cube_shell.proofs.session.Session.command.Goals as goal
+
+pub returns-in_err-state-clause-any_moment : goal.returns-in_err-state-clause-any_moment
+returns-in_err-state-clause-any_moment g c = λ t world stands.
+    let is = subst (λ (s : State). Stands s (g.T.Site.disk c.args.site.now) world) (sym c.replace-state.ensures.value) stands in
+    untold world c.args.command _ _ (c.act.ensures.any_moment t world is)
+
+pub returns-in-Ok-clause-any_moment : goal.returns-in-Ok-clause-any_moment
+returns-in-Ok-clause-any_moment g c = λ t world stands.
+    let is = subst (λ (s : State). Stands s (g.T.Site.disk c.args.site.now) world) (sym c.replace-state.ensures.value) stands in
+    let answer = c.in_ok-state.ensures.answer t world is in
+    telling world c.args.command _ _ (c.act.ensures.any_moment t world is) _ c.in_ok-state.field-0.state _ (c.act.ensures.told t) answer.stands (c.deref.ensures.value ∙ answer.reply) (c.emit.ensures.disk t)
+
+pub returns-in-Err-clause-any_moment : goal.returns-in-Err-clause-any_moment
+returns-in-Err-clause-any_moment g c = λ t world stands.
+    let is = subst (λ (s : State). Stands s (g.T.Site.disk c.args.site.now) world) (sym c.replace-state.ensures.value) stands in
+    let answer = c.in_ok-state.ensures.answer t world is in
+    telling world c.args.command _ _ (c.act.ensures.any_moment t world is) _ c.in_ok-state.field-0.state _ (c.act.ensures.told t) answer.stands (c.deref.ensures.value ∙ answer.reply) (c.emit.ensures.disk t)

@@ -1,0 +1,15 @@
+use Rattle.cube_shell.proofs.Statuses.{named}
+use Rattle.cube_shell.proofs.top_call.attempt.Goals as goal
+
+pub returns-in_err-session-clause-broken : goal.returns-in_err-session-clause-broken
+returns-in_err-session-clause-broken g c = λ t no_words place breaks.
+    named _ c.in_err-session.field-0.0 place c.from_residual.ensures.1 (c.in_err-session.ensures.broken t place breaks).0
+
+pub returns-clause-broken : goal.returns-clause-broken
+returns-clause-broken g c = λ t no_words place breaks. absurd (c.in_ok-session.ensures.broken t place breaks).1
+
+pub returns-clause-unpulled : goal.returns-clause-unpulled
+returns-clause-unpulled g c = λ t no_words place breaks. absurd (c.in_ok-session.ensures.broken t place breaks).1
+
+pub returns-clause-untold : goal.returns-clause-untold
+returns-clause-untold g c = λ t no_words place breaks. absurd (c.in_ok-session.ensures.broken t place breaks).1

@@ -1,0 +1,25 @@
+-- Ends for damage at a place.
+use Rattle.std.specs.Prelude.{◌≡◌}
+use Rattle.leaf_store.specs.Opening.{Place}
+use Rattle.cube_shell.specs.declared.stop.Stop.{Stop}
+use Rattle.cube_shell.specs.declared.stop.Stop.TheVariants as stops
+use Rattle.cube_shell.specs.declared.status.Status.{Status}
+use Rattle.cube_shell.specs.declared.status.Status.TheVariants.{Done, Usage, Input, Disk, Output, Damaged, Memory, TooLong}
+
+-- damage at this place, unless a file failed or memory ran out
+abbrev pub StopsAt : Place → Stop → Type 0
+StopsAt place (stops.Damaged file offset) = place ≡ (file, offset)
+StopsAt place stops.Disk = Unit {0}
+StopsAt place stops.Memory = Unit {0}
+StopsAt place stops.Output = ⊥
+
+-- the same of a run
+abbrev pub EndsAt : Place → Status → Type 0
+EndsAt place (Damaged file offset) = place ≡ (file, offset)
+EndsAt place Disk = Unit {0}
+EndsAt place Memory = Unit {0}
+EndsAt place Done = ⊥
+EndsAt place Usage = ⊥
+EndsAt place Input = ⊥
+EndsAt place Output = ⊥
+EndsAt place TooLong = ⊥

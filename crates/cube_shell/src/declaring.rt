@@ -1,0 +1,104 @@
+//! The command `schema`.
+ghost use Rattle.std.specs.Prelude.{◌≡◌, IsTrue, OnOk, IfOk, IfErr, Ok, None};
+ghost use Rattle.cube_schema.specs.Lawful.{IsSchema};
+ghost use Rattle.leaf_store.specs.Opened.{IsEmpty};
+ghost use Rattle.cube_shell.specs.Ends.{IsNoDamage, StopCause};
+ghost use Rattle.cube_shell.specs.Machine.{declare, declared};
+ghost use Rattle.cube_shell.specs.Session.{Between, IsAnswer, IsFit, IsRunning, Stands};
+ghost use Rattle.cube_shell.specs.World.{World};
+
+use crate::answered::{Answered, plain};
+use crate::state::State;
+use crate::stop::Stop;
+use cube_schema::Schema;
+use leaf_store::{is_built, leaf_view};
+use script_lang::Block;
+use site_core::{Fault, Site};
+use std::alloc::Global;
+
+/// Declares the schema of a block where there is none, or refuses it.
+pub fn declare<T: Site>(
+    alloc: Global,
+    state: State,
+    block: Block,
+    site: &mut T,
+) -> Result<Answered, Stop>
+    requires running { IsRunning state }
+    requires fit { IsTrue T.tells → IsFit state (T.disk site.old) }
+
+    ensures answer { IsTrue T.tells → (world : World) → Stands state (T.disk site.old) world
+        → IfOk result (IsAnswer (T.disk site.new) (declare world block)) }
+    ensures any_moment { IsTrue T.tells → (world : World) → Stands state (T.disk site.old) world
+        → Between (T.disk site.old) (T.disk site.new) world (declare world block).0 }
+    ensures undamaged { IsTrue T.tells → (world : World) → Stands state (T.disk site.old) world
+        → IfErr result IsNoDamage }
+
+    ensures running { IfOk result (λ done. IsRunning done.state) }
+    ensures fit { IsTrue T.tells → IfOk result (λ done. IsFit done.state (T.disk site.new)) }
+    ensures told { IsTrue T.tells → (T.disk site.new).told ≡ (T.disk site.old).told }
+    ensures cause { IfErr result (StopCause (T.disk_faults site.old) (T.disk_faults site.new) (T.told_faults site.old) (T.told_faults site.new)) }
+    ensures disk_faults { OnOk result (T.disk_faults site.new ≡ T.disk_faults site.old) }
+    ensures told_faults { T.told_faults site.new ≡ T.told_faults site.old }
+{
+    match state {
+        State::Stopped => Err(Stop::Memory),
+        State::Empty => declare_first(alloc, block, site),
+        State::Idle(opened) => plain(alloc, State::Idle(opened), "refused declared"),
+    }
+}
+
+/// Declares the schema of a block in files that keep none, or refuses it.
+fn declare_first<T: Site>(alloc: Global, block: Block, site: &mut T) -> Result<Answered, Stop>
+    requires empty { IsTrue T.tells → IsEmpty (T.disk site.old) }
+
+    ensures answer { IsTrue T.tells → IfOk result (IsAnswer (T.disk site.new) (declare None block)) }
+    ensures any_moment { IsTrue T.tells → Between (T.disk site.old) (T.disk site.new) None (declare None block).0 }
+    ensures undamaged { IfErr result IsNoDamage }
+
+    ensures running { IfOk result (λ done. IsRunning done.state) }
+    ensures fit { IsTrue T.tells → IfOk result (λ done. IsFit done.state (T.disk site.new)) }
+    ensures told { IsTrue T.tells → (T.disk site.new).told ≡ (T.disk site.old).told }
+    ensures cause { IfErr result (StopCause (T.disk_faults site.old) (T.disk_faults site.new) (T.told_faults site.old) (T.told_faults site.new)) }
+    ensures disk_faults { OnOk result (T.disk_faults site.new ≡ T.disk_faults site.old) }
+    ensures told_faults { T.told_faults site.new ≡ T.told_faults site.old }
+{
+    let Block::Whole(text) = block else {
+        return plain(alloc, State::Empty, "refused schema block");
+    };
+    match Schema::read(alloc, text.as_bytes()) {
+        Ok(schema) => declare_schema(alloc, schema, site),
+        Err(refusal) => {
+            let reply = reply_text::refused_schema(alloc, refusal)?;
+            Ok(Answered {
+                state: State::Empty,
+                reply,
+            })
+        }
+    }
+}
+
+/// Declares a schema that was read, where one leaf can serve it.
+fn declare_schema<T: Site>(alloc: Global, schema: Schema, site: &mut T) -> Result<Answered, Stop>
+    requires lawful { IsSchema schema }
+    requires empty { IsTrue T.tells → IsEmpty (T.disk site.old) }
+
+    ensures answer { IsTrue T.tells → IfOk result (IsAnswer (T.disk site.new) (declared (Ok schema))) }
+    ensures any_moment { IsTrue T.tells → Between (T.disk site.old) (T.disk site.new) None (declared (Ok schema)).0 }
+    ensures undamaged { IfErr result IsNoDamage }
+
+    ensures running { IfOk result (λ done. IsRunning done.state) }
+    ensures fit { IsTrue T.tells → IfOk result (λ done. IsFit done.state (T.disk site.new)) }
+    ensures told { IsTrue T.tells → (T.disk site.new).told ≡ (T.disk site.old).told }
+    ensures cause { IfErr result (StopCause (T.disk_faults site.old) (T.disk_faults site.new) (T.told_faults site.old) (T.told_faults site.new)) }
+    ensures disk_faults { OnOk result (T.disk_faults site.new ≡ T.disk_faults site.old) }
+    ensures told_faults { T.told_faults site.new ≡ T.told_faults site.old }
+{
+    if !is_built(&schema) {
+        return plain(alloc, State::Empty, "refused unbuilt");
+    }
+    let view = leaf_view(alloc, &schema)?;
+    match leaf_store::declare(site, schema, view) {
+        Ok(opened) => plain(alloc, State::Idle(opened), "declared"),
+        Err(Fault) => Err(Stop::Disk),
+    }
+}

@@ -1,0 +1,168 @@
+//! The command `load`.
+ghost use Rattle.std.specs.Prelude.{◌≡◌, IsTrue, OnOk, IfOk, IfErr, Ok, Some, length};
+ghost use Rattle.std.specs.List.{All};
+ghost use Rattle.cube_schema.specs.Agreeing.{Agrees};
+ghost use Rattle.leaf_store.specs.Opened.{IsOpened};
+ghost use Rattle.cube_shell.specs.Ends.{IsNoDamage, StopCause};
+ghost use Rattle.cube_shell.specs.Machine.{accepted, load};
+ghost use Rattle.cube_shell.specs.Session.{Belongs, Between, IsAnswer, IsFit, IsRunning, Stands};
+ghost use Rattle.cube_shell.specs.World.{Warehouse, World};
+ghost use Rattle.reply_text.specs.Replies.{committed_text};
+ghost use Rattle.cube_shell.specs.Refusals.{measure_name, refusal_text};
+
+use crate::answered::{Answered, plain};
+use crate::state::State;
+use crate::stop::Stop;
+use cube_schema::Schema;
+use fact_csv::read_batch;
+use fact_model::FactList;
+use leaf_store::{Loaded, Opened, Refusal};
+use script_lang::Block;
+use site_core::Site;
+use std::alloc::Global;
+
+/// Takes in the facts of a block, or refuses them.
+pub fn load<T: Site>(
+    alloc: Global,
+    state: State,
+    block: Block,
+    site: &mut T,
+) -> Result<Answered, Stop>
+    requires running { IsRunning state }
+    requires fit { IsTrue T.tells → IsFit state (T.disk site.old) }
+
+    ensures answer { IsTrue T.tells → (world : World) → Stands state (T.disk site.old) world
+        → IfOk result (IsAnswer (T.disk site.new) (load world block)) }
+    ensures any_moment { IsTrue T.tells → (world : World) → Stands state (T.disk site.old) world
+        → Between (T.disk site.old) (T.disk site.new) world (load world block).0 }
+    ensures undamaged { IsTrue T.tells → (world : World) → Stands state (T.disk site.old) world
+        → IfErr result IsNoDamage }
+
+    ensures running { IfOk result (λ done. IsRunning done.state) }
+    ensures fit { IsTrue T.tells → IfOk result (λ done. IsFit done.state (T.disk site.new)) }
+    ensures told { IsTrue T.tells → (T.disk site.new).told ≡ (T.disk site.old).told }
+    ensures cause { IfErr result (StopCause (T.disk_faults site.old) (T.disk_faults site.new) (T.told_faults site.old) (T.told_faults site.new)) }
+    ensures disk_faults { OnOk result (T.disk_faults site.new ≡ T.disk_faults site.old) }
+    ensures told_faults { T.told_faults site.new ≡ T.told_faults site.old }
+{
+    match state {
+        State::Stopped => Err(Stop::Memory),
+        State::Empty => plain(alloc, State::Empty, "refused no schema"),
+        State::Idle(opened) => load_block(alloc, opened, block, site),
+    }
+}
+
+/// Takes in the facts of a block by the schema, or refuses them.
+fn load_block<T: Site>(
+    alloc: Global,
+    opened: Opened,
+    block: Block,
+    site: &mut T,
+) -> Result<Answered, Stop>
+    requires fit { IsTrue T.tells → IsOpened opened.store.live (T.disk site.old) }
+
+    ensures answer { IsTrue T.tells → (warehouse : Warehouse) → Belongs opened (T.disk site.old) warehouse
+        → IfOk result (IsAnswer (T.disk site.new) (load (Some warehouse) block)) }
+    ensures any_moment { IsTrue T.tells → (warehouse : Warehouse) → Belongs opened (T.disk site.old) warehouse
+        → Between (T.disk site.old) (T.disk site.new) (Some warehouse) (load (Some warehouse) block).0 }
+    ensures undamaged { IsTrue T.tells → (warehouse : Warehouse) → Belongs opened (T.disk site.old) warehouse
+        → IfErr result IsNoDamage }
+
+    ensures running { IfOk result (λ done. IsRunning done.state) }
+    ensures fit { IsTrue T.tells → IfOk result (λ done. IsFit done.state (T.disk site.new)) }
+    ensures told { IsTrue T.tells → (T.disk site.new).told ≡ (T.disk site.old).told }
+    ensures cause { IfErr result (StopCause (T.disk_faults site.old) (T.disk_faults site.new) (T.told_faults site.old) (T.told_faults site.new)) }
+    ensures disk_faults { OnOk result (T.disk_faults site.new ≡ T.disk_faults site.old) }
+    ensures told_faults { T.told_faults site.new ≡ T.told_faults site.old }
+{
+    let Block::Whole(text) = block else {
+        return plain(alloc, State::Idle(opened), "refused block");
+    };
+    match read_batch(alloc, &opened.schema, text.as_bytes()) {
+        Ok(batch) => take_in(alloc, opened, &batch, site),
+        Err(refusal) => {
+            let reply = reply_text::refused_batch(alloc, refusal)?;
+            Ok(Answered {
+                state: State::Idle(opened),
+                reply,
+            })
+        }
+    }
+}
+
+/// Takes in a batch, or refuses it by the first limit that it would pass. An empty batch is taken in without a call on a file.
+fn take_in<T: Site>(
+    alloc: Global,
+    opened: Opened,
+    batch: &FactList,
+    site: &mut T,
+) -> Result<Answered, Stop>
+    requires agree { All (Agrees opened.schema) batch.now }
+    requires fit { IsTrue T.tells → IsOpened opened.store.live (T.disk site.old) }
+
+    ensures answer { IsTrue T.tells → (warehouse : Warehouse) → Belongs opened (T.disk site.old) warehouse
+        → IfOk result (IsAnswer (T.disk site.new) (accepted warehouse batch.now)) }
+    ensures any_moment { IsTrue T.tells → (warehouse : Warehouse) → Belongs opened (T.disk site.old) warehouse
+        → Between (T.disk site.old) (T.disk site.new) (Some warehouse) (accepted warehouse batch.now).0 }
+    ensures undamaged { IsTrue T.tells → (warehouse : Warehouse) → Belongs opened (T.disk site.old) warehouse
+        → IfErr result IsNoDamage }
+
+    ensures running { IfOk result (λ done. IsRunning done.state) }
+    ensures fit { IsTrue T.tells → IfOk result (λ done. IsFit done.state (T.disk site.new)) }
+    ensures told { IsTrue T.tells → (T.disk site.new).told ≡ (T.disk site.old).told }
+    ensures cause { IfErr result (StopCause (T.disk_faults site.old) (T.disk_faults site.new) (T.told_faults site.old) (T.told_faults site.new)) }
+    ensures disk_faults { OnOk result (T.disk_faults site.new ≡ T.disk_faults site.old) }
+    ensures told_faults { T.told_faults site.new ≡ T.told_faults site.old }
+{
+    if batch.as_slice().is_empty() {
+        return acknowledge(alloc, opened);
+    }
+    let Opened { schema, store } = opened;
+    match store.load(alloc, site, batch) {
+        Ok(Loaded::Committed(store)) => acknowledge(alloc, Opened { schema, store }),
+        Ok(Loaded::Refused(store, refusal)) => refuse(alloc, Opened { schema, store }, refusal),
+        Err(stop) => Err(Stop::from(stop)),
+    }
+}
+
+/// Acknowledges a batch that was taken in.
+fn acknowledge(alloc: Global, opened: Opened) -> Result<Answered, Stop>
+    ensures state { IfOk result (λ done. done.state ≡ State.Idle opened) }
+    ensures reply { IfOk result (λ done. done.reply.items ≡ committed_text opened.store.live.facts) }
+    ensures memory { IfErr result (λ stop. stop ≡ Stop.Memory) }
+{
+    let reply = reply_text::committed(alloc, opened.store.live.facts)?;
+    Ok(Answered {
+        state: State::Idle(opened),
+        reply,
+    })
+}
+
+/// Refuses a batch by the first limit that it would pass.
+fn refuse(alloc: Global, opened: Opened, refusal: Refusal) -> Result<Answered, Stop>
+    ensures state { IfOk result (λ done. done.state ≡ State.Idle opened) }
+    ensures reply { IfOk result (λ done. done.reply.items ≡ refusal_text opened.schema refusal) }
+    ensures memory { IfErr result (λ stop. stop ≡ Stop.Memory) }
+{
+    let reply = match refusal {
+        Refusal::Facts => reply_text::plain(alloc, "refused facts")?,
+        Refusal::Mass(measure) => {
+            reply_text::refused_mass(alloc, measure_name(&opened.schema, measure))?
+        }
+        Refusal::Points => reply_text::plain(alloc, "refused unbuilt")?,
+    };
+    Ok(Answered {
+        state: State::Idle(opened),
+        reply,
+    })
+}
+
+/// The name of a measure; empty where there is none.
+fn measure_name(schema: &Schema, measure: u32) -> &[u8]
+    ensures { result.now ≡ measure_name schema.now measure }
+{
+    match schema.measures.get(measure as usize) {
+        Some(name) => name.as_bytes(),
+        None => &[],
+    }
+}

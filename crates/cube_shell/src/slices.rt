@@ -1,0 +1,110 @@
+//! The command `slice`.
+ghost use Rattle.std.specs.Prelude.{◌≡◌, ◌<◌, IsTrue, OnOk, IfOk, IfErr, Some, length};
+ghost use Rattle.leaf_store.specs.Opened.{IsOpened};
+ghost use Rattle.cube_shell.specs.Ends.{IsNoDamage, StopCause};
+ghost use Rattle.cube_shell.specs.Machine.{answered, slice};
+ghost use Rattle.cube_shell.specs.Session.{Belongs, Between, IsAnswer, IsFit, IsRunning, Stands};
+ghost use Rattle.cube_shell.specs.World.{Warehouse, World};
+
+use crate::answered::{Answered, plain};
+use crate::asked::asked;
+use crate::state::State;
+use crate::stop::Stop;
+use leaf_store::Opened;
+use site_core::Site;
+use std::alloc::Global;
+use view_rows::sums_by_view;
+
+/// Answers a slice, or refuses it.
+pub fn slice<T: Site>(
+    alloc: Global,
+    state: State,
+    text: &[u8],
+    site: &mut T,
+) -> Result<Answered, Stop>
+    requires running { IsRunning state }
+    requires fit { IsTrue T.tells → IsFit state (T.disk site.old) }
+
+    ensures answer { IsTrue T.tells → (world : World) → Stands state (T.disk site.old) world
+        → IfOk result (IsAnswer (T.disk site.new) (slice world text.now)) }
+    ensures any_moment { IsTrue T.tells → (world : World) → Stands state (T.disk site.old) world
+        → Between (T.disk site.old) (T.disk site.new) world (slice world text.now).0 }
+    ensures undamaged { IsTrue T.tells → (world : World) → Stands state (T.disk site.old) world
+        → IfErr result IsNoDamage }
+
+    ensures running { IfOk result (λ done. IsRunning done.state) }
+    ensures fit { IsTrue T.tells → IfOk result (λ done. IsFit done.state (T.disk site.new)) }
+    ensures told { IsTrue T.tells → (T.disk site.new).told ≡ (T.disk site.old).told }
+    ensures cause { IfErr result (StopCause (T.disk_faults site.old) (T.disk_faults site.new) (T.told_faults site.old) (T.told_faults site.new)) }
+    ensures disk_faults { OnOk result (T.disk_faults site.new ≡ T.disk_faults site.old) }
+    ensures told_faults { T.told_faults site.new ≡ T.told_faults site.old }
+{
+    match state {
+        State::Stopped => Err(Stop::Memory),
+        State::Empty => plain(alloc, State::Empty, "refused no schema"),
+        State::Idle(opened) => answer(alloc, opened, text, site),
+    }
+}
+
+/// Answers a slice that asks for sums by the view, and refuses any other.
+fn answer<T: Site>(
+    alloc: Global,
+    opened: Opened,
+    text: &[u8],
+    site: &mut T,
+) -> Result<Answered, Stop>
+    requires fit { IsTrue T.tells → IsOpened opened.store.live (T.disk site.old) }
+
+    ensures answer { IsTrue T.tells → (warehouse : Warehouse) → Belongs opened (T.disk site.old) warehouse
+        → IfOk result (IsAnswer (T.disk site.new) (slice (Some warehouse) text.now)) }
+    ensures any_moment { IsTrue T.tells → (warehouse : Warehouse) → Belongs opened (T.disk site.old) warehouse
+        → Between (T.disk site.old) (T.disk site.new) (Some warehouse) (slice (Some warehouse) text.now).0 }
+    ensures undamaged { IsTrue T.tells → (warehouse : Warehouse) → Belongs opened (T.disk site.old) warehouse
+        → IfErr result IsNoDamage }
+
+    ensures running { IfOk result (λ done. IsRunning done.state) }
+    ensures fit { IsTrue T.tells → IfOk result (λ done. IsFit done.state (T.disk site.new)) }
+    ensures told { IsTrue T.tells → (T.disk site.new).told ≡ (T.disk site.old).told }
+    ensures cause { IfErr result (StopCause (T.disk_faults site.old) (T.disk_faults site.new) (T.told_faults site.old) (T.told_faults site.new)) }
+    ensures disk_faults { OnOk result (T.disk_faults site.new ≡ T.disk_faults site.old) }
+    ensures told_faults { T.told_faults site.new ≡ T.told_faults site.old }
+{
+    match asked(alloc, &opened.schema, text)? {
+        Some(measure) => sums(alloc, opened, measure, site),
+        None => plain(alloc, State::Idle(opened), "refused unbuilt"),
+    }
+}
+
+/// Answers with the sums of a measure by the view, from the view's points.
+fn sums<T: Site>(
+    alloc: Global,
+    opened: Opened,
+    measure: u32,
+    site: &mut T,
+) -> Result<Answered, Stop>
+    requires measure { measure < 4 }
+    requires fit { IsTrue T.tells → IsOpened opened.store.live (T.disk site.old) }
+
+    ensures answer { IsTrue T.tells → (warehouse : Warehouse) → Belongs opened (T.disk site.old) warehouse
+        → IfOk result (IsAnswer (T.disk site.new) (answered warehouse (Some measure))) }
+    ensures any_moment { IsTrue T.tells → (warehouse : Warehouse) → Belongs opened (T.disk site.old) warehouse
+        → Between (T.disk site.old) (T.disk site.new) (Some warehouse) (answered warehouse (Some measure)).0 }
+    ensures undamaged { IsTrue T.tells → (warehouse : Warehouse) → Belongs opened (T.disk site.old) warehouse
+        → IfErr result IsNoDamage }
+
+    ensures running { IfOk result (λ done. IsRunning done.state) }
+    ensures fit { IsTrue T.tells → IfOk result (λ done. IsFit done.state (T.disk site.new)) }
+    ensures told { IsTrue T.tells → (T.disk site.new).told ≡ (T.disk site.old).told }
+    ensures cause { IfErr result (StopCause (T.disk_faults site.old) (T.disk_faults site.new) (T.told_faults site.old) (T.told_faults site.new)) }
+    ensures disk_faults { OnOk result (T.disk_faults site.new ≡ T.disk_faults site.old) }
+    ensures told_faults { T.told_faults site.new ≡ T.told_faults site.old }
+{
+    let points = opened.store.points(alloc, site)?;
+    let arity = opened.store.schema.view.as_slice().len();
+    let rows = sums_by_view(alloc, points.as_slice(), arity, measure)?;
+    let reply = reply_text::answer(alloc, &rows)?;
+    Ok(Answered {
+        state: State::Idle(opened),
+        reply,
+    })
+}

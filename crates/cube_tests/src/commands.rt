@@ -1,0 +1,308 @@
+//! What each command tells over files in memory, compared with what was written by hand.
+use crate::bytes::DUMPED_NAMES;
+use crate::runs::run_over;
+use cube_shell::Status;
+use site_mem::{Call, MemorySite};
+use std::alloc::Global;
+use std::process::Abort;
+use std::test::Fail;
+
+/// A script over empty files ends well, and tells this.
+fn tells(rt: &impl Abort, alloc: Global, script: &str, told: &str) -> Result<(), Fail> {
+    let mut site = MemorySite::new(alloc);
+    let ended = run_over(alloc, &mut site, script.as_bytes())?;
+    assert_eq!(rt; ended, Status::Done, "{script:?}");
+    assert_eq!(rt; site.told(), told.as_bytes(), "{script:?}");
+    Ok(())
+}
+
+/// Behind the declaration of a schema the script tells this.
+fn tells_behind(
+    rt: &impl Abort,
+    alloc: Global,
+    schema: &str,
+    script: &str,
+    told: &str,
+) -> Result<(), Fail> {
+    let script = format!(in alloc; "schema\n{schema}end\n{script}")?;
+    let told = format!(in alloc; "declared\n{told}")?;
+    tells(rt, alloc, script.as_str(), told.as_str())
+}
+
+#[test]
+fn empty_script(rt: HostRuntime) -> Result<(), Fail> {
+    let alloc = rt.alloc();
+    let mut site = MemorySite::new(alloc);
+    assert_eq!(rt; run_over(alloc, &mut site, b"")?, Status::Done);
+    assert_eq!(rt; site.told(), b"".as_slice());
+    for file in 0..4 {
+        assert_eq!(rt; site.file(file), b"".as_slice(), "file {file}");
+    }
+    Ok(())
+}
+
+#[test]
+fn long_line(rt: HostRuntime) -> Result<(), Fail> {
+    let alloc = rt.alloc();
+    let mut script = vec![in alloc; b'a'; 65_536]?;
+    script.push(b'\n')?;
+    script.extend_from_slice(&vec![in alloc; b'a'; 65_537]?)?;
+    script.push(b'\n')?;
+    let mut site = MemorySite::new(alloc);
+    assert_eq!(rt; run_over(alloc, &mut site, &script)?, Status::Done);
+    let told = b"refused unknown\nrefused long line\n".as_slice();
+    assert_eq!(rt; site.told(), told);
+    Ok(())
+}
+
+#[test]
+fn schema_refusals(rt: HostRuntime) -> Result<(), Fail> {
+    let alloc = rt.alloc();
+    let five = "measure a\nmeasure b\nmeasure c\nmeasure d\nmeasure e\n";
+    for (block, refusal) in [
+        ("attr 1a text\n", "name 1"),
+        ("attr a text max 0\n", "range 1"),
+        ("view x\n", "attribute 1"),
+        ("attr a text\n", "no measure"),
+        ("attr a text\nmeasure a\n", "repeated 2"),
+        ("attr a number\n\nmeasure\n", "line 3"),
+        (five, "many 5"),
+        ("", "no attribute"),
+        ("measure m\nview\n", "no attribute"),
+        ("attr a number\nmeasure m\n", "no view"),
+    ] {
+        let script = format!(in alloc; "schema\n{block}end\nstatus\n")?;
+        let told = format!(in alloc; "refused schema {refusal}\nno schema\n")?;
+        tells(&rt, alloc, script.as_str(), told.as_str())?;
+    }
+    Ok(())
+}
+
+#[test]
+fn schema_unbuilt(rt: HostRuntime) -> Result<(), Fail> {
+    for script in [
+        "schema\nattr n number\nattr p text\nmeasure m\nview n\nend\nstatus\n",
+        "schema\nattr n number\nmeasure m\nview n\nview\nend\nstatus\n",
+    ] {
+        tells(&rt, rt.alloc(), script, "refused unbuilt\nno schema\n")?;
+    }
+    Ok(())
+}
+
+#[test]
+fn quoted_numbers(rt: HostRuntime) -> Result<(), Fail> {
+    tells_behind(
+        &rt,
+        rt.alloc(),
+        DUMPED_NAMES,
+        "load\n\"3\",\"5\"\nend\nload\n1,2,3\nend\nload\nend\n",
+        "committed 1\nrefused row 1 fields\ncommitted 1\n",
+    )
+}
+
+#[test]
+fn without_a_schema_a_script_tells_this(rt: HostRuntime) -> Result<(), Fail> {
+    for (script, told) in [
+        ("status\n", "no schema\n"),
+        (
+            "slice sum(m) by a\nslice \n",
+            "refused no schema\nrefused no schema\n",
+        ),
+        (
+            "load\n1,1\nend\nload\nend\n",
+            "refused no schema\nrefused no schema\n",
+        ),
+        ("load\nx\nend\nstatus\n", "refused no schema\nno schema\n"),
+        ("begin\n1,1\nstatus\nend\n", "refused unknown\n"),
+        ("step 3\nfinish\n", "refused unknown\nrefused unknown\n"),
+        (
+            "abandon\ngenerate 1 5\n",
+            "refused unknown\nrefused unknown\n",
+        ),
+        (
+            "slice\n Status\nend\n",
+            "refused unknown\nrefused unknown\nrefused unknown\n",
+        ),
+        ("\n\r\n\nstatus\r\n", "no schema\n"),
+        ("status\r\r\nstatus\r", "refused unknown\nno schema\n"),
+        (
+            "status\nschema\nattr a number\n",
+            "no schema\nrefused open block\n",
+        ),
+        ("begin\nstatus\n", "refused open block\n"),
+    ] {
+        tells(&rt, rt.alloc(), script, told)?;
+    }
+    Ok(())
+}
+
+#[test]
+fn behind_a_schema_a_script_tells_this(rt: HostRuntime) -> Result<(), Fail> {
+    for (script, told) in [
+        ("status\n", "facts 0\n"),
+        ("load\n7,1\n7,1\nend\nstatus\n", "committed 2\nfacts 2\n"),
+        (
+            "load\n7,1\n7\nend\nstatus\n",
+            "refused row 2 fields\nfacts 0\n",
+        ),
+        (
+            "schema\nattr b number\nmeasure m\nview b\nend\nstatus\n",
+            "refused declared\nfacts 0\n",
+        ),
+        (
+            "load\n4294967293,0\nend\nload\n4294967294,0\nend\n",
+            "committed 1\nrefused row 1 number 1\n",
+        ),
+        (
+            "load\n-1,0\nend\nload\n1,1.5\nend\n",
+            "refused row 1 number 1\nrefused row 1 number 2\n",
+        ),
+        (
+            "begin\n1,1\nend\nstep 1\nstatus\n",
+            "refused unknown\nrefused unknown\nfacts 0\n",
+        ),
+        ("finish\nabandon\n", "refused unknown\nrefused unknown\n"),
+        ("generate 1 5\nstatus\n", "refused unknown\nfacts 0\n"),
+        (
+            "load\r\n3,5\r\n\r\n1,-2\r\nend\r\nslice sum(m) by a\r\n",
+            "committed 2\n1,-2\n3,5\nrows 2\n",
+        ),
+        ("slice sum(m) by a\r\r\n", "refused unbuilt\n"),
+        (
+            "load\n1,1\nend\nload\n1,1\n",
+            "committed 1\nrefused open block\n",
+        ),
+    ] {
+        tells_behind(&rt, rt.alloc(), DUMPED_NAMES, script, told)?;
+    }
+    Ok(())
+}
+
+#[test]
+fn a_schema_is_kept_as_its_canonical_text(rt: HostRuntime) -> Result<(), Fail> {
+    let alloc = rt.alloc();
+    let mut site = MemorySite::new(alloc);
+    let script = b"schema\r\nmeasure m\r\n\r\nattr a number\r\nview a\r\nend\r\n".as_slice();
+    assert_eq!(rt; run_over(alloc, &mut site, script)?, Status::Done);
+    assert_eq!(rt; site.told(), b"declared\n".as_slice());
+    assert_eq!(rt; site.file(1), DUMPED_NAMES.as_bytes());
+    Ok(())
+}
+
+#[test]
+fn a_command_that_changes_nothing_calls_no_file(rt: HostRuntime) -> Result<(), Fail> {
+    let alloc = rt.alloc();
+    for (script, told) in [
+        ("load\n\nend\n", "committed 0\n"),
+        ("load\n3\nend\n", "refused row 1 fields\n"),
+        ("schema\nend\n", "refused declared\n"),
+        ("status\n", "facts 0\n"),
+        ("slice sum(m) by a\n", "rows 0\n"),
+        ("slice count\n", "refused unbuilt\n"),
+    ] {
+        let mut site = MemorySite::new(alloc);
+        let script = format!(in alloc; "schema\n{DUMPED_NAMES}end\n{script}")?;
+        let ended = run_over(alloc, &mut site, script.as_bytes())?;
+        assert_eq!(rt; ended, Status::Done, "{script:?}");
+        // Two calls to open, six for the schema, and then the two outputs.
+        let outputs = [
+            Call::Emit { len: 9 },
+            Call::Emit {
+                len: told.len() as u64,
+            },
+        ];
+        let behind = site.calls().get(8..).unwrap_or(&[]);
+        assert_eq!(rt; behind, outputs.as_slice(), "{script:?}");
+    }
+    Ok(())
+}
+
+const ROWS: &str = "9,1,10,100\n1,2,20,200\n1,3,30,300\n10,1,40,400\n1,2,5,-7\n";
+
+#[test]
+fn a_slice_has_one_row_for_each_point_by_its_values(rt: HostRuntime) -> Result<(), Fail> {
+    let alloc = rt.alloc();
+    for (view, slice, told) in [
+        (
+            "view x,y",
+            "sum(mm) by x,y",
+            "1,2,193\n1,3,300\n9,1,100\n10,1,400\nrows 4\n",
+        ),
+        (
+            "view x,y",
+            "sum(m) by x,y",
+            "1,2,25\n1,3,30\n9,1,10\n10,1,40\nrows 4\n",
+        ),
+        (
+            "view y,x",
+            "sum(m) by y,x",
+            "1,9,10\n1,10,40\n2,1,25\n3,1,30\nrows 4\n",
+        ),
+        ("view y", "sum(mm) by y", "1,500\n2,193\n3,300\nrows 3\n"),
+        ("view x", "sum(m) by x", "1,55\n9,10\n10,40\nrows 3\n"),
+        ("view", "sum(m) by ", "refused unbuilt\n"),
+        ("view", "sum(m)", "refused unbuilt\n"),
+    ] {
+        let schema = format!(in alloc;
+            "attr x number\nattr y number\nmeasure m\nmeasure mm\n{view}\n"
+        )?;
+        let script = format!(in alloc; "load\n{ROWS}end\nslice {slice}\n")?;
+        let told = format!(in alloc; "committed 5\n{told}")?;
+        tells_behind(&rt, alloc, schema.as_str(), script.as_str(), told.as_str())?;
+    }
+    Ok(())
+}
+
+#[test]
+fn a_slice_of_another_form_is_refused(rt: HostRuntime) -> Result<(), Fail> {
+    let alloc = rt.alloc();
+    let schema = "attr x number\nattr y number\nmeasure m\nmeasure mm\nview x,y\n";
+    for slice in [
+        "",
+        "count",
+        "count by x,y",
+        "sum(m)",
+        "sum(m) by x",
+        "sum(m) by y,x",
+        "sum(m) by x,y,x",
+        "sum(m) by x, y",
+        "sum(m) by x,y ",
+        " sum(m) by x,y",
+        "sum(m)  by x,y",
+        "sum( m) by x,y",
+        "sum(M) by x,y",
+        "sum(mmm) by x,y",
+        "sum() by x,y",
+        "sum(x) by x,y",
+        "sum(m),sum(mm) by x,y",
+        "sum(m) by x,y where x=1",
+    ] {
+        let script = format!(in alloc; "slice {slice}\n")?;
+        tells_behind(&rt, alloc, schema, script.as_str(), "refused unbuilt\n")?;
+    }
+    Ok(())
+}
+
+#[test]
+fn a_load_is_refused_by_its_first_fault(rt: HostRuntime) -> Result<(), Fail> {
+    let schema = "attr x number\nattr y number\nmeasure m\nmeasure mm\nview x,y\n";
+    let most = "170141183460469231731687303715884105727";
+    let alloc = rt.alloc();
+    for (rows, refusal) in [
+        ("1,2,3\n", "row 1 fields"),
+        ("1,2,3,4\nbolt,2,3,4\n", "row 2 number 1"),
+        ("1,bolt,3,4\n", "row 1 number 2"),
+        ("1,2,,4\n", "row 1 number 3"),
+        ("1,2,3,bolt\n", "row 1 number 4"),
+        ("1,1,0,-1\n", "mass mm"),
+        ("1,1,-1,-1\n", "mass m"),
+        ("1,1,0,-1\n1,1\n", "row 2 fields"),
+    ] {
+        let script = format!(in alloc;
+            "load\n1,1,{most},-{most}\nend\nload\n{rows}end\nload\n1,1,0,0\nend\nstatus\n"
+        )?;
+        let told = format!(in alloc; "committed 1\nrefused {refusal}\ncommitted 2\nfacts 2\n")?;
+        tells_behind(&rt, alloc, schema, script.as_str(), told.as_str())?;
+    }
+    Ok(())
+}

@@ -1,0 +1,185 @@
+//! Files that were made by hand, and the places where they are damaged.
+use crate::bytes::{DUMPED_NAMES, dumped_leaf, dumped_root};
+use crate::runs::run_over;
+use cube_shell::{Status, run};
+use fact_model::Text;
+use site_mem::{MemorySite, MemorySource};
+use std::alloc::Global;
+use std::test::Fail;
+
+/// Other bytes of the dumped root file, the names file, and the lengths of both sides, of which each is a front of the dumped leaf.
+type Change<'a> = (&'a [(usize, u8)], &'a str, [usize; 2]);
+
+/// The dumped files with a change.
+fn changed(alloc: Global, change: Change<'_>) -> Result<MemorySite, Fail> {
+    let (bytes, names, [first, second]) = change;
+    let mut root = dumped_root();
+    for (place, byte) in bytes {
+        root[*place % 2050] = *byte;
+    }
+    let leaf = dumped_leaf();
+    let files = [
+        Text::from_bytes(alloc, &root)?,
+        Text::from_bytes(alloc, names.as_bytes())?,
+        Text::from_bytes(alloc, leaf.get(..first).unwrap_or(&leaf))?,
+        Text::from_bytes(alloc, leaf.get(..second).unwrap_or(&leaf))?,
+    ];
+    Ok(MemorySite::from_files(alloc, files)?)
+}
+
+const LONGER: &str = "attr a number\nmeasure m\nview a\nmore";
+
+#[test]
+fn files_without_damage_open(rt: HostRuntime) -> Result<(), Fail> {
+    let alloc = rt.alloc();
+    let changes: [Change<'_>; 5] = [
+        (&[], DUMPED_NAMES, [0, 4096]),
+        (&[], LONGER, [4095, 4096]),
+        // Bodies that are not raised.
+        (&[(0, 0)], DUMPED_NAMES, [0, 4096]),
+        (&[(9, 2), (2048, 0)], DUMPED_NAMES, [0, 4096]),
+        (&[(9, 2), (2048, 255)], DUMPED_NAMES, [0, 4096]),
+    ];
+    for change in changes {
+        let mut site = changed(alloc, change)?;
+        let script = b"status\nslice sum(m) by a\n".as_slice();
+        assert_eq!(rt; run_over(alloc, &mut site, script)?, Status::Done);
+        let told = b"facts 3\n1,-2\n3,9\nrows 2\n".as_slice();
+        assert_eq!(rt; site.told(), told, "{:?} {:?}", change.0, change.1);
+    }
+    Ok(())
+}
+
+/// Changes that are damage, each with its place: a file, and an offset in it.
+const DAMAGE: [(Change<'static>, u32, u64); 21] = [
+    // A raised slot's body does not decode: by its format, its slot, its generation.
+    ((&[(1033, 2)], DUMPED_NAMES, [0, 4096]), 0, 1024),
+    ((&[(1047, 2)], DUMPED_NAMES, [0, 4096]), 0, 1024),
+    ((&[(1047, 5)], DUMPED_NAMES, [0, 4096]), 0, 1024),
+    ((&[(9, 2)], DUMPED_NAMES, [0, 4096]), 0, 0),
+    ((&[(9, 2), (1033, 2)], DUMPED_NAMES, [0, 4096]), 0, 0),
+    // The names file is too short.
+    ((&[], "attr a number\nmeasure m\nview a", [0, 4096]), 1, 30),
+    ((&[], "", [0, 4096]), 1, 0),
+    ((&[(1035, 2)], "attr a number", [0, 4096]), 1, 13),
+    // Its text is not that of a schema, or not the canonical one.
+    ((&[], "attr a number\nmeasure m\nview b\n", [0, 4096]), 1, 0),
+    ((&[], "attr a number\nmeasure m\nview  a", [0, 4096]), 1, 0),
+    ((&[], "attr a number\r\nmeasure m\nview a", [0, 4096]), 1, 0),
+    ((&[], "\nattr a number\nmeasure m\nview a", [0, 4096]), 1, 0),
+    // The schema has a text attribute, or two views.
+    (
+        (
+            &[(1039, 35), (1055, 35)],
+            "attr a text max 9\nmeasure m\nview a\n",
+            [0, 4096],
+        ),
+        1,
+        0,
+    ),
+    (
+        (
+            &[(1035, 2), (1039, 36), (1055, 36)],
+            "attr a number\nmeasure m\nview a\nview\n",
+            [0, 4096],
+        ),
+        1,
+        0,
+    ),
+    // The body has another number of views, a mass past the measures, or names.
+    ((&[(1035, 2)], DUMPED_NAMES, [0, 4096]), 0, 1024),
+    ((&[(1095, 1)], DUMPED_NAMES, [0, 0]), 0, 1024),
+    ((&[(1055, 32)], LONGER, [0, 0]), 1, 31),
+    // The side is too short.
+    ((&[], DUMPED_NAMES, [4096, 4095]), 3, 4095),
+    ((&[], DUMPED_NAMES, [4096, 0]), 3, 0),
+    // Generation 2 is live, with the facts of generation 1.
+    (
+        (
+            &[(23, 2), (39, 3), (55, 11), (111, 2)],
+            DUMPED_NAMES,
+            [4095, 4096],
+        ),
+        2,
+        4095,
+    ),
+    (
+        (
+            &[(23, 2), (39, 3), (55, 11), (111, 2), (11, 2)],
+            DUMPED_NAMES,
+            [4096, 4096],
+        ),
+        0,
+        0,
+    ),
+];
+
+#[test]
+fn damage_is_named_before_the_first_pull(rt: HostRuntime) -> Result<(), Fail> {
+    let alloc = rt.alloc();
+    for (change, file, offset) in DAMAGE {
+        let mut site = changed(alloc, change)?;
+        let mut source = MemorySource::new(Text::from_bytes(alloc, b"status\n")?, 64);
+        let ended = run(alloc, &[], &mut source, &mut site);
+        let wanted = Status::Damaged { file, offset };
+        assert_eq!(rt; ended, wanted, "{:?} {:?}", change.0, change.1);
+        assert_eq!(rt; ended.code(), 6);
+        assert_eq!(rt; site.told(), b"".as_slice(), "file {file} at {offset}");
+        // The same source gives the whole script, so nothing had been pulled.
+        let mut other = MemorySite::new(alloc);
+        assert_eq!(rt; run(alloc, &[], &mut source, &mut other), Status::Done);
+        assert_eq!(rt; other.told(), b"no schema\n".as_slice());
+    }
+    Ok(())
+}
+
+#[test]
+fn a_damaged_leaf_is_named_when_it_is_read(rt: HostRuntime) -> Result<(), Fail> {
+    let alloc = rt.alloc();
+    for script in [
+        "status\nslice sum(m) by a\nstatus\n",
+        "status\nload\n1,1\nend\nstatus\n",
+    ] {
+        // The body counts one point, and the leaf has two.
+        let mut site = changed(alloc, (&[(1135, 1)], DUMPED_NAMES, [0, 4096]))?;
+        let ended = run_over(alloc, &mut site, script.as_bytes())?;
+        let wanted = Status::Damaged { file: 3, offset: 0 };
+        assert_eq!(rt; ended, wanted, "{script:?}");
+        assert_eq!(rt; site.told(), b"facts 3\n".as_slice(), "{script:?}");
+    }
+    Ok(())
+}
+
+#[test]
+fn facts_limit(rt: HostRuntime) -> Result<(), Fail> {
+    let alloc = rt.alloc();
+    let mut root = [0; 2050];
+    root[1024..1032].copy_from_slice(b"CUBETREE");
+    for (place, byte) in [
+        (1033usize, 1u8),
+        (1035, 1),
+        (1039, 29),
+        (1047, 1),
+        (1055, 29),
+        (1058, 1),
+        (1135, 1),
+        (2049, 1),
+    ] {
+        root[place % 2050] = byte;
+    }
+    let mut leaf = [0; 4096];
+    leaf[..8].copy_from_slice(&[1, 0, 0, 1, 0, 0, 0, 0]);
+    leaf[8..16].copy_from_slice(&[0, 0, 1, 0, 0, 0, 0, 0]);
+    let files = [
+        Text::from_bytes(alloc, &root)?,
+        Text::from_bytes(alloc, b"attr n number\nmeasure m\nview\n")?,
+        Text::from_bytes(alloc, b"")?,
+        Text::from_bytes(alloc, &leaf)?,
+    ];
+    let mut site = MemorySite::from_files(alloc, files)?;
+    let script = b"status\nload\n1,0\nend\n".as_slice();
+    assert_eq!(rt; run_over(alloc, &mut site, script)?, Status::Done);
+    let told = b"facts 1099511627776\nrefused facts\n".as_slice();
+    assert_eq!(rt; site.told(), told);
+    Ok(())
+}
