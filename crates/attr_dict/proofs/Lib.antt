@@ -8,3 +8,5 @@ pub mod Takes
 pub mod EntryTexts
 pub mod EntryReads
 pub mod Rooms
+pub mod Damages
+pub mod Kept

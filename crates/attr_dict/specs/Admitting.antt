@@ -1,5 +1,5 @@
 -- What admitting facts makes of names, and the entries of the names file for the new ones.
-use Rattle.std.specs.Prelude.{◌≡◌, ℕ, ◌<◌, Bool, cond, List, [], ◌∷◌, ◌++◌, length, get_or, take, map, flat_map, find, nat_lt, Option}
+use Rattle.std.specs.Prelude.{◌≡◌, ℕ, ◌-◌, ◌^◌, ◌<◌, ◌≤◌, Bool, cond, List, [], ◌∷◌, ◌++◌, length, get_or, take, map, flat_map, find, nat_lt, Option}
 use Rattle.std.specs.List.{list_any, range_with_len}
 use Rattle.std.specs.Str.{bytes_eq}
 use Rattle.fact_model.specs.declared.fact.Fact.{Fact}
@@ -9,7 +9,7 @@ use Rattle.cube_schema.specs.declared.Kind.TheVariants as kind
 use Rattle.cube_schema.specs.Kinds.{max_of}
 use Rattle.cube_schema.specs.Agreeing.{IsOfKind}
 use Rattle.view_points.specs.Codes.{Text, admitted, texts_at, for_attr}
-use Rattle.view_points.specs.Points.{coord}
+use Rattle.view_points.specs.Points.{Names, coord}
 use Rattle.attr_dict.specs.Book.{Book, kind_at, names_at}
 
 -- a fact has one value of the right kind for each attribute
@@ -48,3 +48,7 @@ fresh same seen (x ∷ xs) = cond (list_any (same x) seen) (fresh same seen xs) 
 -- the names are those of these entries
 abbrev pub Lists : Book → List (ℕ × Text) → Type 0
 Lists b es = (a : ℕ) → for_attr a es ≡ names_at b a
+
+-- all codes of the fact are within 32 bits
+abbrev pub HasSmallCodes : Names → Fact → Type 0
+HasSmallCodes names x = (a : ℕ) → coord (names a) (value_at x a) ≤ 2 ^ 32 - 1

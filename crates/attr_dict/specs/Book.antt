@@ -3,12 +3,13 @@ use Rattle.std.specs.Prelude.{◌≡◌, ℕ, suc, ◌≤◌, true, false, List,
 use Rattle.std.specs.Str.{bytes_eq}
 use Rattle.fact_model.specs.declared.fact.Value.{Value}
 use Rattle.fact_model.specs.declared.fact.Value.TheVariants.{Word, Number}
+use Rattle.fact_model.specs.declared.fact.Fact.{Fact}
 use Rattle.cube_schema.specs.declared.Attr.{Attr}
 use Rattle.cube_schema.specs.declared.Kind.{Kind}
 use Rattle.cube_schema.specs.declared.Kind.TheVariants as kind
 use Rattle.cube_schema.specs.declared.Schema.{Schema}
 use Rattle.cube_schema.specs.Kinds.{max_of}
-use Rattle.view_points.specs.Codes.{Text, place, value_in}
+use Rattle.view_points.specs.Codes.{Text, place, value_in, names_of}
 use Rattle.view_points.specs.Agree.{name_limit, number_limit}
 
 -- the kind and the names of each attribute; a number attribute has no names
@@ -35,6 +36,10 @@ none_yet = []
 -- no names
 abbrev pub no_names : Schema → Book
 no_names s = record { kinds = map (λ (attr : Attr). attr.kind) s.attrs; names = map (λ (attr : Attr). none_yet) s.attrs }
+
+-- the names of each attribute are the distinct texts of the facts, in order of first appearance
+abbrev pub HoldsNamesOf : Book → List Fact → Type 0
+HoldsNamesOf b facts = (a : ℕ) → names_at b a ≡ names_of facts a
 
 -- the code of a value of this kind
 abbrev pub code_for : Kind → List Text → Value → Option ℕ

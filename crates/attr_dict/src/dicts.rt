@@ -7,7 +7,7 @@ ghost use Rattle.view_points.specs.Deltas.{CodedBy};
 ghost use Rattle.view_points.specs.Points.{View};
 ghost use Rattle.view_points.specs.Agree.{IsWithin, IsCoded, number_limit};
 ghost use Rattle.view_points.specs.Codes.{Text, same_entry, named};
-ghost use Rattle.attr_dict.specs.Admitting.{Agrees, names_with, first_full, codes_of, entries_text, fresh, Lists};
+ghost use Rattle.attr_dict.specs.Admitting.{Agrees, HasSmallCodes, names_with, first_full, codes_of, entries_text, fresh, Lists};
 ghost use Rattle.attr_dict.specs.Full.{IsFull};
 ghost use Rattle.attr_dict.specs.Entering.{HasRead, all_enter, after_entries};
 ghost use Rattle.attr_dict.specs.Stops.{HasCause};
@@ -131,6 +131,7 @@ impl Dicts {
         ensures coded { IfOk result (λ admitted. admitted.coded ≡ map (codes_of self.new.names) facts.now) }
         // All values of the facts have codes now, and in each view of attributes that there are, the coordinates are these codes.
         ensures known { OnOk result (All (IsCoded (names_at self.new)) facts.now) }
+        ensures narrow { OnOk result (All (HasSmallCodes (names_at self.new)) facts.now) }
         ensures viewed { (view : View) → All (λ a. a < length self.old.kinds) view → IfOk result (λ admitted. All (CodedBy (names_at self.new) view) (zip admitted.coded facts.now)) }
         ensures placed { (view : View) → All (λ a. a < length self.old.kinds) view → IfOk result (λ admitted. All (λ (coordinates : List ℕ). All (λ a. 1 ≤ slice_index coordinates a) view) admitted.coded) }
         ensures entries { (seen : List (ℕ × Text)) → Lists self.old seen → IfOk result (λ admitted. admitted.names ≡ entries_text (fresh same_entry seen (named facts.now))) }

@@ -1,6 +1,8 @@
 use Rattle.std.proofs.Common.{◌<◌, ◌≤◌, slice_index, ℕ, List, [], length, get_or, map, zip, subst, sym, ap, ◌∙◌}
 use Rattle.std.specs.List.{All}
 use Rattle.cube_schema.specs.declared.Kind.{Kind}
+use Rattle.cube_schema.specs.declared.Kind.TheVariants as kind
+use Rattle.cube_schema.specs.Kinds.{max_of}
 use Rattle.view_points.specs.Codes.{Text, admitted, texts_at}
 use Rattle.view_points.specs.Deltas.{CodedBy}
 use Rattle.std.specs.Str.{bytes_eq}
@@ -9,6 +11,7 @@ use Rattle.view_points.specs.Agree.{IsCoded}
 use Rattle.attr_dict.specs.Book.{Book, names_at}
 use Rattle.attr_dict.specs.Admitting.{Agrees, codes_of}
 use Rattle.attr_dict.proofs.Coords.{facts-coded, facts-have_codes, facts-placed}
+use Rattle.attr_dict.proofs.Kept.{taken-narrow}
 use Rattle.attr_dict.proofs.Takes.{names-back}
 use Rattle.attr_dict.proofs.dicts.Dicts.admit.Goals as goal
 
@@ -47,3 +50,10 @@ returns-in-Ok-clause-viewed c = λ view within.
     let attrs = subst (λ (ks : List Kind). All (λ a. a < length ks) view) kinds within in
     let coded = c.in-Ok.ensures.coded ∙ ap (map (codes_of names)) c.as_slice-3.ensures in
     subst (λ (cs : List (List ℕ)). All (CodedBy (names_at b) view) (zip cs facts)) (sym coded) (facts-coded b facts view agree attrs)
+
+pub returns-in-Ok-clause-narrow : goal.returns-in-Ok-clause-narrow
+returns-in-Ok-clause-narrow c =
+    let kinds = sym (ap (λ (b : Book). b.kinds) c.self.view_is) in
+    taken-narrow (record { kinds = c.self.inside.kinds.items; names = c.self.inside.names.items }) c.take_in-taken.new.names.items c.args.facts.now c.self.invariant c.in-Ok.ensures.same
+    (subst (λ (ks : List Kind). (a : ℕ) → a < length ks → length (get_or c.take_in-taken.new.names.items a []) ≤ max_of (get_or ks a kind.Number)) c.as_slice-2.ensures.value c.in-Ok.ensures.within)
+    (subst (λ (ks : List Kind). All (Agrees ks) c.args.facts.now) kinds c.requires)
