@@ -44,6 +44,10 @@ batch_text (rows.Number row field) = codes "refused row " ++ (decimal row ++ num
 batch_text (rows.Long row field) = codes "refused row " ++ (decimal row ++ numbered (codes " long ") field)
 batch_text rows.Memory = line []
 
+-- the refusal of a batch by the names of the attribute of this name
+abbrev pub full_text : List ℕ → List ℕ
+full_text name = codes "refused names " ++ line name
+
 -- the refusal of a batch by the mass of the measure of this name
 abbrev pub mass_text : List ℕ → List ℕ
 mass_text name = codes "refused mass " ++ line name

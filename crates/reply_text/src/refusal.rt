@@ -1,7 +1,7 @@
 //! Replies that refuse a schema or a batch.
-ghost use Rattle.std.specs.Prelude.{◌≡◌, ◌≢◌, IfOk, OnOk};
+ghost use Rattle.std.specs.Prelude.{◌≡◌, ◌≢◌, ◌++◌, IfOk, OnOk};
 ghost use Rattle.fact_csv.specs.declared.refusal.RowRefusal.TheVariants as rows;
-ghost use Rattle.reply_text.specs.Replies.{schema_text, batch_text, mass_text};
+ghost use Rattle.reply_text.specs.Replies.{line, schema_text, batch_text, full_text, mass_text};
 
 use crate::line::{numbered, plain};
 use cube_schema::SchemaRefusal;
@@ -60,11 +60,25 @@ fn refused_long(alloc: Global, row: u64, field: u64) -> Result<Vec<u8>, Memory>
     Ok(format!(in alloc; "refused row {row} long {field}\n")?.into_bytes())
 }
 
+/// The refusal of a batch by the names of the attribute of this name.
+pub fn refused_names(alloc: Global, name: &[u8]) -> Result<Vec<u8>, Memory>
+    ensures { IfOk result (λ reply. reply.items ≡ full_text name.now) }
+{
+    named(alloc, b"refused names ", name)
+}
+
 /// The refusal of a batch by the mass of the measure of this name.
 pub fn refused_mass(alloc: Global, name: &[u8]) -> Result<Vec<u8>, Memory>
     ensures { IfOk result (λ reply. reply.items ≡ mass_text name.now) }
 {
-    let mut reply = Vec::from_slice(alloc, b"refused mass ")?;
+    named(alloc, b"refused mass ", name)
+}
+
+/// One line of a text and a name behind it.
+fn named(alloc: Global, text: &[u8], name: &[u8]) -> Result<Vec<u8>, Memory>
+    ensures { IfOk result (λ reply. reply.items ≡ text.now ++ line name.now) }
+{
+    let mut reply = Vec::from_slice(alloc, text)?;
     reply.extend_from_slice(name)?;
     reply.push(b'\n')?;
     Ok(reply)
