@@ -12,7 +12,7 @@ use Rattle.fact_model.specs.declared.fact.Fact.{Fact}
 use Rattle.fact_model.specs.declared.slice.Row.{Row}
 use Rattle.fact_model.specs.Rows.{rows as rows_of, keys_of}
 use Rattle.csv_text.specs.Rows.{row_fields, rows_text}
-use Rattle.leaf_store.specs.Built.{is_built, one_view, view_of}
+use Rattle.leaf_store.specs.Built.{is_built, view_of}
 use Rattle.leaf_store.specs.Held.{leaf_limit}
 use Rattle.script_lang.specs.declared.command.Block.{Block}
 use Rattle.script_lang.specs.declared.command.Block.TheVariants.{Whole, Long}
@@ -22,7 +22,7 @@ use Rattle.cube_shell.specs.World.{World, Warehouse}
 use Rattle.reply_text.specs.Replies.{line, numbered, schema_text, batch_text, answer_text}
 use Rattle.view_rows.specs.Sums.{sums_of}
 use Rattle.cube_shell.specs.Slices.{asked}
-use Rattle.cube_shell.specs.Machine.{status_text, Answer, act, declared, declare, fact_limit, first_heavy, within_leaf, within_masses, loaded, load, answered, slice, replies_with}
+use Rattle.cube_shell.specs.Machine.{status_text, Answer, act, declared, declare, fact_limit, first_full, first_heavy, within_leaf, within_masses, within_names, loaded, load, answered, slice, replies_with}
 use Rattle.cube_shell.specs.Headline.{size, makes_stage}
 
 -- ---- replies have a byte
@@ -70,18 +70,22 @@ declare_some None (Whole bytes) = declared_some (schema_of bytes)
 
 within_leaf_some : (warehouse : Warehouse) (all : List Fact) → 0 < length (within_leaf warehouse all).1
 within_leaf_some warehouse all =
-    either (nat_le (length (keys_of (sums_of (view_of warehouse.schema) 0) all)) (leaf_limit (one_view warehouse.schema))) _ _
+    either (nat_le (length (keys_of (sums_of (view_of warehouse.schema) 0) all)) (leaf_limit warehouse.schema)) _ _
     (some_number (codes "committed ") (length all)) (some_line (codes "refused unbuilt"))
 
 within_masses_some : (warehouse : Warehouse) (all : List Fact) (heavy : Option (List ℕ)) → 0 < length (within_masses warehouse all heavy).1
 within_masses_some warehouse all (Some name) = behind (codes "refused mass ") _ (some_line name)
 within_masses_some warehouse all None = within_leaf_some warehouse all
 
+within_names_some : (warehouse : Warehouse) (all : List Fact) (full : Option (List ℕ)) → 0 < length (within_names warehouse all full).1
+within_names_some warehouse all (Some name) = behind (codes "refused names ") _ (some_line name)
+within_names_some warehouse all None = within_masses_some warehouse all (first_heavy 0 warehouse.schema.measures all)
+
 loaded_some : (warehouse : Warehouse) (read : Result (List Fact) RowRefusal) → 0 < length (loaded warehouse read).1
 loaded_some warehouse (Err refusal) = batch_some refusal
 loaded_some warehouse (Ok batch) =
     either (nat_le (length (warehouse.facts ++ batch)) fact_limit) _ _
-    (within_masses_some warehouse (warehouse.facts ++ batch) (first_heavy 0 warehouse.schema.measures (warehouse.facts ++ batch)))
+    (within_names_some warehouse (warehouse.facts ++ batch) (first_full 0 warehouse.schema.attrs (warehouse.facts ++ batch)))
     (some_line (codes "refused facts"))
 
 load_some : (world : World) (block : Block) → 0 < length (load world block).1
@@ -150,7 +154,7 @@ same_facts facts batch h =
 within_leaf_stage : (warehouse : Warehouse) (batch : List Fact) → StaysOrGrows (Some warehouse) (within_leaf warehouse (warehouse.facts ++ batch))
 within_leaf_stage warehouse batch =
     stays_either (Some warehouse)
-    (nat_le (length (keys_of (sums_of (view_of warehouse.schema) 0) (warehouse.facts ++ batch))) (leaf_limit (one_view warehouse.schema))) _ _
+    (nat_le (length (keys_of (sums_of (view_of warehouse.schema) 0) (warehouse.facts ++ batch))) (leaf_limit warehouse.schema)) _ _
     (λ h. ap (λ (l : List Fact). Some (record { schema = warehouse.schema; facts = l })) (same_facts warehouse.facts batch h))
     (λ h. refl)
 
@@ -159,11 +163,16 @@ within_masses_stage : (warehouse : Warehouse) (batch : List Fact) (heavy : Optio
 within_masses_stage warehouse batch (Some name) = λ h. refl
 within_masses_stage warehouse batch None = within_leaf_stage warehouse batch
 
+within_names_stage : (warehouse : Warehouse) (batch : List Fact) (full : Option (List ℕ))
+    → StaysOrGrows (Some warehouse) (within_names warehouse (warehouse.facts ++ batch) full)
+within_names_stage warehouse batch (Some name) = λ h. refl
+within_names_stage warehouse batch None = within_masses_stage warehouse batch (first_heavy 0 warehouse.schema.measures (warehouse.facts ++ batch))
+
 loaded_stage : (warehouse : Warehouse) (read : Result (List Fact) RowRefusal) → StaysOrGrows (Some warehouse) (loaded warehouse read)
 loaded_stage warehouse (Err refusal) = λ h. refl
 loaded_stage warehouse (Ok batch) =
     stays_either (Some warehouse) (nat_le (length (warehouse.facts ++ batch)) fact_limit) _ _
-    (within_masses_stage warehouse batch (first_heavy 0 warehouse.schema.measures (warehouse.facts ++ batch)))
+    (within_names_stage warehouse batch (first_full 0 warehouse.schema.attrs (warehouse.facts ++ batch)))
     (λ h. refl)
 
 load_stage : (world : World) (block : Block) → StaysOrGrows world (load world block)

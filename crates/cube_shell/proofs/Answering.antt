@@ -3,9 +3,8 @@ use Rattle.std.proofs.Common.{◌≡◌, ℕ, List, inl, Result, Ok, Err, IfOk, 
 use Rattle.site_core.specs.Disk.{Files, Disk}
 use Rattle.site_core.specs.Calls.{Stays, Rests}
 use Rattle.site_core.proofs.Run.{started, each_moment}
-use Rattle.leaf_store.specs.declared.opened.Opened.{Opened}
-use Rattle.leaf_store.specs.Built.{one_view}
-use Rattle.leaf_store.specs.Held.{IsLive}
+use Rattle.leaf_store.specs.declared.store.Store.{Store}
+use Rattle.leaf_store.specs.Stored.{IsStoreOf}
 use Rattle.leaf_store.proofs.Standing.{rests_stable}
 use Rattle.cube_shell.specs.declared.answered.Answered.{Answered}
 use Rattle.cube_shell.specs.declared.state.State.{State}
@@ -13,6 +12,7 @@ use Rattle.cube_shell.specs.declared.state.State.TheVariants.{Stopped, Empty, Id
 use Rattle.cube_shell.specs.declared.stop.Stop.{Stop}
 use Rattle.cube_shell.specs.Keeps.{Keeps}
 use Rattle.script_lang.specs.declared.command.Command.{Command}
+use Rattle.reply_text.specs.Replies.{facts_text}
 use Rattle.cube_shell.specs.Machine.{Answer, act, status_text}
 use Rattle.cube_shell.specs.Session.{Belongs, Between, IsAnswer, KeepsEither, Stands, state_text}
 use Rattle.cube_shell.specs.World.{World, Warehouse}
@@ -48,11 +48,11 @@ resting state old new world next is only rests = each_moment Stays old new (λ t
     (λ told files same after. (same, inl (subst (λ (f : Files). Keeps f world) (sym after.2) (stands_left state old world is after.0 after.1)))) rests
 
 -- a session stands after such calls
-pub belongs_rests : (opened : Opened) (old new : Disk) (warehouse : Warehouse) → Rests old new → Belongs opened old warehouse → Belongs opened new warehouse
-belongs_rests opened old new warehouse rests is = record {
+pub belongs_rests : (store : Store) (old new : Disk) (warehouse : Warehouse) → Rests old new → Belongs store old warehouse → Belongs store new warehouse
+belongs_rests store old new warehouse rests is = record {
   lawful = is.lawful;
   schema = is.schema;
-  live = subst (IsLive (one_view warehouse.schema) opened.store.live warehouse.facts) (sym rests.files) is.live;
+  stored = subst (IsStoreOf store warehouse.facts) (sym rests.files) is.stored;
   stable = rests_stable old new rests is.stable;
 }
 
@@ -60,7 +60,7 @@ belongs_rests opened old new warehouse rests is = record {
 pub status_known : (state : State) (disk : Disk) (world : World) → Stands state disk world → state_text state ≡ status_text world
 status_known Stopped disk world is = absurd is
 status_known Empty disk world is = ap status_text (sym is.0)
-status_known (Idle opened) disk world is = ap Rattle.reply_text.specs.Replies.facts_text is.2.live.at.body_is.facts ∙ ap status_text (sym is.1)
+status_known (Idle store) disk world is = ap facts_text is.2.stored.live.at.body_is.facts ∙ ap status_text (sym is.1)
 
 -- a command that only answers
 pub told_only : (result : Result Answered Stop) (state : State) (text : List ℕ) (disk : Disk) (world : World) (command : Command) → IfOk result (λ done. done.state ≡ state) → IfOk result (λ done. done.reply.items ≡ text)

@@ -2,44 +2,69 @@
 use Rattle.std.proofs.Common.{◌≡◌, inl, inr, ℕ, zero, suc, ◌+◌, ◌<◌, ◌≤◌, Bool, true, false, nat_le, List, [], ◌∷◌, ◌++◌, length, get_or, Some, None, refl, sym, ◌∙◌, ap, subst, append-nil, arith}
 use Rattle.std.proofs.lemmas.Bool.Decides.{nat_tests}
 use Rattle.std.proofs.lemmas.Bool.{cases_Bool}
+use Rattle.std.proofs.lemmas.List.{length-map}
 use Rattle.std.specs.List.{All}
 use Rattle.std.specs.Prelude.{nat_lt}
 use Rattle.fact_model.specs.declared.fact.Fact.{Fact}
-use Rattle.fact_model.specs.declared.fact.Value.{Value}
-use Rattle.fact_model.specs.declared.fact.Value.TheVariants.{Word, Number}
 use Rattle.fact_model.specs.Fact.{mass, mass_limit}
 use Rattle.fact_model.specs.Rows.{keys_of}
 use Rattle.cube_schema.specs.Agreeing.{Agrees}
+use Rattle.cube_schema.specs.Kinds.{max_at, max_of, measure_count, no_attr}
+use Rattle.cube_schema.specs.Lawful.{IsSchema}
+use Rattle.cube_schema.specs.declared.schema.Attr.{Attr}
 use Rattle.cube_schema.specs.declared.schema.Schema.{Schema}
-use Rattle.view_points.specs.Agree.{is_text}
+use Rattle.view_points.specs.Codes.{names_of}
 use Rattle.view_points.specs.Points.{points}
-use Rattle.view_points.proofs.Members.{every-from_All, All-from_every, every-append}
-use Rattle.view_rows.specs.Sums.{sums_of, HasNumbersIn}
+use Rattle.attr_dict.specs.Book.{no_names}
+use Rattle.attr_dict.proofs.Kept.{all-agree, names-past}
+use Rattle.view_rows.specs.Sums.{sums_of}
 use Rattle.view_rows.proofs.PointSums.{key-count}
 use Rattle.leaf_store.specs.declared.load.Refusal.{Refusal}
 use Rattle.leaf_store.specs.declared.load.Refusal.TheVariants as refusals
-use Rattle.leaf_store.specs.Built.{one_view, view_of}
-use Rattle.leaf_store.specs.Held.{IsFactOf, IsNumber, AreAccepted, leaf_limit}
+use Rattle.leaf_store.specs.Built.{view_of}
+use Rattle.leaf_store.specs.Held.{AreAccepted, HasMasses, HasNames, leaf_limit}
 use Rattle.leaf_store.specs.Loading.{IsRefused}
+use Rattle.leaf_store.proofs.Named.{view_kinds}
 use Rattle.leaf_store.proofs.Openings.{mass_past}
+use Rattle.leaf_store.proofs.Views.{few_measures}
 use Rattle.reply_text.specs.Replies.{committed_text}
-use Rattle.cube_shell.specs.Machine.{accepted, fact_limit, first_heavy, within_leaf, within_masses}
+use Rattle.cube_shell.specs.Machine.{accepted, fact_limit, first_full, first_heavy, within_leaf, within_masses, within_names}
 use Rattle.cube_shell.specs.Refusals.{refusal_text}
 use Rattle.cube_shell.specs.World.{Warehouse}
 
 -- ---- the points are as many as the keys
 
-not_text : (value : Value) → IsNumber value → is_text value ≡ false
-not_text (Word text) is = absurd is
-not_text (Number n) is = refl
+key_points : (schema : Schema) (facts : List Fact) → IsSchema schema → All (Agrees schema) facts
+    → length (keys_of (sums_of (view_of schema) 0) facts) ≡ length (points (measure_count schema) (view_of schema) facts)
+key_points schema facts lawful each =
+    key-count (no_names schema).kinds (measure_count schema) (view_of schema) facts (view_kinds schema (no_names schema) refl lawful) (all-agree schema facts each) 0
 
--- the facts of a view have numbers in it
-pub numbers_in : (schema : Schema) (facts : List Fact) → All (IsFactOf (one_view schema)) facts → All (HasNumbersIn (view_of schema)) facts
-numbers_in schema facts each = λ i d low. record { numbers = λ k e below. not_text _ ((each i d low).numbers _) }
+-- ---- the first attribute with too many names
 
-key_points : (schema : Schema) (facts : List Fact) → All (IsFactOf (one_view schema)) facts
-    → length (keys_of (sums_of (view_of schema) 0) facts) ≡ length (points (length schema.measures) (view_of schema) facts)
-key_points schema facts each = key-count (length schema.measures) (view_of schema) facts 0 (numbers_in schema facts each)
+-- there is none
+none_full : (k : ℕ) (attrs : List Attr) (facts : List Fact) → ((a : ℕ) → length (names_of facts (k + a)) ≤ max_of (get_or attrs a no_attr).kind)
+    → first_full k attrs facts ≡ None
+none_full k [] facts room = refl
+none_full k (attr ∷ attrs) facts room =
+    let here : length (names_of facts k) ≤ max_of attr.kind = subst (λ (n : ℕ). length (names_of facts n) ≤ max_of attr.kind) (omega arith) (room 0) in
+    let fits : nat_le (length (names_of facts k)) (max_of attr.kind) ≡ true = grind (arith, nat_tests) in
+    rw fits (none_full (suc k) attrs facts (λ a. subst (λ (n : ℕ). length (names_of facts n) ≤ max_of (get_or attrs a no_attr).kind) (omega arith) (room (suc a))))
+
+-- it is the one behind a others
+one_full : (k a : ℕ) (attrs : List Attr) (facts : List Fact) → a < length attrs
+    → ((c : ℕ) → c < a → length (names_of facts (k + c)) ≤ max_of (get_or attrs c no_attr).kind)
+    → max_of (get_or attrs a no_attr).kind < length (names_of facts (k + a)) → first_full k attrs facts ≡ Some (get_or attrs a no_attr).name
+one_full k a [] facts low room full = absurd (omega (arith, low))
+one_full k zero (attr ∷ attrs) facts low room full =
+    let over : max_of attr.kind < length (names_of facts k) = subst (λ (n : ℕ). max_of attr.kind < length (names_of facts n)) (omega arith) full in
+    let passes : nat_le (length (names_of facts k)) (max_of attr.kind) ≡ false = grind (arith, nat_tests) in
+    rw passes refl
+one_full k (suc a) (attr ∷ attrs) facts low room full =
+    let here : length (names_of facts k) ≤ max_of attr.kind = subst (λ (n : ℕ). length (names_of facts n) ≤ max_of attr.kind) (omega arith) (room 0 (omega arith)) in
+    let fits : nat_le (length (names_of facts k)) (max_of attr.kind) ≡ true = grind (arith, nat_tests) in
+    rw fits (one_full (suc k) a attrs facts (omega (arith, low))
+    (λ c below. subst (λ (n : ℕ). length (names_of facts n) ≤ max_of (get_or attrs c no_attr).kind) (omega arith) (room (suc c) (omega (arith, below))))
+    (subst (λ (n : ℕ). max_of (get_or attrs a no_attr).kind < length (names_of facts n)) (omega arith) full))
 
 -- ---- the first measure whose mass passes
 
@@ -66,67 +91,88 @@ one_heavy k (suc m) (name ∷ names) facts low light heavy =
 
 -- ---- a batch
 
-module _ (warehouse : Warehouse) (batch : List Fact) (measures : length warehouse.schema.measures ≤ 4) where
-  abbrev all : List Fact
-  all = warehouse.facts ++ batch
-
+module _ (warehouse : Warehouse) (batch : List Fact) (lawful : IsSchema warehouse.schema) where
   abbrev schema : Schema
   schema = warehouse.schema
+
+  abbrev all : List Fact
+  all = warehouse.facts ++ batch
 
   abbrev few : Bool
   few = nat_le (length (warehouse.facts ++ batch)) fact_limit
 
   abbrev built : Bool
-  built = nat_le (length (keys_of (sums_of (view_of warehouse.schema) 0) (warehouse.facts ++ batch))) (leaf_limit (one_view warehouse.schema))
+  built = nat_le (length (keys_of (sums_of (view_of warehouse.schema) 0) (warehouse.facts ++ batch))) (leaf_limit warehouse.schema)
 
-  past_few : few ≡ true → accepted warehouse batch ≡ within_masses warehouse all (first_heavy 0 warehouse.schema.measures all)
+  past_few : few ≡ true → accepted warehouse batch ≡ within_names warehouse all (first_full 0 warehouse.schema.attrs all)
   past_few a = rw a refl
 
-  past_light : few ≡ true → first_heavy 0 warehouse.schema.measures all ≡ None → accepted warehouse batch ≡ within_leaf warehouse all
-  past_light a b = past_few a ∙ ap (within_masses warehouse all) b
+  past_named : few ≡ true → HasNames warehouse.schema all → accepted warehouse batch ≡ within_masses warehouse all (first_heavy 0 warehouse.schema.measures all)
+  past_named a named = past_few a ∙ ap (within_names warehouse all)
+      (none_full 0 warehouse.schema.attrs all (λ c. subst (λ (n : ℕ). length (names_of all n) ≤ max_at warehouse.schema c) (omega arith) (named c)))
+
+  past_light : few ≡ true → HasNames warehouse.schema all → HasMasses all → accepted warehouse batch ≡ within_leaf warehouse all
+  past_light a named masses = past_named a named
+      ∙ ap (within_masses warehouse all) (none_heavy 0 warehouse.schema.measures all (λ m below. masses m (omega (arith, below, few_measures warehouse.schema lawful))))
 
   -- a batch that keeps the limits is accepted
-  pub all_accepted : AreAccepted (one_view warehouse.schema) (warehouse.facts ++ batch)
+  pub all_accepted : AreAccepted warehouse.schema (warehouse.facts ++ batch)
       → accepted warehouse batch ≡ (Some (record { schema = warehouse.schema; facts = warehouse.facts ++ batch }), committed_text (length (warehouse.facts ++ batch)))
   all_accepted fine =
-      let count = key_points warehouse.schema all fine.each in
+      let count = key_points warehouse.schema all lawful fine.each in
       let points = fine.points in
       let long = fine.few in
       let a : few ≡ true = grind (arith, nat_tests) in
       let c : built ≡ true = grind (arith, nat_tests) in
-      past_light a (none_heavy 0 warehouse.schema.measures all (λ m below. fine.masses m (omega (arith, below, measures)))) ∙ rw c refl
+      past_light a fine.named fine.masses ∙ rw c refl
+
+  -- a full attribute is declared
+  full_declared : All (Agrees warehouse.schema) all → (a : ℕ) → max_at warehouse.schema a < length (names_of all a) → a < length warehouse.schema.attrs
+  full_declared each a full = elim (cases_Bool (nat_lt a (length warehouse.schema.attrs))) [
+    | inl low ↦ grind (arith, nat_tests)
+    | inr past ↦ absurd (
+        let beyond : length warehouse.schema.attrs ≤ a = grind (arith, nat_tests) in
+        omega (
+          arith,
+          full,
+          ap length (names-past all (length warehouse.schema.attrs) a
+              (λ k d low. (all-agree warehouse.schema all each k d low).values ∙ length-map warehouse.schema.attrs (λ (attr : Attr). attr.kind)) beyond),
+        ))
+  ]
+
+  -- and so is a measure whose mass passes the limit
+  heavy_declared : All (Agrees warehouse.schema) all → (m : ℕ) → mass_limit < mass m all → m < length warehouse.schema.measures
+  heavy_declared each m heavy = elim (cases_Bool (nat_lt m (length warehouse.schema.measures))) [
+    | inl low ↦ grind (arith, nat_tests)
+    | inr past ↦ absurd (omega (arith, heavy, mass_past warehouse.schema all m each (grind (arith, nat_tests))))
+  ]
 
   -- a batch that passes a limit is refused
-  pub all_refused : All (IsFactOf (one_view warehouse.schema)) (warehouse.facts ++ batch) → (refusal : Refusal) → IsRefused (one_view warehouse.schema) (warehouse.facts ++ batch) refusal
+  pub all_refused : All (Agrees warehouse.schema) (warehouse.facts ++ batch) → (refusal : Refusal) → IsRefused warehouse.schema (warehouse.facts ++ batch) refusal
       → accepted warehouse batch ≡ (Some warehouse, refusal_text warehouse.schema refusal)
   all_refused each refusals.Facts is = let a : few ≡ false = grind (arith, nat_tests) in rw a refl
+  all_refused each (refusals.Names c) is =
+      let long = is.0 in
+      let a : few ≡ true = grind (arith, nat_tests) in
+      past_few a ∙ ap (within_names warehouse all) (one_full 0 c warehouse.schema.attrs all (full_declared each c is.1.passes)
+      (λ k below. subst (λ (n : ℕ). length (names_of all n) ≤ max_at warehouse.schema k) (omega arith) (is.1.first k below))
+      (subst (λ (n : ℕ). max_at warehouse.schema c < length (names_of all n)) (omega arith) is.1.passes))
   all_refused each (refusals.Mass m) is =
       let long = is.0 in
       let a : few ≡ true = grind (arith, nat_tests) in
-      let there : m < length warehouse.schema.measures = declared m is.2 in
-      past_few a ∙ ap (within_masses warehouse all) (one_heavy 0 m warehouse.schema.measures all there (λ j below. is.3 j (omega (arith, below))) (subst (λ (n : ℕ). mass_limit < mass n all) (omega arith) is.2))
-    where
-      declared : (m : ℕ) → mass_limit < mass m (warehouse.facts ++ batch) → m < length warehouse.schema.measures
-      declared m heavy = elim (cases_Bool (nat_lt m (length warehouse.schema.measures))) [
-        | inl low ↦ grind (arith, nat_tests)
-        | inr past ↦ absurd (omega (arith, heavy, mass_past (one_view warehouse.schema) (warehouse.facts ++ batch) m each (grind (arith, nat_tests))))
-      ]
+      past_named a is.1 ∙ ap (within_masses warehouse all) (one_heavy 0 m warehouse.schema.measures all (heavy_declared each m is.2.passes)
+      (λ j below. is.2.first j (omega (arith, below))) (subst (λ (n : ℕ). mass_limit < mass n all) (omega arith) is.2.passes))
   all_refused each refusals.Points is =
-      let long = is.0 in let many = is.2 in
-      let count = key_points warehouse.schema all each in
+      let long = is.0 in let many = is.3 in
+      let count = key_points warehouse.schema all lawful each in
       let a : few ≡ true = grind (arith, nat_tests) in
       let c : built ≡ false = grind (arith, nat_tests) in
-      past_light a (none_heavy 0 warehouse.schema.measures all (λ m below. is.1 m (omega (arith, below, measures)))) ∙ rw c refl
-
--- both lists agree with the schema
-pub both_agree : (schema : Schema) (facts batch : List Fact) → All (Agrees schema) facts → All (Agrees schema) batch → All (Agrees schema) (facts ++ batch)
-both_agree schema facts batch old new = All-from_every (Agrees schema) (facts ++ batch)
-    (every-append (Agrees schema) facts batch (every-from_All (Agrees schema) facts old) (every-from_All (Agrees schema) batch new))
+      past_light a is.1 is.2 ∙ rw c refl
 
 -- an empty batch is accepted
-pub none_accepted : (warehouse : Warehouse) (batch : List Fact) → length warehouse.schema.measures ≤ 4 → batch ≡ [] → AreAccepted (one_view warehouse.schema) warehouse.facts
+pub none_accepted : (warehouse : Warehouse) (batch : List Fact) → IsSchema warehouse.schema → batch ≡ [] → AreAccepted warehouse.schema warehouse.facts
     → accepted warehouse batch ≡ (Some warehouse, committed_text (length warehouse.facts))
-none_accepted warehouse batch measures none fine =
+none_accepted warehouse batch lawful none fine =
     let same : warehouse.facts ++ batch ≡ warehouse.facts = ap (λ (l : List Fact). warehouse.facts ++ l) none ∙ append-nil warehouse.facts in
-    all_accepted warehouse batch measures (subst (AreAccepted (one_view warehouse.schema)) (sym same) fine)
+    all_accepted warehouse batch lawful (subst (AreAccepted warehouse.schema) (sym same) fine)
     ∙ ap (λ (l : List Fact). (Some (record { schema = warehouse.schema; facts = l }), committed_text (length l))) same

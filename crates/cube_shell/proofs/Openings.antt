@@ -1,17 +1,17 @@
 -- What opening the files makes of a session.
-use Rattle.std.proofs.Common.{◌≡◌, List, Option, Some, None, refl, sym, ◌∙◌, ap, subst}
+use Rattle.std.proofs.Common.{◌≡◌, List, Option, Some, None, refl, sym, ◌∙◌, subst}
 use Rattle.std.specs.Prelude.{IsTrue}
 use Rattle.site_core.specs.Disk.{Files, Disk}
 use Rattle.fact_model.specs.declared.fact.Fact.{Fact}
 use Rattle.cube_schema.specs.Lawful.{IsSchema}
 use Rattle.cube_schema.specs.declared.schema.Schema.{Schema}
 use Rattle.forest_root.specs.Live.{NoneRaised}
-use Rattle.leaf_store.specs.declared.opened.Opened.{Opened}
+use Rattle.leaf_store.specs.declared.store.Store.{Store}
 use Rattle.leaf_store.specs.declared.store.StoreStop.{StoreStop}
-use Rattle.leaf_store.specs.declared.store.StoreStop.TheVariants as store
-use Rattle.leaf_store.specs.Built.{is_built, one_view}
+use Rattle.leaf_store.specs.declared.store.StoreStop.TheVariants as stops
+use Rattle.leaf_store.specs.Built.{is_built}
 use Rattle.leaf_store.specs.Held.{AreAccepted, KeepsFacts}
-use Rattle.leaf_store.specs.Opened.{IsWarehouse, MayBeOpened, Names}
+use Rattle.leaf_store.specs.Opened.{IsWarehouse, MayBeOpened, NamesPlace}
 use Rattle.leaf_store.specs.Opening.{Place}
 use Rattle.cube_shell.specs.declared.stop.Stop.{Stop}
 use Rattle.cube_shell.specs.Damage.{StopsAt}
@@ -21,12 +21,12 @@ use Rattle.cube_shell.specs.Session.{Belongs}
 use Rattle.cube_shell.specs.World.{World, Warehouse}
 
 -- what was opened is the warehouse that the files keep
-pub opened_stands : (found : Option Opened) (opened : Opened) (files : Files) (disk : Disk) (world : World) → found ≡ Some opened → MayBeOpened found disk → Keeps files world
+pub opened_stands : (found : Option Store) (store : Store) (files : Files) (disk : Disk) (world : World) → found ≡ Some store → MayBeOpened found disk → Keeps files world
     → (NoneRaised (files 0) → found ≡ None)
-    → ((schema : Schema) (facts : List Fact) → IsSchema schema → IsTrue (is_built schema) → AreAccepted (one_view schema) facts → KeepsFacts (one_view schema) facts files → IsWarehouse schema facts disk.files found)
-    → (warehouse : Warehouse) × (world ≡ Some warehouse) × Belongs opened disk warehouse
-opened_stands found opened files disk None is fit keeps none given = let no : Some opened ≡ None = sym is ∙ none keeps in absurd (cc)
-opened_stands found opened files disk (Some warehouse) is fit keeps none given =
+    → ((schema : Schema) (facts : List Fact) → IsSchema schema → IsTrue (is_built schema) → AreAccepted schema facts → KeepsFacts schema facts files → IsWarehouse schema facts disk.files found)
+    → (warehouse : Warehouse) × (world ≡ Some warehouse) × Belongs store disk warehouse
+opened_stands found store files disk None is fit keeps none given = let no : Some store ≡ None = sym is ∙ none keeps in absurd (cc)
+opened_stands found store files disk (Some warehouse) is fit keeps none given =
     let all = subst (IsWarehouse warehouse.schema warehouse.facts disk.files) is
     (given warehouse.schema warehouse.facts keeps.lawful.schema keeps.lawful.built keeps.lawful.accepted keeps.kept) in (
       warehouse,
@@ -34,16 +34,16 @@ opened_stands found opened files disk (Some warehouse) is fit keeps none given =
       record {
         lawful = keeps.lawful;
         schema = all.0;
-        live = all.1;
-        stable = (subst (λ (o : Option Opened). MayBeOpened o disk) is fit).stable;
+        stored = all.1;
+        stable = (subst (λ (o : Option Store). MayBeOpened o disk) is fit).stable;
       },
     )
 
 -- a stop at a place that is named
-named : (place : Place) (stop : StoreStop) → Names (Some place) stop → StopsAt place (stop_of stop)
-named place store.Disk is = tt
-named place (store.Damaged file offset) is = ap (λ o. Rattle.std.specs.Prelude.unwrap_or o place) is
-named place store.Memory is = tt
+named : (place : Place) (stop : StoreStop) → NamesPlace place stop → StopsAt place (stop_of stop)
+named place stops.Disk is = tt
+named place (stops.Damaged file offset) is = is
+named place stops.Memory is = tt
 
-pub stops_at : (place : Place) (stop : StoreStop) (answer : Stop) → answer ≡ stop_of stop → Names (Some place) stop × Unit {0} → StopsAt place answer × Unit {0}
+pub stops_at : (place : Place) (stop : StoreStop) (answer : Stop) → answer ≡ stop_of stop → NamesPlace place stop × Unit {0} → StopsAt place answer × Unit {0}
 stops_at place stop answer same is = (subst (StopsAt place) (sym same) (named place stop is.0), tt)

@@ -1,5 +1,5 @@
 -- The slices that are asked for.
-use Rattle.std.proofs.Common.{◌≡◌, ◌∷◌, ◌++◌, ℕ, ◌<◌, Bool, true, false, List, [], length, take, drop, Some, refl, sym, ◌∙◌, ap, subst}
+use Rattle.std.proofs.Common.{◌≡◌, ◌∷◌, ◌++◌, ℕ, ◌<◌, Bool, true, false, List, [], length, map, take, drop, Some, refl, sym, ◌∙◌, ap}
 use Rattle.std.specs.Prelude.{◌==◌}
 use Rattle.std.specs.List.{position}
 use Rattle.std.specs.Str.{bytes_eq}
@@ -14,15 +14,13 @@ use Rattle.leaf_store.specs.Built.{view_of}
 use Rattle.cube_shell.specs.Slices.{asked, asked_of, sums_text}
 use Rattle.site_core.specs.Disk.{Disk}
 use Rattle.cube_point.specs.declared.point.Entry.{Entry}
-use Rattle.view_rows.specs.Sums.{ArePointsOf}
-use Rattle.leaf_store.specs.declared.one_view.OneView.{OneView}
-use Rattle.leaf_store.specs.declared.opened.Opened.{Opened}
-use Rattle.leaf_store.specs.Built.{one_view, view_of}
+use Rattle.view_points.specs.Entries.{entry_of}
+use Rattle.view_points.specs.Points.{points}
+use Rattle.cube_schema.specs.Kinds.{measure_count}
+use Rattle.leaf_store.specs.declared.store.Store.{Store}
 use Rattle.leaf_store.specs.Held.{AreAccepted, IsLive, entries_of}
 use Rattle.cube_shell.specs.Session.{Belongs}
 use Rattle.cube_shell.specs.World.{Warehouse}
-use Rattle.cube_shell.proofs.Limits.{numbers_in}
-use Rattle.cube_shell.proofs.Takings.{view_is}
 
 -- a text that does not begin with the front is not the front and some back
 pub refused : (front back text : List ℕ) → bytes_eq (take (length front) text) front ≡ false → bytes_eq (front ++ back) text ≡ false
@@ -63,13 +61,12 @@ pub asked_declared : (schema : Schema) (text : List ℕ) (m : ℕ) → asked sch
 asked_declared schema text m found = declared-of schema (view_of schema) text m found
 
 -- the points that a store gives are those of the view over the warehouse's facts
-pub points_of : (opened : Opened) (disk : Disk) (warehouse : Warehouse) → Belongs opened disk warehouse → (entries : List Entry) (view : List ℕ)
-    → (AreAccepted opened.store.schema warehouse.facts → IsLive opened.store.schema opened.store.live warehouse.facts disk.files → entries ≡ entries_of opened.store.schema warehouse.facts)
-    → view ≡ opened.store.schema.view → ArePointsOf (length warehouse.schema.measures) (view_of warehouse.schema) warehouse.facts (length view) entries
-points_of opened disk warehouse is entries view given same =
-    let one : opened.store.schema ≡ one_view warehouse.schema = view_is opened disk warehouse is in
-    record {
-      attributes = ap length (same ∙ ap (λ (v : OneView). v.view) one);
-      numbers = numbers_in warehouse.schema warehouse.facts is.lawful.accepted.each;
-      all = subst (λ (v : OneView). (AreAccepted v warehouse.facts → IsLive v opened.store.live warehouse.facts disk.files → entries ≡ entries_of v warehouse.facts)) one given is.lawful.accepted is.live;
-    }
+pub points_of : (store : Store) (disk : Disk) (warehouse : Warehouse) → Belongs store disk warehouse → (entries : List Entry) (view : List ℕ)
+    → (AreAccepted store.schema warehouse.facts → IsLive store.schema store.live warehouse.facts disk.files → entries ≡ entries_of store.schema warehouse.facts)
+    → view ≡ view_of store.schema → entries ≡ map entry_of (points (measure_count store.schema) view warehouse.facts)
+points_of store disk warehouse is entries view given same =
+    given is.stored.accepted is.stored.live ∙ ap (λ (v : List ℕ). map entry_of (points (measure_count store.schema) v warehouse.facts)) (sym same)
+
+-- and that view is the warehouse's
+pub view_is : (store : Store) (disk : Disk) (warehouse : Warehouse) → Belongs store disk warehouse → (view : List ℕ) → view ≡ view_of store.schema → view ≡ view_of warehouse.schema
+view_is store disk warehouse is view same = same ∙ ap view_of is.schema

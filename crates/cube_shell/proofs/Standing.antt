@@ -1,8 +1,9 @@
 -- What a session that stands for a world tells of the files.
 use Rattle.std.proofs.Common.{sym, subst}
 use Rattle.site_core.specs.Disk.{Files, Disk}
-use Rattle.leaf_store.specs.declared.opened.Opened.{Opened}
-use Rattle.leaf_store.specs.Built.{one_view}
+use Rattle.cube_schema.specs.declared.schema.Schema.{Schema}
+use Rattle.leaf_store.specs.declared.store.Store.{Store}
+use Rattle.leaf_store.specs.Held.{KeepsFacts}
 use Rattle.cube_shell.specs.declared.state.State.{State}
 use Rattle.cube_shell.specs.declared.state.State.TheVariants.{Stopped, Empty, Idle}
 use Rattle.cube_shell.specs.World.{World, Warehouse}
@@ -10,16 +11,16 @@ use Rattle.cube_shell.specs.Keeps.{Keeps, KeepsWarehouse}
 use Rattle.cube_shell.specs.Session.{Belongs, Stands}
 use Rattle.leaf_store.proofs.Standing.{live_keeps}
 
-pub belongs_read : (opened : Opened) (disk : Disk) (warehouse : Warehouse) → Belongs opened disk warehouse → KeepsWarehouse disk.files warehouse
-belongs_read opened disk warehouse is = record {
+pub belongs_read : (store : Store) (disk : Disk) (warehouse : Warehouse) → Belongs store disk warehouse → KeepsWarehouse disk.files warehouse
+belongs_read store disk warehouse is = record {
   lawful = is.lawful;
-  kept = live_keeps (one_view warehouse.schema) opened.store.live warehouse.facts disk.files is.live;
+  kept = subst (λ (s : Schema). KeepsFacts s warehouse.facts disk.files) is.schema (live_keeps store.schema store.live warehouse.facts disk.files is.stored.live);
 }
 
 pub stands_read : (state : State) (disk : Disk) (world : World) → Stands state disk world → Keeps disk.files world
 stands_read Stopped disk world is = absurd is
 stands_read Empty disk world is = subst (Keeps disk.files) (sym is.0) is.1.nothing
-stands_read (Idle opened) disk world is = subst (Keeps disk.files) (sym is.1) (belongs_read opened disk is.0 is.2)
+stands_read (Idle store) disk world is = subst (Keeps disk.files) (sym is.1) (belongs_read store disk is.0 is.2)
 
 -- what a stop leaves now
 pub stands_left : (state : State) (disk : Disk) (world : World) → Stands state disk world
@@ -27,5 +28,5 @@ pub stands_left : (state : State) (disk : Disk) (world : World) → Stands state
 stands_left Stopped disk world is files left = absurd is
 stands_left Empty disk world is files left =
     subst (λ (f : Files). Keeps f world) (sym (is.1.stable files left)) (stands_read Empty disk world is)
-stands_left (Idle opened) disk world is files left =
-    subst (λ (f : Files). Keeps f world) (sym (is.2.stable files left)) (stands_read (Idle opened) disk world is)
+stands_left (Idle store) disk world is files left =
+    subst (λ (f : Files). Keeps f world) (sym (is.2.stable files left)) (stands_read (Idle store) disk world is)

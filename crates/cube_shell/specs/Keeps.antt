@@ -1,11 +1,9 @@
 -- What files keep of the plain machine's world.
 use Rattle.std.specs.Prelude.{IsTrue, Some, None}
-use Rattle.std.specs.List.{All}
 use Rattle.site_core.specs.Disk.{Files}
 use Rattle.cube_schema.specs.Lawful.{IsSchema}
-use Rattle.cube_schema.specs.Agreeing.{Agrees}
 use Rattle.forest_root.specs.Keeps.{Keeps as Holds, KeepsNothing}
-use Rattle.leaf_store.specs.Built.{is_built, one_view}
+use Rattle.leaf_store.specs.Built.{is_built}
 use Rattle.leaf_store.specs.Held.{AreAccepted, held}
 use Rattle.cube_shell.specs.World.{World, Warehouse}
 
@@ -13,13 +11,12 @@ use Rattle.cube_shell.specs.World.{World, Warehouse}
 pub record IsLawful (warehouse : Warehouse) : Type 0 where
   pub schema : IsSchema warehouse.schema
   pub built : IsTrue (is_built warehouse.schema)
-  pub agree : All (Agrees warehouse.schema) warehouse.facts
-  pub accepted : AreAccepted (one_view warehouse.schema) warehouse.facts
+  pub accepted : AreAccepted warehouse.schema warehouse.facts
 
 -- the files keep the schema and its facts
 pub record KeepsWarehouse (files : Files) (warehouse : Warehouse) : Type 0 where
   pub lawful : IsLawful warehouse
-  pub kept : Holds files (held (one_view warehouse.schema) warehouse.facts)
+  pub kept : Holds files (held warehouse.schema warehouse.facts)
 
 -- the files keep this world
 abbrev pub Keeps : Files → World → Type 0

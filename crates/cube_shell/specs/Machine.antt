@@ -1,21 +1,24 @@
 -- The plain machine: the reply to each command, and what is known behind it.
 use Rattle.std.specs.Prelude.{ℕ, suc, cond, List, [], ◌∷◌, ◌++◌, codes, length, nat_le, Option, Some, None, Result, Ok, Err}
+use Rattle.cube_schema.specs.declared.schema.Attr.{Attr}
 use Rattle.cube_schema.specs.declared.schema.Schema.{Schema}
 use Rattle.cube_schema.specs.declared.schema.SchemaRefusal.{SchemaRefusal}
+use Rattle.cube_schema.specs.Kinds.{max_of}
 use Rattle.cube_schema.specs.Reading.{schema_of}
+use Rattle.view_points.specs.Codes.{names_of}
 use Rattle.fact_csv.specs.Batch.{batch_of}
 use Rattle.fact_csv.specs.declared.refusal.RowRefusal.{RowRefusal}
 use Rattle.fact_model.specs.declared.fact.Fact.{Fact}
 use Rattle.fact_model.specs.Fact.{mass, mass_limit}
 use Rattle.fact_model.specs.Rows.{rows, keys_of}
-use Rattle.leaf_store.specs.Built.{is_built, one_view, view_of}
+use Rattle.leaf_store.specs.Built.{is_built, view_of}
 use Rattle.leaf_store.specs.Held.{leaf_limit}
 use Rattle.script_lang.specs.declared.command.Block.{Block}
 use Rattle.script_lang.specs.declared.command.Block.TheVariants.{Whole, Long}
 use Rattle.script_lang.specs.declared.command.Command.{Command}
 use Rattle.script_lang.specs.declared.command.Command.TheVariants as says
 use Rattle.cube_shell.specs.World.{World, Warehouse}
-use Rattle.reply_text.specs.Replies.{line, committed_text, facts_text, schema_text, batch_text, mass_text, answer_text}
+use Rattle.reply_text.specs.Replies.{line, committed_text, facts_text, schema_text, batch_text, full_text, mass_text, answer_text}
 use Rattle.view_rows.specs.Sums.{sums_of}
 use Rattle.cube_shell.specs.Slices.{asked}
 
@@ -50,10 +53,15 @@ abbrev pub first_heavy : ℕ → List (List ℕ) → List Fact → Option (List 
 first_heavy m [] facts = None
 first_heavy m (name ∷ names) facts = cond (nat_le (mass m facts) mass_limit) (first_heavy (suc m) names facts) (Some name)
 
+-- the name of the first of these attributes, the first of which is attribute a, that has more distinct texts than its `max`
+abbrev pub first_full : ℕ → List Attr → List Fact → Option (List ℕ)
+first_full a [] facts = None
+first_full a (attr ∷ attrs) facts = cond (nat_le (length (names_of facts a)) (max_of attr.kind)) (first_full (suc a) attrs facts) (Some attr.name)
+
 -- all facts, where one leaf has room for the view's points
 abbrev pub within_leaf : Warehouse → List Fact → Answer
 within_leaf warehouse all =
-    cond (nat_le (length (keys_of (sums_of (view_of warehouse.schema) 0) all)) (leaf_limit (one_view warehouse.schema)))
+    cond (nat_le (length (keys_of (sums_of (view_of warehouse.schema) 0) all)) (leaf_limit warehouse.schema))
     (Some (record { schema = warehouse.schema; facts = all }), committed_text (length all))
     (Some warehouse, line (codes "refused unbuilt"))
 
@@ -62,12 +70,17 @@ abbrev pub within_masses : Warehouse → List Fact → Option (List ℕ) → Ans
 within_masses warehouse all (Some name) = (Some warehouse, mass_text name)
 within_masses warehouse all None = within_leaf warehouse all
 
+-- all facts, where no attribute has too many distinct texts
+abbrev pub within_names : Warehouse → List Fact → Option (List ℕ) → Answer
+within_names warehouse all (Some name) = (Some warehouse, full_text name)
+within_names warehouse all None = within_masses warehouse all (first_heavy 0 warehouse.schema.measures all)
+
 -- a batch is accepted where all facts then keep the limits
 abbrev pub accepted : Warehouse → List Fact → Answer
 accepted warehouse batch =
     let all = warehouse.facts ++ batch in
     cond (nat_le (length all) fact_limit)
-    (within_masses warehouse all (first_heavy 0 warehouse.schema.measures all))
+    (within_names warehouse all (first_full 0 warehouse.schema.attrs all))
     (Some warehouse, line (codes "refused facts"))
 
 -- a batch with a faulty row is refused

@@ -3,10 +3,9 @@ use Rattle.std.specs.Prelude.{◌≡◌, ◌⊎◌, ℕ, List, [], ◌++◌, cod
 use Rattle.script_lang.specs.declared.command.Command.{Command}
 use Rattle.site_core.specs.Disk.{Files, Disk}
 use Rattle.site_core.specs.Moments.{IsStable, LeavesOnly}
-use Rattle.leaf_store.specs.declared.opened.Opened.{Opened}
-use Rattle.leaf_store.specs.Built.{one_view}
-use Rattle.leaf_store.specs.Held.{IsLive}
+use Rattle.leaf_store.specs.declared.store.Store.{Store}
 use Rattle.leaf_store.specs.Opened.{IsEmpty, IsOpened}
+use Rattle.leaf_store.specs.Stored.{IsStoreOf}
 use Rattle.reply_text.specs.Replies.{line, facts_text}
 use Rattle.cube_shell.specs.declared.answered.Answered.{Answered}
 use Rattle.cube_shell.specs.declared.state.State.{State}
@@ -16,11 +15,11 @@ use Rattle.cube_shell.specs.Keeps.{IsLawful, Keeps}
 use Rattle.cube_shell.specs.Machine.{Answer}
 use Rattle.cube_shell.specs.World.{World, Warehouse}
 
--- what was opened is the warehouse that the files keep
-pub record Belongs (opened : Opened) (disk : Disk) (warehouse : Warehouse) : Type 0 where
+-- the store is that of the warehouse which the files keep
+pub record Belongs (store : Store) (disk : Disk) (warehouse : Warehouse) : Type 0 where
   pub lawful : IsLawful warehouse
-  pub schema : opened.schema ≡ warehouse.schema
-  pub live : IsLive (one_view warehouse.schema) opened.store.live warehouse.facts disk.files
+  pub schema : store.schema ≡ warehouse.schema
+  pub stored : IsStoreOf store warehouse.facts disk.files
   -- a stop now leaves what a read gives
   pub stable : IsStable disk
 
@@ -28,25 +27,25 @@ pub record Belongs (opened : Opened) (disk : Disk) (warehouse : Warehouse) : Typ
 abbrev pub IsRunning : State → Type 0
 IsRunning Stopped = ⊥
 IsRunning Empty = Unit {0}
-IsRunning (Idle opened) = Unit {0}
+IsRunning (Idle store) = Unit {0}
 
 -- the files are those that it has opened, whatever they hold
 abbrev pub IsFit : State → Disk → Type 0
 IsFit Stopped disk = ⊥
 IsFit Empty disk = IsEmpty disk
-IsFit (Idle opened) disk = IsOpened opened.store.live disk
+IsFit (Idle store) disk = IsOpened store.live disk
 
 -- it stands for this world
 abbrev pub Stands : State → Disk → World → Type 0
 Stands Stopped disk world = ⊥
 Stands Empty disk world = (world ≡ None) × IsEmpty disk
-Stands (Idle opened) disk world = (warehouse : Warehouse) × (world ≡ Some warehouse) × Belongs opened disk warehouse
+Stands (Idle store) disk world = (warehouse : Warehouse) × (world ≡ Some warehouse) × Belongs store disk warehouse
 
 -- how many facts it knows
 abbrev pub state_text : State → List ℕ
 state_text Stopped = []
 state_text Empty = line (codes "no schema")
-state_text (Idle opened) = facts_text opened.store.live.facts
+state_text (Idle store) = facts_text store.live.facts
 
 -- the files keep this world or that
 abbrev pub KeepsEither : World → World → Files → Type 0

@@ -11,9 +11,9 @@ use crate::answered::{Answered, plain};
 use crate::state::State;
 use crate::stop::Stop;
 use cube_schema::Schema;
-use leaf_store::{is_built, leaf_view};
+use leaf_store::is_built;
 use script_lang::Block;
-use site_core::{Fault, Site};
+use site_core::Site;
 use std::alloc::Global;
 
 /// Declares the schema of a block where there is none, or refuses it.
@@ -43,7 +43,7 @@ pub fn declare<T: Site>(
     match state {
         State::Stopped => Err(Stop::Memory),
         State::Empty => declare_first(alloc, block, site),
-        State::Idle(opened) => plain(alloc, State::Idle(opened), "refused declared"),
+        State::Idle(store) => plain(alloc, State::Idle(store), "refused declared"),
     }
 }
 
@@ -96,9 +96,8 @@ fn declare_schema<T: Site>(alloc: Global, schema: Schema, site: &mut T) -> Resul
     if !is_built(&schema) {
         return plain(alloc, State::Empty, "refused unbuilt");
     }
-    let view = leaf_view(alloc, &schema)?;
-    match leaf_store::declare(site, schema, view) {
-        Ok(opened) => plain(alloc, State::Idle(opened), "declared"),
-        Err(Fault) => Err(Stop::Disk),
+    match leaf_store::declare(alloc, site, schema) {
+        Ok(store) => plain(alloc, State::Idle(store), "declared"),
+        Err(stop) => Err(Stop::from(stop)),
     }
 }

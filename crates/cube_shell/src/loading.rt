@@ -2,6 +2,7 @@
 ghost use Rattle.std.specs.Prelude.{◌≡◌, IsTrue, OnOk, IfOk, IfErr, Ok, Some, length};
 ghost use Rattle.std.specs.List.{All};
 ghost use Rattle.cube_schema.specs.Agreeing.{Agrees};
+ghost use Rattle.cube_schema.specs.Kinds.{name_at};
 ghost use Rattle.leaf_store.specs.Opened.{IsOpened};
 ghost use Rattle.cube_shell.specs.Ends.{IsNoDamage, StopCause};
 ghost use Rattle.cube_shell.specs.Machine.{accepted, load};
@@ -16,7 +17,7 @@ use crate::stop::Stop;
 use cube_schema::Schema;
 use fact_csv::read_batch;
 use fact_model::FactList;
-use leaf_store::{Loaded, Opened, Refusal};
+use leaf_store::{Loaded, Refusal, Store};
 use script_lang::Block;
 use site_core::Site;
 use std::alloc::Global;
@@ -48,24 +49,24 @@ pub fn load<T: Site>(
     match state {
         State::Stopped => Err(Stop::Memory),
         State::Empty => plain(alloc, State::Empty, "refused no schema"),
-        State::Idle(opened) => load_block(alloc, opened, block, site),
+        State::Idle(store) => load_block(alloc, store, block, site),
     }
 }
 
 /// Takes in the facts of a block by the schema, or refuses them.
 fn load_block<T: Site>(
     alloc: Global,
-    opened: Opened,
+    store: Store,
     block: Block,
     site: &mut T,
 ) -> Result<Answered, Stop>
-    requires fit { IsTrue T.tells → IsOpened opened.store.live (T.disk site.old) }
+    requires fit { IsTrue T.tells → IsOpened store.live (T.disk site.old) }
 
-    ensures answer { IsTrue T.tells → (warehouse : Warehouse) → Belongs opened (T.disk site.old) warehouse
+    ensures answer { IsTrue T.tells → (warehouse : Warehouse) → Belongs store (T.disk site.old) warehouse
         → IfOk result (IsAnswer (T.disk site.new) (load (Some warehouse) block)) }
-    ensures any_moment { IsTrue T.tells → (warehouse : Warehouse) → Belongs opened (T.disk site.old) warehouse
+    ensures any_moment { IsTrue T.tells → (warehouse : Warehouse) → Belongs store (T.disk site.old) warehouse
         → Between (T.disk site.old) (T.disk site.new) (Some warehouse) (load (Some warehouse) block).0 }
-    ensures undamaged { IsTrue T.tells → (warehouse : Warehouse) → Belongs opened (T.disk site.old) warehouse
+    ensures undamaged { IsTrue T.tells → (warehouse : Warehouse) → Belongs store (T.disk site.old) warehouse
         → IfErr result IsNoDamage }
 
     ensures running { IfOk result (λ done. IsRunning done.state) }
@@ -76,14 +77,14 @@ fn load_block<T: Site>(
     ensures told_faults { T.told_faults site.new ≡ T.told_faults site.old }
 {
     let Block::Whole(text) = block else {
-        return plain(alloc, State::Idle(opened), "refused block");
+        return plain(alloc, State::Idle(store), "refused block");
     };
-    match read_batch(alloc, &opened.schema, text.as_bytes()) {
-        Ok(batch) => take_in(alloc, opened, &batch, site),
+    match read_batch(alloc, &store.schema, text.as_bytes()) {
+        Ok(batch) => take_in(alloc, store, &batch, site),
         Err(refusal) => {
             let reply = reply_text::refused_batch(alloc, refusal)?;
             Ok(Answered {
-                state: State::Idle(opened),
+                state: State::Idle(store),
                 reply,
             })
         }
@@ -93,18 +94,18 @@ fn load_block<T: Site>(
 /// Takes in a batch, or refuses it by the first limit that it would pass. An empty batch is taken in without a call on a file.
 fn take_in<T: Site>(
     alloc: Global,
-    opened: Opened,
+    store: Store,
     batch: &FactList,
     site: &mut T,
 ) -> Result<Answered, Stop>
-    requires agree { All (Agrees opened.schema) batch.now }
-    requires fit { IsTrue T.tells → IsOpened opened.store.live (T.disk site.old) }
+    requires agree { All (Agrees store.schema) batch.now }
+    requires fit { IsTrue T.tells → IsOpened store.live (T.disk site.old) }
 
-    ensures answer { IsTrue T.tells → (warehouse : Warehouse) → Belongs opened (T.disk site.old) warehouse
+    ensures answer { IsTrue T.tells → (warehouse : Warehouse) → Belongs store (T.disk site.old) warehouse
         → IfOk result (IsAnswer (T.disk site.new) (accepted warehouse batch.now)) }
-    ensures any_moment { IsTrue T.tells → (warehouse : Warehouse) → Belongs opened (T.disk site.old) warehouse
+    ensures any_moment { IsTrue T.tells → (warehouse : Warehouse) → Belongs store (T.disk site.old) warehouse
         → Between (T.disk site.old) (T.disk site.new) (Some warehouse) (accepted warehouse batch.now).0 }
-    ensures undamaged { IsTrue T.tells → (warehouse : Warehouse) → Belongs opened (T.disk site.old) warehouse
+    ensures undamaged { IsTrue T.tells → (warehouse : Warehouse) → Belongs store (T.disk site.old) warehouse
         → IfErr result IsNoDamage }
 
     ensures running { IfOk result (λ done. IsRunning done.state) }
@@ -115,44 +116,46 @@ fn take_in<T: Site>(
     ensures told_faults { T.told_faults site.new ≡ T.told_faults site.old }
 {
     if batch.as_slice().is_empty() {
-        return acknowledge(alloc, opened);
+        return acknowledge(alloc, store);
     }
-    let Opened { schema, store } = opened;
     match store.load(alloc, site, batch) {
-        Ok(Loaded::Committed(store)) => acknowledge(alloc, Opened { schema, store }),
-        Ok(Loaded::Refused(store, refusal)) => refuse(alloc, Opened { schema, store }, refusal),
+        Ok(Loaded::Committed(store)) => acknowledge(alloc, store),
+        Ok(Loaded::Refused(store, refusal)) => refuse(alloc, store, refusal),
         Err(stop) => Err(Stop::from(stop)),
     }
 }
 
 /// Acknowledges a batch that was taken in.
-fn acknowledge(alloc: Global, opened: Opened) -> Result<Answered, Stop>
-    ensures state { IfOk result (λ done. done.state ≡ State.Idle opened) }
-    ensures reply { IfOk result (λ done. done.reply.items ≡ committed_text opened.store.live.facts) }
+fn acknowledge(alloc: Global, store: Store) -> Result<Answered, Stop>
+    ensures state { IfOk result (λ done. done.state ≡ State.Idle store) }
+    ensures reply { IfOk result (λ done. done.reply.items ≡ committed_text store.live.facts) }
     ensures memory { IfErr result (λ stop. stop ≡ Stop.Memory) }
 {
-    let reply = reply_text::committed(alloc, opened.store.live.facts)?;
+    let reply = reply_text::committed(alloc, store.live.facts)?;
     Ok(Answered {
-        state: State::Idle(opened),
+        state: State::Idle(store),
         reply,
     })
 }
 
 /// Refuses a batch by the first limit that it would pass.
-fn refuse(alloc: Global, opened: Opened, refusal: Refusal) -> Result<Answered, Stop>
-    ensures state { IfOk result (λ done. done.state ≡ State.Idle opened) }
-    ensures reply { IfOk result (λ done. done.reply.items ≡ refusal_text opened.schema refusal) }
+fn refuse(alloc: Global, store: Store, refusal: Refusal) -> Result<Answered, Stop>
+    ensures state { IfOk result (λ done. done.state ≡ State.Idle store) }
+    ensures reply { IfOk result (λ done. done.reply.items ≡ refusal_text store.schema refusal) }
     ensures memory { IfErr result (λ stop. stop ≡ Stop.Memory) }
 {
     let reply = match refusal {
         Refusal::Facts => reply_text::plain(alloc, "refused facts")?,
+        Refusal::Names(attr) => {
+            reply_text::refused_names(alloc, attr_name(&store.schema, attr))?
+        }
         Refusal::Mass(measure) => {
-            reply_text::refused_mass(alloc, measure_name(&opened.schema, measure))?
+            reply_text::refused_mass(alloc, measure_name(&store.schema, measure))?
         }
         Refusal::Points => reply_text::plain(alloc, "refused unbuilt")?,
     };
     Ok(Answered {
-        state: State::Idle(opened),
+        state: State::Idle(store),
         reply,
     })
 }
@@ -163,6 +166,16 @@ fn measure_name(schema: &Schema, measure: u32) -> &[u8]
 {
     match schema.measures.get(measure as usize) {
         Some(name) => name.as_bytes(),
+        None => &[],
+    }
+}
+
+/// The name of an attribute; empty where there is none.
+fn attr_name(schema: &Schema, attr: u32) -> &[u8]
+    ensures { result.now ≡ name_at schema.now attr }
+{
+    match schema.attrs.get(attr as usize) {
+        Some(attr) => attr.name.as_bytes(),
         None => &[],
     }
 }

@@ -65,10 +65,10 @@ fn status(alloc: Global, state: State) -> Result<Answered, Stop>
     match state {
         State::Stopped => Err(Stop::Memory),
         State::Empty => plain(alloc, State::Empty, "no schema"),
-        State::Idle(opened) => {
-            let reply = reply_text::facts(alloc, opened.store.live.facts)?;
+        State::Idle(store) => {
+            let reply = reply_text::facts(alloc, store.live.facts)?;
             Ok(Answered {
-                state: State::Idle(opened),
+                state: State::Idle(store),
                 reply,
             })
         }

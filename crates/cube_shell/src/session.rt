@@ -50,9 +50,9 @@ impl Session {
         ensures told_faults { T.told_faults site.new ≡ T.told_faults site.old }
     {
         match leaf_store::open(alloc, site) {
-            Ok(Some(opened)) => Ok(Session {
+            Ok(Some(store)) => Ok(Session {
                 alloc,
-                state: State::Idle(opened),
+                state: State::Idle(store),
             }),
             Ok(None) => Ok(Session {
                 alloc,

@@ -10,7 +10,7 @@ use crate::answered::{Answered, plain};
 use crate::asked::asked;
 use crate::state::State;
 use crate::stop::Stop;
-use leaf_store::Opened;
+use leaf_store::Store;
 use site_core::Site;
 use std::alloc::Global;
 use view_rows::sums_by_view;
@@ -42,24 +42,19 @@ pub fn slice<T: Site>(
     match state {
         State::Stopped => Err(Stop::Memory),
         State::Empty => plain(alloc, State::Empty, "refused no schema"),
-        State::Idle(opened) => answer(alloc, opened, text, site),
+        State::Idle(store) => answer(alloc, store, text, site),
     }
 }
 
 /// Answers a slice that asks for sums by the view, and refuses any other.
-fn answer<T: Site>(
-    alloc: Global,
-    opened: Opened,
-    text: &[u8],
-    site: &mut T,
-) -> Result<Answered, Stop>
-    requires fit { IsTrue T.tells → IsOpened opened.store.live (T.disk site.old) }
+fn answer<T: Site>(alloc: Global, store: Store, text: &[u8], site: &mut T) -> Result<Answered, Stop>
+    requires fit { IsTrue T.tells → IsOpened store.live (T.disk site.old) }
 
-    ensures answer { IsTrue T.tells → (warehouse : Warehouse) → Belongs opened (T.disk site.old) warehouse
+    ensures answer { IsTrue T.tells → (warehouse : Warehouse) → Belongs store (T.disk site.old) warehouse
         → IfOk result (IsAnswer (T.disk site.new) (slice (Some warehouse) text.now)) }
-    ensures any_moment { IsTrue T.tells → (warehouse : Warehouse) → Belongs opened (T.disk site.old) warehouse
+    ensures any_moment { IsTrue T.tells → (warehouse : Warehouse) → Belongs store (T.disk site.old) warehouse
         → Between (T.disk site.old) (T.disk site.new) (Some warehouse) (slice (Some warehouse) text.now).0 }
-    ensures undamaged { IsTrue T.tells → (warehouse : Warehouse) → Belongs opened (T.disk site.old) warehouse
+    ensures undamaged { IsTrue T.tells → (warehouse : Warehouse) → Belongs store (T.disk site.old) warehouse
         → IfErr result IsNoDamage }
 
     ensures running { IfOk result (λ done. IsRunning done.state) }
@@ -69,27 +64,22 @@ fn answer<T: Site>(
     ensures disk_faults { OnOk result (T.disk_faults site.new ≡ T.disk_faults site.old) }
     ensures told_faults { T.told_faults site.new ≡ T.told_faults site.old }
 {
-    match asked(alloc, &opened.schema, text)? {
-        Some(measure) => sums(alloc, opened, measure, site),
-        None => plain(alloc, State::Idle(opened), "refused unbuilt"),
+    match asked(alloc, &store.schema, text)? {
+        Some(measure) => sums(alloc, store, measure, site),
+        None => plain(alloc, State::Idle(store), "refused unbuilt"),
     }
 }
 
 /// Answers with the sums of a measure by the view, from the view's points.
-fn sums<T: Site>(
-    alloc: Global,
-    opened: Opened,
-    measure: u32,
-    site: &mut T,
-) -> Result<Answered, Stop>
+fn sums<T: Site>(alloc: Global, store: Store, measure: u32, site: &mut T) -> Result<Answered, Stop>
     requires measure { measure < 4 }
-    requires fit { IsTrue T.tells → IsOpened opened.store.live (T.disk site.old) }
+    requires fit { IsTrue T.tells → IsOpened store.live (T.disk site.old) }
 
-    ensures answer { IsTrue T.tells → (warehouse : Warehouse) → Belongs opened (T.disk site.old) warehouse
+    ensures answer { IsTrue T.tells → (warehouse : Warehouse) → Belongs store (T.disk site.old) warehouse
         → IfOk result (IsAnswer (T.disk site.new) (answered warehouse (Some measure))) }
-    ensures any_moment { IsTrue T.tells → (warehouse : Warehouse) → Belongs opened (T.disk site.old) warehouse
+    ensures any_moment { IsTrue T.tells → (warehouse : Warehouse) → Belongs store (T.disk site.old) warehouse
         → Between (T.disk site.old) (T.disk site.new) (Some warehouse) (answered warehouse (Some measure)).0 }
-    ensures undamaged { IsTrue T.tells → (warehouse : Warehouse) → Belongs opened (T.disk site.old) warehouse
+    ensures undamaged { IsTrue T.tells → (warehouse : Warehouse) → Belongs store (T.disk site.old) warehouse
         → IfErr result IsNoDamage }
 
     ensures running { IfOk result (λ done. IsRunning done.state) }
@@ -99,12 +89,17 @@ fn sums<T: Site>(
     ensures disk_faults { OnOk result (T.disk_faults site.new ≡ T.disk_faults site.old) }
     ensures told_faults { T.told_faults site.new ≡ T.told_faults site.old }
 {
-    let points = opened.store.points(alloc, site)?;
-    let arity = opened.store.schema.view.as_slice().len();
-    let rows = sums_by_view(alloc, points.as_slice(), arity, measure)?;
+    let points = store.points(alloc, site)?;
+    let rows = sums_by_view(
+        alloc,
+        &store.names,
+        store.view(),
+        points.as_slice(),
+        measure,
+    )?;
     let reply = reply_text::answer(alloc, &rows)?;
     Ok(Answered {
-        state: State::Idle(opened),
+        state: State::Idle(store),
         reply,
     })
 }

@@ -1,6 +1,6 @@
 //! What a session has between two commands.
 
-use leaf_store::Opened;
+use leaf_store::Store;
 
 /// What a session has.
 #[derive(Drop)]
@@ -10,5 +10,5 @@ pub enum State {
     /// The files are opened, and keep no schema.
     Empty,
     /// The files are opened, and keep this warehouse.
-    Idle(Opened),
+    Idle(Store),
 }

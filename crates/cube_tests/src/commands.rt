@@ -7,23 +7,23 @@ use std::alloc::Global;
 use std::process::Abort;
 use std::test::Fail;
 
-/// A script over empty files ends well, and tells this.
-fn tells(rt: &impl Abort, alloc: Global, script: &str, told: &str) -> Result<(), Fail> {
+/// A script over empty files ends well, and tells this. What it leaves is given.
+fn tells(rt: &impl Abort, alloc: Global, script: &str, told: &str) -> Result<MemorySite, Fail> {
     let mut site = MemorySite::new(alloc);
     let ended = run_over(alloc, &mut site, script.as_bytes())?;
     assert_eq!(rt; ended, Status::Done, "{script:?}");
     assert_eq!(rt; site.told(), told.as_bytes(), "{script:?}");
-    Ok(())
+    Ok(site)
 }
 
-/// Behind the declaration of a schema the script tells this.
-fn tells_behind(
+/// Behind the declaration of a schema the script tells this. What it leaves is given.
+pub fn tells_behind(
     rt: &impl Abort,
     alloc: Global,
     schema: &str,
     script: &str,
     told: &str,
-) -> Result<(), Fail> {
+) -> Result<MemorySite, Fail> {
     let script = format!(in alloc; "schema\n{schema}end\n{script}")?;
     let told = format!(in alloc; "declared\n{told}")?;
     tells(rt, alloc, script.as_str(), told.as_str())
@@ -81,7 +81,7 @@ fn schema_refusals(rt: HostRuntime) -> Result<(), Fail> {
 #[test]
 fn schema_unbuilt(rt: HostRuntime) -> Result<(), Fail> {
     for script in [
-        "schema\nattr n number\nattr p text\nmeasure m\nview n\nend\nstatus\n",
+        "schema\nattr n number\nattr p text\nmeasure m\nview n\nview p\nend\nstatus\n",
         "schema\nattr n number\nmeasure m\nview n\nview\nend\nstatus\n",
     ] {
         tells(&rt, rt.alloc(), script, "refused unbuilt\nno schema\n")?;
@@ -97,7 +97,8 @@ fn quoted_numbers(rt: HostRuntime) -> Result<(), Fail> {
         DUMPED_NAMES,
         "load\n\"3\",\"5\"\nend\nload\n1,2,3\nend\nload\nend\n",
         "committed 1\nrefused row 1 fields\ncommitted 1\n",
-    )
+    )?;
+    Ok(())
 }
 
 #[test]

@@ -5,6 +5,7 @@ use cube_shell::{Status, run};
 use fact_model::Text;
 use site_mem::{MemorySite, MemorySource};
 use std::alloc::Global;
+use std::process::Abort;
 use std::test::Fail;
 
 /// Other bytes of the dumped root file, the names file, and the lengths of both sides, of which each is a front of the dumped leaf.
@@ -51,7 +52,7 @@ fn files_without_damage_open(rt: HostRuntime) -> Result<(), Fail> {
 }
 
 /// Changes that are damage, each with its place: a file, and an offset in it.
-const DAMAGE: [(Change<'static>, u32, u64); 21] = [
+const DAMAGE: [(Change<'static>, u32, u64); 20] = [
     // A raised slot's body does not decode: by its format, its slot, its generation.
     ((&[(1033, 2)], DUMPED_NAMES, [0, 4096]), 0, 1024),
     ((&[(1047, 2)], DUMPED_NAMES, [0, 4096]), 0, 1024),
@@ -67,16 +68,7 @@ const DAMAGE: [(Change<'static>, u32, u64); 21] = [
     ((&[], "attr a number\nmeasure m\nview  a", [0, 4096]), 1, 0),
     ((&[], "attr a number\r\nmeasure m\nview a", [0, 4096]), 1, 0),
     ((&[], "\nattr a number\nmeasure m\nview a", [0, 4096]), 1, 0),
-    // The schema has a text attribute, or two views.
-    (
-        (
-            &[(1039, 35), (1055, 35)],
-            "attr a text max 9\nmeasure m\nview a\n",
-            [0, 4096],
-        ),
-        1,
-        0,
-    ),
+    // The schema has two views.
     (
         (
             &[(1035, 2), (1039, 36), (1055, 36)],
@@ -114,21 +106,83 @@ const DAMAGE: [(Change<'static>, u32, u64); 21] = [
     ),
 ];
 
+/// A run over the changed files ends with the damage of a file at this offset, before the first pull.
+fn is_damaged(
+    rt: &impl Abort,
+    alloc: Global,
+    change: Change<'_>,
+    file: u32,
+    offset: u64,
+) -> Result<(), Fail> {
+    let mut site = changed(alloc, change)?;
+    let mut source = MemorySource::new(Text::from_bytes(alloc, b"status\n")?, 64);
+    let ended = run(alloc, &[], &mut source, &mut site);
+    let wanted = Status::Damaged { file, offset };
+    assert_eq!(rt; ended, wanted, "{:?} {:?}", change.0, change.1);
+    assert_eq!(rt; ended.code(), 6);
+    assert_eq!(rt; site.told(), b"".as_slice(), "file {file} at {offset}");
+    // The same source gives the whole script, so nothing had been pulled.
+    let mut other = MemorySite::new(alloc);
+    assert_eq!(rt; run(alloc, &[], &mut source, &mut other), Status::Done);
+    assert_eq!(rt; other.told(), b"no schema\n".as_slice());
+    Ok(())
+}
+
 #[test]
 fn damage_is_named_before_the_first_pull(rt: HostRuntime) -> Result<(), Fail> {
-    let alloc = rt.alloc();
     for (change, file, offset) in DAMAGE {
-        let mut site = changed(alloc, change)?;
-        let mut source = MemorySource::new(Text::from_bytes(alloc, b"status\n")?, 64);
-        let ended = run(alloc, &[], &mut source, &mut site);
-        let wanted = Status::Damaged { file, offset };
-        assert_eq!(rt; ended, wanted, "{:?} {:?}", change.0, change.1);
-        assert_eq!(rt; ended.code(), 6);
-        assert_eq!(rt; site.told(), b"".as_slice(), "file {file} at {offset}");
-        // The same source gives the whole script, so nothing had been pulled.
-        let mut other = MemorySite::new(alloc);
-        assert_eq!(rt; run(alloc, &[], &mut source, &mut other), Status::Done);
-        assert_eq!(rt; other.told(), b"no schema\n".as_slice());
+        is_damaged(&rt, rt.alloc(), change, file, offset)?;
+    }
+    Ok(())
+}
+
+/// The text of a schema with a text attribute of two names and a number attribute; its length is 49.
+const TEXTS: &str = "attr a text max 2\nattr n number\nmeasure m\nview a\n";
+
+/// A body that counts this text, and 9 bytes of entries behind it.
+const ENTRIES: &[(usize, u8)] = &[(1039, 49), (1055, 58)];
+
+#[test]
+fn names_without_damage_open(rt: HostRuntime) -> Result<(), Fail> {
+    let alloc = rt.alloc();
+    for entries in [
+        "\x00\x01b\x00\x04abcd",
+        "\x00\x00\x00\x05abcde",
+        "\x00\x07abcdefg",
+        // Entries behind those that are counted.
+        "\x00\x01b\x00\x04abcd\x00\x01b\x07",
+    ] {
+        let names = format!(in alloc; "{TEXTS}{entries}")?;
+        let mut site = changed(alloc, (ENTRIES, names.as_str(), [0, 4096]))?;
+        let ended = run_over(alloc, &mut site, b"status\n")?;
+        assert_eq!(rt; ended, Status::Done, "{entries:?}");
+        assert_eq!(rt; site.told(), b"facts 3\n".as_slice(), "{entries:?}");
+    }
+    Ok(())
+}
+
+#[test]
+fn damaged_names_are_named_by_their_first_faulty_entry(rt: HostRuntime) -> Result<(), Fail> {
+    let alloc = rt.alloc();
+    for (entries, offset) in [
+        // An entry is cut off: in its text, before it, and before its length.
+        ("\x00\x01b\x00\x05abcd", 52),
+        ("\x00\x08abcdefg", 49),
+        ("\x00\x05abcde\x00\x01a", 56),
+        ("\x00\x06abcdef\x00\x01a", 57),
+        // Its attribute is not there, or is a number attribute.
+        ("\x00\x01b\x02\x01a\x00\x01c", 52),
+        ("\x7f\x01b\x00\x04abcd", 49),
+        ("\x00\x01b\x01\x01a\x00\x01c", 52),
+        ("\x00\x01b\x00\x01a\x01\x011", 55),
+        // Its text is there already, or is one more than the attribute may have.
+        ("\x00\x01b\x00\x01b\x00\x01a", 52),
+        ("\x00\x00\x00\x00\x00\x03abc", 51),
+        ("\x00\x01b\x00\x01a\x00\x01c", 55),
+        ("\x00\x00\x00\x02ab\x00\x01c", 55),
+    ] {
+        let names = format!(in alloc; "{TEXTS}{entries}")?;
+        is_damaged(&rt, alloc, (ENTRIES, names.as_str(), [0, 4096]), 1, offset)?;
     }
     Ok(())
 }

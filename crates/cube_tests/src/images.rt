@@ -10,7 +10,8 @@ fn text(alloc: Global, bytes: &[u8]) -> Result<Text, Memory> {
     Text::from_bytes(alloc, bytes)
 }
 
-fn put(
+/// Writes bytes at a place that the file has or ends at.
+pub fn put(
     rt: &impl Abort,
     site: &mut MemorySite,
     file: u32,

@@ -13,17 +13,18 @@ const SCHEMA: &str = "schema\nattr a number\nmeasure m\nview a\nend\n";
 const SCHEMA_AND_LOAD: &str =
     "schema\nattr a number\nmeasure m\nview a\nend\nload\n3,5\n1,-2\n3,4\nend\n";
 
+/// Each of the loads brings names.
 const SCHEMA_AND_TWO_LOADS: &str =
-    "schema\nattr a number\nmeasure m\nview a\nend\nload\n3,5\n1,-2\n3,4\nend\nload\n2,6\n3,1\nend\n";
+    "schema\nattr p text\nmeasure m\nview p\nend\nload\nb,5\na,-2\nb,4\nend\nload\naa,6\nb,1\nend\n";
 
-const LOOK: &str = "status\nslice sum(m) by a\n";
+const LOOK: &str = "status\nslice sum(m) by p\n";
 
 /// What a look tells without a schema, behind it, behind the first load, and behind both.
 const STAGES: [&str; 4] = [
     "no schema\nrefused no schema\n",
     "facts 0\nrows 0\n",
-    "facts 3\n1,-2\n3,9\nrows 2\n",
-    "facts 5\n1,-2\n2,6\n3,10\nrows 3\n",
+    "facts 3\na,-2\nb,9\nrows 2\n",
+    "facts 5\na,-2\naa,6\nb,10\nrows 3\n",
 ];
 
 #[test]
@@ -134,12 +135,12 @@ fn stage(rt: &impl Abort, alloc: Global, files: [Text; 4]) -> Result<Option<usiz
     )
 }
 
-/// How a run of a schema and two loads ends, of 29 calls, that is stopped before a call: in an output, which are the calls 8, 17
-/// and 28, or elsewhere.
+/// How a run of a schema and two loads ends, of 31 calls, that is stopped before a call: in an output, which are the calls 8, 18
+/// and 30, or elsewhere.
 fn end_before(calls: u64) -> Status {
     match calls {
-        8 | 17 | 28 => Status::Output,
-        29 => Status::Done,
+        8 | 18 | 30 => Status::Output,
+        31 => Status::Done,
         _ => Status::Disk,
     }
 }
@@ -148,8 +149,8 @@ fn end_before(calls: u64) -> Status {
 fn told_before(calls: u64) -> &'static str {
     match calls {
         0..=8 => "",
-        9..=17 => "declared\n",
-        18..=28 => "declared\ncommitted 3\n",
+        9..=18 => "declared\n",
+        19..=30 => "declared\ncommitted 3\n",
         _ => "declared\ncommitted 3\ncommitted 5\n",
     }
 }
@@ -190,19 +191,60 @@ fn leaves(
 #[test]
 fn a_stop_at_any_call_keeps_what_is_acknowledged(rt: HostRuntime) -> Result<(), Fail> {
     let alloc = rt.alloc();
-    // The gates are raised by the calls 6, 15 and 26, and each is stable after the call that follows.
+    // The gates are raised by the calls 6, 16 and 28, and each is stable after the call that follows. The entries are written by the
+    // calls 13 and 25.
     for (first, last, live, next) in [
         (0u64, 6u64, 0usize, 0usize),
         (7, 7, 0, 1),
-        (8, 15, 1, 1),
-        (16, 16, 1, 2),
-        (17, 26, 2, 2),
-        (27, 27, 2, 3),
-        (28, 29, 3, 3),
+        (8, 16, 1, 1),
+        (17, 17, 1, 2),
+        (18, 28, 2, 2),
+        (29, 29, 2, 3),
+        (30, 31, 3, 3),
     ] {
         for calls in first..=last {
             leaves(&rt, alloc, calls, live, next)?;
         }
+    }
+    Ok(())
+}
+
+/// Behind a stop before this call, which is one of the second load before its gate, a load of another name is taken in over each
+/// image, and another run finds it.
+fn takes_in_another_name(rt: &impl Abort, alloc: Global, calls: u64) -> Result<(), Fail> {
+    let mut site = MemorySite::new(alloc);
+    site.stop_after(calls);
+    let ended = run_over(alloc, &mut site, SCHEMA_AND_TWO_LOADS.as_bytes())?;
+    assert_eq!(rt; ended, Status::Disk, "before call {calls}");
+    let entries = Call::Write {
+        file: 1,
+        at: 47,
+        len: 4,
+    };
+    assert_eq!(rt; site.calls().get(25), Some(&entries));
+    for choice in 0..6 {
+        let mut later = MemorySite::from_files(alloc, site.image(alloc, choice)?)?;
+        for (script, told) in [
+            ("load\nc,7\nend\n", "committed 4\n"),
+            (LOOK, "committed 4\nfacts 4\na,-2\nb,9\nc,7\nrows 3\n"),
+        ] {
+            let ended = run_over(alloc, &mut later, script.as_bytes())?;
+            assert_eq!(rt; ended, Status::Done, "before call {calls}, image {choice}");
+            assert_eq!(rt;
+                later.told(),
+                told.as_bytes(),
+                "before call {calls}, image {choice}"
+            );
+        }
+    }
+    Ok(())
+}
+
+#[test]
+fn the_names_of_a_stopped_load_do_not_count(rt: HostRuntime) -> Result<(), Fail> {
+    // Behind the write of the entries, behind that of the body, and before the gate.
+    for calls in 26..=28 {
+        takes_in_another_name(&rt, rt.alloc(), calls)?;
     }
     Ok(())
 }

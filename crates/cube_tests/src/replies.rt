@@ -2,7 +2,9 @@
 use cube_schema::SchemaRefusal;
 use fact_csv::RowRefusal;
 use fact_model::{ListOf, Row, Rows, Text, Value};
-use reply_text::{answer, committed, facts, plain, refused_batch, refused_mass, refused_schema};
+use reply_text::{
+    answer, committed, facts, plain, refused_batch, refused_mass, refused_names, refused_schema,
+};
 use std::test::Fail;
 
 #[test]
@@ -21,6 +23,10 @@ fn a_reply_is_one_line(rt: HostRuntime) -> Result<(), Fail> {
     assert_eq!(rt;
         refused_mass(alloc, b"qty")?.as_slice(),
         b"refused mass qty\n".as_slice()
+    );
+    assert_eq!(rt;
+        refused_names(alloc, b"part")?.as_slice(),
+        b"refused names part\n".as_slice()
     );
     Ok(())
 }

@@ -1,6 +1,8 @@
 pub mod Committed
-pub mod Facts
+pub mod Declared
 pub mod Leaves
+pub mod Named
+pub mod NamesLong
 pub mod Openings
 pub mod Planned
 pub mod Ready

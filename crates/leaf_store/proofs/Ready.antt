@@ -1,5 +1,5 @@
 -- The body of the next generation is lawful, and a plan with it makes the facts of the batch accepted.
-use Rattle.std.proofs.Common.{◌≡◌, ℕ, true, min, zero, suc, ◌+◌, ◌<◌, ◌≤◌, ◌^◌, ◌-◌, List, [], ◌∷◌, ◌++◌, map, length, replicate, slice_index, Result, Ok, Err, IfOk, IfErr, refl, sym, ◌∙◌, ap, subst, arith, length-append}
+use Rattle.std.proofs.Common.{◌≡◌, ℕ, true, min, zero, suc, ◌+◌, ◌<◌, ◌≤◌, ◌^◌, ◌-◌, List, [], ◌∷◌, ◌++◌, map, length, replicate, slice_index, Result, Ok, Err, IfOk, IfErr, refl, sym, ◌∙◌, ap, subst, arith, append_assoc, length-append}
 use Rattle.std.specs.List.{All}
 use Rattle.std.proofs.lemmas.List.{length-map}
 use Rattle.std.specs.Prelude.{IsErrAnd}
@@ -15,13 +15,19 @@ use Rattle.page_fmt.specs.Pages.{room, entry_size}
 use Rattle.page_fmt.specs.Taking.{ascend, entry_before}
 use Rattle.page_fmt.specs.Writing.{AreEntries, leaf_arity}
 use Rattle.forest_root.specs.declared.body.Body.{Body}
-use Rattle.forest_root.specs.Body.{IsBody, max_facts}
-use Rattle.leaf_store.specs.declared.one_view.OneView.{OneView}
+use Rattle.forest_root.specs.Body.{IsBody, max_facts, max_names_len}
+use Rattle.cube_schema.specs.declared.schema.Schema.{Schema}
+use Rattle.cube_schema.specs.Writing.{canonical}
+use Rattle.leaf_store.specs.Built.{view_of}
 use Rattle.leaf_store.specs.declared.load.Refusal.TheVariants as refusals
 use Rattle.leaf_store.specs.declared.plan.Plan.{Plan}
-use Rattle.leaf_store.specs.Held.{IsOneView, IsFactOf, IsLive, entries_of, leaf_limit, masses_of, shape_of}
+use Rattle.cube_schema.specs.Agreeing.{Agrees}
+use Rattle.cube_schema.specs.Kinds.{measure_count}
+use Rattle.attr_dict.specs.Admitting.{entries_text}
+use Rattle.view_points.specs.Codes.{names}
+use Rattle.leaf_store.specs.Held.{HasNames, IsLive, entries_of, leaf_limit, masses_of, names_text, shape_of}
 use Rattle.leaf_store.specs.Loading.{IsRefused}
-use Rattle.leaf_store.specs.Next.{IsPlan, IsEntryOf, HasMass, KeepsLimits, added, points_in, next_body}
+use Rattle.leaf_store.specs.Next.{AddsNames, IsPlan, IsEntryOf, HasMass, KeepsLimits, added, points_in, next_body}
 use Rattle.leaf_store.specs.Opening.{slot_of}
 
 -- ---- what a live body tells
@@ -62,8 +68,17 @@ module _ (accepted batch : List Fact) where
   masses_all : added (masses_of accepted) batch ≡ masses_of (accepted ++ batch)
   masses_all = λ i. sym (mass-append 0 accepted batch) i ∷ sym (mass-append 1 accepted batch) i ∷ sym (mass-append 2 accepted batch) i ∷ sym (mass-append 3 accepted batch) i ∷ []
 
-  pub refused_mass : (schema : OneView) (m : ℕ) → length (accepted ++ batch) ≤ max_facts → HasMass (masses_of accepted) batch m → IsRefused schema (accepted ++ batch) (refusals.Mass m)
-  refused_mass schema m few is = (few, is.0, omega (arith, is.1, mass_at m is.0), λ k low. omega (arith, is.2 k low, mass_at k (omega (arith, is.0))))
+  pub refused_mass : (schema : Schema) (m : ℕ) → length (accepted ++ batch) ≤ max_facts → HasNames schema (accepted ++ batch) → HasMass (masses_of accepted) batch m
+      → IsRefused schema (accepted ++ batch) (refusals.Mass m)
+  refused_mass schema m few named is = (
+    few,
+    named,
+    record {
+      four = is.0;
+      passes = omega (arith, is.1, mass_at m is.0);
+      first = λ k low. omega (arith, is.2 k low, mass_at k (omega (arith, is.0)));
+    },
+  )
 
 -- the limits are kept
 limits : (old : List ℕ) (accepted batch : List Fact) → old ≡ masses_of accepted → length (accepted ++ batch) ≤ max_facts
@@ -74,7 +89,7 @@ limits old accepted batch same few within = record {
 }
 
 -- what is counted and added up is that of all, and keeps the limits
-pub summed : (schema : OneView) (files : Files) (live : Body) (accepted batch : List Fact) (facts : ℕ) (old masses : List ℕ) → IsLive schema live accepted files
+pub summed : (schema : Schema) (files : Files) (live : Body) (accepted batch : List Fact) (facts : ℕ) (old masses : List ℕ) → IsLive schema live accepted files
     → facts ≡ live.facts + length batch → facts ≤ max_facts → old ≡ live.masses → masses ≡ added old batch → ((m : ℕ) → m < 4 → slice_index masses m ≤ mass_limit)
     → (facts ≡ length (accepted ++ batch)) × (masses ≡ masses_of (accepted ++ batch)) × KeepsLimits (accepted ++ batch)
 summed schema files live accepted batch facts old masses is counted few from up within =
@@ -101,67 +116,76 @@ counts_few points facts low zero = low
 counts_few points facts low (suc i) = omega (arith, zeros_at 31 i)
 
 -- points in order that a leaf may hold, no more than it has room for
-pub leaf_entries : (schema : OneView) (entries : List Entry) → 0 < length entries → ascend entry_before entries ≡ true → All (IsEntryOf schema) entries → length entries ≤ leaf_limit schema → AreEntries (shape_of schema) entries
+pub leaf_entries : (schema : Schema) (entries : List Entry) → 0 < length entries → ascend entry_before entries ≡ true → All (IsEntryOf schema) entries → length entries ≤ leaf_limit schema → AreEntries (shape_of schema) entries
 leaf_entries schema entries some order each fits =
-    let arity : leaf_arity entries ≡ length schema.view = head_arity (length schema.view) entries (λ i d low. (each i d low).arity) some in
+    let arity : leaf_arity entries ≡ length (view_of schema) = head_arity (length (view_of schema)) entries (λ i d low. (each i d low).arity) some in
     record {
       arity_fits = omega (arith, arity);
-      few = subst (λ (a : ℕ). length entries ≤ room (entry_size a schema.measures)) (sym arity) fits;
+      few = subst (λ (a : ℕ). length entries ≤ room (entry_size a (measure_count schema))) (sym arity) fits;
       arities = λ i d low. (each i d low).arity ∙ sym arity;
       order = order;
       good = λ i d low. (each i d low).fits;
     }
 
 -- the body of the next generation
-pub body_is : (schema : OneView) (live : Body) (facts : ℕ) (masses : List ℕ) (count more : ℕ) → IsOneView schema → IsSound live → 0 < more → facts ≡ live.facts + more → facts ≤ max_facts
+pub body_is : (live : Body) (names_len facts : ℕ) (masses : List ℕ) (count more : ℕ) → IsSound live → live.names_len ≤ names_len → names_len ≤ max_names_len → 0 < more → facts ≡ live.facts + more → facts ≤ max_facts
     → length masses ≡ 4 → ((m : ℕ) → m < 4 → slice_index masses m ≤ mass_limit) → count ≤ points_in live + more
-    → IsBody (slot_of (next_body schema live facts masses count)) (next_body schema live facts masses count)
-body_is schema live facts masses count more one lawful some all few long within low = record {
+    → IsBody (slot_of (next_body live names_len facts masses count)) (next_body live names_len facts masses count)
+body_is live names_len facts masses count more sound longer short some all few long within low = record {
   within = record {
     views = omega arith;
     few_views = omega arith;
-    schema_len = omega arith;
-    names_len = omega (arith, one.short);
+    schema_len = omega (arith, longer, sound.within.schema_len);
+    names_len = short;
     facts = few;
-    generation = omega (arith, all, lawful.within.generation, some);
+    generation = omega (arith, all, sound.within.generation, some);
     side = refl;
   };
-  schema_fits = omega (arith, one.short);
+  schema_fits = sound.schema_fits;
   masses = long;
   each_mass = λ i below. within i (omega (arith, below, long));
   counts = refl;
-  each_count = record { few = λ i below. counts_few count facts (omega (arith, low, all, points_few live lawful)) i; past = λ i below. zeros_at 31 i };
+  each_count = record { few = λ i below. counts_few count facts (omega (arith, low, all, points_few live sound)) i; past = λ i below. zeros_at 31 i };
 }
 
 -- ---- the plan of accepted facts
 
-All_append : (schema : OneView) (xs ys : List Fact) → All (IsFactOf schema) xs → All (IsFactOf schema) ys → All (IsFactOf schema) (xs ++ ys)
-All_append schema xs ys h k = All-from_every (IsFactOf schema) (xs ++ ys) (every-append (IsFactOf schema) xs ys (every-from_All (IsFactOf schema) xs h) (every-from_All (IsFactOf schema) ys k))
+-- the facts of both agree
+pub both_agree : (schema : Schema) (xs ys : List Fact) → All (Agrees schema) xs → All (Agrees schema) ys → All (Agrees schema) (xs ++ ys)
+both_agree schema xs ys h k = All-from_every (Agrees schema) (xs ++ ys) (every-append (Agrees schema) xs ys (every-from_All (Agrees schema) xs h) (every-from_All (Agrees schema) ys k))
 
-points_as : (schema : OneView) (all : List Fact) (entries : List Entry) → entries ≡ entries_of schema all → length entries ≡ length (points schema.measures schema.view all)
-points_as schema all entries same = ap length same ∙ length-map (points schema.measures schema.view all) entry_of
+points_as : (schema : Schema) (all : List Fact) (entries : List Entry) → entries ≡ entries_of schema all → length entries ≡ length (points (measure_count schema) (view_of schema) all)
+points_as schema all entries same = ap length same ∙ length-map (points (measure_count schema) (view_of schema) all) entry_of
 
-pub plan_is : (schema : OneView) (live : Body) (accepted batch : List Fact) (entries : List Entry) (plan : Plan) (facts : ℕ) (masses : List ℕ)
-    → All (IsFactOf schema) accepted → All (IsFactOf schema) batch → KeepsLimits (accepted ++ batch) → entries ≡ entries_of schema (accepted ++ batch) → length entries ≤ leaf_limit schema
-    → facts ≡ length (accepted ++ batch) → masses ≡ masses_of (accepted ++ batch)
-    → plan.entries ≡ entries → plan.body ≡ next_body schema live facts masses (length entries) → IsPlan schema (accepted ++ batch) plan
-plan_is schema live accepted batch entries plan facts masses old new keeps same fits counted summed is body =
-    let count : length entries ≡ length (points schema.measures schema.view (accepted ++ batch)) = points_as schema (accepted ++ batch) entries same in
+-- the names of all facts, from those of accepted facts
+pub more_names : (schema : Schema) (accepted batch : List Fact) (entries : List ℕ) → AddsNames accepted batch entries → names_text schema (accepted ++ batch) ≡ names_text schema accepted ++ entries
+more_names schema accepted batch entries adds = ap (λ (l : List ℕ). canonical schema ++ l) adds ∙ sym (append_assoc (canonical schema) (entries_text (names accepted)) entries)
+
+pub plan_is : (schema : Schema) (live : Body) (accepted batch : List Fact) (entries : List Entry) (plan : Plan) (names_len facts : ℕ) (masses : List ℕ)
+    → live.schema_len ≡ length (canonical schema) → live.names_len ≡ length (names_text schema accepted)
+    → All (Agrees schema) accepted → All (Agrees schema) batch → HasNames schema (accepted ++ batch) → KeepsLimits (accepted ++ batch) → AddsNames accepted batch plan.names
+    → entries ≡ entries_of schema (accepted ++ batch) → length entries ≤ leaf_limit schema
+    → names_len ≡ live.names_len + length plan.names → facts ≡ length (accepted ++ batch) → masses ≡ masses_of (accepted ++ batch)
+    → plan.points ≡ entries → plan.body ≡ next_body live names_len facts masses (length entries) → IsPlan schema accepted (accepted ++ batch) plan
+plan_is schema live accepted batch entries plan names_len facts masses text were old new named keeps adds same fits longer counted summed is body =
+    let count : length entries ≡ length (points (measure_count schema) (view_of schema) (accepted ++ batch)) = points_as schema (accepted ++ batch) entries same in
+    let more : names_text schema (accepted ++ batch) ≡ names_text schema accepted ++ plan.names = more_names schema accepted batch plan.names adds in
     record {
-      accepted = record { each = All_append schema accepted batch old new; few = keeps.few; masses = keeps.masses; points = omega (arith, count, fits) };
-      entries = is ∙ same;
+      keeps = record { each = both_agree schema accepted batch old new; few = keeps.few; named = named; masses = keeps.masses; points = omega (arith, count, fits) };
+      points = is ∙ same;
+      names = more;
       body = record {
         views = ap (λ (b : Body). b.views) body;
-        schema_len = ap (λ (b : Body). b.schema_len) body;
-        names_len = ap (λ (b : Body). b.names_len) body;
+        schema_len = ap (λ (b : Body). b.schema_len) body ∙ text;
+        names_len = ap (λ (b : Body). b.names_len) body ∙ omega (arith, longer, were, ap length more, length-append (names_text schema accepted) plan.names);
         facts = ap (λ (b : Body). b.facts) body ∙ counted;
         masses = ap (λ (b : Body). b.masses) body ∙ summed;
         counts = ap (λ (b : Body). b.counts) body ∙ ap (λ (n : ℕ). n ∷ replicate 31 0) count;
       };
     }
 
-pub refused_points : (schema : OneView) (all : List Fact) (entries : List Entry) → KeepsLimits all → entries ≡ entries_of schema all → leaf_limit schema < length entries → IsRefused schema all refusals.Points
-refused_points schema all entries keeps same many = (keeps.few, keeps.masses, omega (arith, many, points_as schema all entries same))
+pub refused_points : (schema : Schema) (all : List Fact) (entries : List Entry) → KeepsLimits all → HasNames schema all → entries ≡ entries_of schema all → leaf_limit schema < length entries → IsRefused schema all refusals.Points
+refused_points schema all entries keeps named same many = (keeps.few, named, keeps.masses, omega (arith, many, points_as schema all entries same))
 
 -- ---- through results
 

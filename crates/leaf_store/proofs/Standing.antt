@@ -6,17 +6,17 @@ use Rattle.site_core.specs.Moments.{IsStable, LeavesOnly}
 use Rattle.site_core.proofs.Run.{started, each_moment}
 use Rattle.fact_model.specs.declared.fact.Fact.{Fact}
 use Rattle.forest_root.specs.declared.body.Body.{Body}
-use Rattle.leaf_store.specs.declared.one_view.OneView.{OneView}
+use Rattle.cube_schema.specs.declared.schema.Schema.{Schema}
 use Rattle.leaf_store.specs.Held.{IsLive, KeepsFacts}
 use Rattle.leaf_store.specs.Loading.{KeepsEither}
 use Rattle.leaf_store.specs.Opened.{HasRoot, IsOpened}
 
 -- files with a live body keep its facts
-pub live_keeps : (schema : OneView) (live : Body) (facts : List Fact) (files : Files) → IsLive schema live facts files → KeepsFacts schema facts files
+pub live_keeps : (schema : Schema) (live : Body) (facts : List Fact) (files : Files) → IsLive schema live facts files → KeepsFacts schema facts files
 live_keeps schema live facts files is = (is.slot, live, is.at)
 
 -- a run that does nothing; `only` is the site's law only_now
-pub rests_keeping : (schema : OneView) (live : Body) (facts all : List Fact) (disk : Disk) → IsLive schema live facts disk.files → IsStable disk
+pub rests_keeping : (schema : Schema) (live : Body) (facts all : List Fact) (disk : Disk) → IsLive schema live facts disk.files → IsStable disk
     → ((told : List ℕ) (files : Files) → disk.left_since disk.clock told files → (told ≡ disk.told) × disk.may_leave files)
     → LeavesOnly disk disk (λ told files. (told ≡ disk.told) × KeepsEither schema facts all files)
 rests_keeping schema live facts all disk is stable only = started disk (λ told files. (told ≡ disk.told) × KeepsEither schema facts all files) (λ told files left.
@@ -29,7 +29,7 @@ rests_stable old new rests stable = λ files left.
     let was = rests.time.now files left in was.2 ∙ (stable was.0 was.1 ∙ sym rests.files)
 
 -- the same over calls that change nothing
-pub rests_moments : (schema : OneView) (live : Body) (facts all : List Fact) (old new : Disk) → IsLive schema live facts old.files → IsStable old
+pub rests_moments : (schema : Schema) (live : Body) (facts all : List Fact) (old new : Disk) → IsLive schema live facts old.files → IsStable old
     → ((told : List ℕ) (files : Files) → old.left_since old.clock told files → (told ≡ old.told) × old.may_leave files) → Rests old new
     → LeavesOnly old new (λ told files. (told ≡ old.told) × KeepsEither schema facts all files)
 rests_moments schema live facts all old new is stable only rests =

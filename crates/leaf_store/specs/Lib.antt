@@ -6,3 +6,4 @@ pub mod Loading
 pub mod Next
 pub mod Opened
 pub mod Opening
+pub mod Stored

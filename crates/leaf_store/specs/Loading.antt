@@ -4,37 +4,48 @@ use Rattle.site_core.specs.Disk.{Files}
 use Rattle.fact_model.specs.declared.fact.Fact.{Fact}
 use Rattle.fact_model.specs.Fact.{mass, mass_limit}
 use Rattle.forest_root.specs.Body.{max_facts}
+use Rattle.view_points.specs.Codes.{names_of}
 use Rattle.view_points.specs.Points.{points}
-use Rattle.leaf_store.specs.declared.one_view.OneView.{OneView}
+use Rattle.cube_schema.specs.declared.schema.Schema.{Schema}
+use Rattle.cube_schema.specs.Kinds.{max_at, measure_count}
 use Rattle.leaf_store.specs.declared.store.Store.{Store}
 use Rattle.leaf_store.specs.declared.load.Refusal.{Refusal}
 use Rattle.leaf_store.specs.declared.load.Refusal.TheVariants as refusals
 use Rattle.leaf_store.specs.declared.load.Loaded.{Loaded}
 use Rattle.leaf_store.specs.declared.load.Loaded.TheVariants as loads
-use Rattle.leaf_store.specs.Held.{AreAccepted, KeepsFacts, IsLive, leaf_limit}
+use Rattle.leaf_store.specs.Built.{view_of}
+use Rattle.leaf_store.specs.Held.{AreAccepted, HasMasses, HasNames, KeepsFacts, leaf_limit}
+use Rattle.leaf_store.specs.Stored.{IsStoreOf}
 
--- all masses are within the limit
-abbrev pub HasMasses : List Fact → Type 0
-HasMasses all = (m : ℕ) → m < 4 → mass m all ≤ mass_limit
+-- this is the first attribute with more names than its `max`
+pub record IsFullAt (schema : Schema) (all : List Fact) (a : ℕ) : Type 0 where
+  pub passes : max_at schema a < length (names_of all a)
+  pub first : (c : ℕ) → c < a → length (names_of all c) ≤ max_at schema c
+
+-- this is the first measure whose mass passes the limit
+pub record IsHeavyAt (all : List Fact) (m : ℕ) : Type 0 where
+  pub four : m < 4
+  pub passes : mass_limit < mass m all
+  pub first : (k : ℕ) → k < m → mass k all ≤ mass_limit
 
 -- of the limits on all facts together, this is the first that is passed
-abbrev pub IsRefused : OneView → List Fact → Refusal → Type 0
+abbrev pub IsRefused : Schema → List Fact → Refusal → Type 0
 IsRefused schema all refusals.Facts = max_facts < length all
-IsRefused schema all (refusals.Mass m) =
-    (length all ≤ max_facts) × (m < 4) × (mass_limit < mass m all) × ((k : ℕ) → k < m → mass k all ≤ mass_limit)
+IsRefused schema all (refusals.Names a) = (length all ≤ max_facts) × IsFullAt schema all a
+IsRefused schema all (refusals.Mass m) = (length all ≤ max_facts) × HasNames schema all × IsHeavyAt all m
 IsRefused schema all refusals.Points =
-    (length all ≤ max_facts) × HasMasses all × (leaf_limit schema < length (points schema.measures schema.view all))
+    (length all ≤ max_facts) × HasNames schema all × HasMasses all
+    × (leaf_limit schema < length (points (measure_count schema) (view_of schema) all))
 
 -- the files keep the facts before the load, or all of them
-abbrev pub KeepsEither : OneView → List Fact → List Fact → Files → Type 0
+abbrev pub KeepsEither : Schema → List Fact → List Fact → Files → Type 0
 KeepsEither schema facts all files = KeepsFacts schema facts files ⊎ (AreAccepted schema all × KeepsFacts schema all files)
 
--- A store with all facts, which the files keep; or the refusal, with the store as it was and the files as they were.
-abbrev pub IsLoaded : OneView → List Fact → List Fact → Files → Loaded → Type 0
-IsLoaded schema facts all files (loads.Committed store) =
-    (store.schema ≡ schema) × AreAccepted schema all × IsLive schema store.live all files
+-- A store of all facts, which the files keep; or the refusal, with the store as it was and the files as they were.
+abbrev pub IsLoaded : Schema → List Fact → List Fact → Files → Loaded → Type 0
+IsLoaded schema facts all files (loads.Committed store) = (store.schema ≡ schema) × IsStoreOf store all files
 IsLoaded schema facts all files (loads.Refused store refusal) =
-    (store.schema ≡ schema) × IsLive schema store.live facts files × IsRefused schema all refusal
+    (store.schema ≡ schema) × IsStoreOf store facts files × IsRefused schema all refusal
 
 -- the store that there is afterwards
 abbrev pub store_of : Loaded → Store

@@ -1,10 +1,13 @@
 -- The rules that files with a live body keep, each with the place that is named where it is broken.
-use Rattle.std.specs.Prelude.{ℕ, ◌+◌, ◌*◌, ◌%◌, ◌==◌, ◌&&◌, Bool, cond, nat_le, List, [], ◌∷◌, length, take, drop, slice_index, Option, Some, None, Result, Ok, Err}
+use Rattle.std.specs.Prelude.{◌≡◌, ◌⊎◌, ℕ, ◌+◌, ◌*◌, ◌/◌, ◌%◌, ◌<◌, ◌≤◌, ◌==◌, ◌&&◌, Bool, true, false, cond, nat_le, List, [], length, take, drop, slice_index, Option, Some, None, Result, Ok, Err}
 use Rattle.std.specs.List.{list_all}
 use Rattle.std.specs.Str.{bytes_eq}
 use Rattle.site_core.specs.Disk.{Files}
+use Rattle.attr_dict.specs.Book.{Book, no_names}
+use Rattle.attr_dict.specs.Entering.{HasRead, IsDamagedAt}
 use Rattle.cube_schema.specs.declared.schema.Schema.{Schema}
 use Rattle.cube_schema.specs.declared.schema.SchemaRefusal.{SchemaRefusal}
+use Rattle.cube_schema.specs.Kinds.{measure_count}
 use Rattle.cube_schema.specs.Reading.{schema_of}
 use Rattle.cube_schema.specs.Writing.{canonical}
 use Rattle.forest_root.specs.declared.body.Body.{Body}
@@ -14,11 +17,6 @@ use Rattle.leaf_store.specs.Built.{is_built}
 -- a file, and an offset in it
 abbrev pub Place : Type 0
 Place = ℕ × ℕ
-
--- the place of the first rule that is broken
-abbrev pub first_broken : List (Bool × Place) → Option Place
-first_broken [] = None
-first_broken (rule ∷ rules) = cond rule.0 (first_broken rules) (Some rule.1)
 
 -- the slot of a body, and the file of its side
 abbrev pub slot_of : Body → ℕ
@@ -39,23 +37,67 @@ abbrev pub declared_by : List ℕ → Result Schema SchemaRefusal → Option Sch
 declared_by text (Err refusal) = None
 declared_by text (Ok schema) = cond (is_built schema && bytes_eq (canonical schema) text) (Some schema) None
 
+-- the names that count: the schema's text, and the entries behind it
+abbrev pub text_in : Body → Files → List ℕ
+text_in body files = take body.schema_len (files 1)
+
+abbrev pub entries_in : Body → Files → List ℕ
+entries_in body files = drop body.schema_len (take body.names_len (files 1))
+
 -- the schema with whose text the names file begins
 abbrev pub schema_in : Body → Files → Option Schema
-schema_in body files = declared_by (take body.schema_len (files 1)) (schema_of (take body.schema_len (files 1)))
+schema_in body files = declared_by (text_in body files) (schema_of (text_in body files))
 
--- the body is of one view, without masses past its measures and without names; the side is long enough
-abbrev pub rules_with : Body → Files → Schema → List (Bool × Place)
-rules_with body files schema =
-    ((body.views == 1) && list_all is_zero (drop (length schema.measures) body.masses), (0, body_at (slot_of body)))
-    ∷ (body.names_len == body.schema_len, (1, body.schema_len))
-    ∷ (nat_le (4096 * pages_of body) (length (files (side_of body))), (side_of body, length (files (side_of body))))
-    ∷ []
+-- the body is of one view, without masses past its measures
+abbrev pub is_of_view : Body → Schema → Bool
+is_of_view body schema = (body.views == 1) && list_all is_zero (drop (measure_count schema) body.masses)
 
--- the names file begins with the text of a schema, and the rest is as that asks
-abbrev pub broken_with : Body → Files → Option Schema → Option Place
-broken_with body files None = Some (1, 0)
-broken_with body files (Some schema) = first_broken (rules_with body files schema)
+-- the side has the view's pages
+abbrev pub has_pages : Body → Files → Bool
+has_pages body files = nat_le (4096 * pages_of body) (length (files (side_of body)))
 
--- the place of the first rule that the files break; first of all the names file has all names that count
-unfoldable pub broken_rule : Body → Files → Option Place
-broken_rule body files = cond (nat_le body.names_len (length (files 1))) (broken_with body files (schema_in body files)) (Some (1, length (files 1)))
+-- the names file has all names that count, and they begin with the text of this schema
+pub record HasSchema (body : Body) (files : Files) (schema : Schema) : Type 0 where
+  pub there : body.names_len ≤ length (files 1)
+  pub found : schema_in body files ≡ Some schema
+
+-- the names file is too short, or begins with no schema's text
+abbrev pub BreaksNames : Body → Files → Place → Type 0
+BreaksNames body files place =
+    ((length (files 1) < body.names_len) × (place ≡ (1, length (files 1))))
+    ⊎ ((body.names_len ≤ length (files 1)) × (schema_in body files ≡ None) × (place ≡ (1, 0)))
+
+-- the files are opened with this schema and these names
+pub record AreOpened (body : Body) (files : Files) (schema : Schema) (names : Book) : Type 0 where
+  pub declared : HasSchema body files schema
+  pub of_view : is_of_view body schema ≡ true
+  pub read : HasRead (no_names schema) names (entries_in body files) []
+  pub pages : has_pages body files ≡ true
+
+-- the body is of other views or measures
+abbrev pub BreaksView : Body → Schema → Place → Type 0
+BreaksView body schema place = (is_of_view body schema ≡ false) × (place ≡ (0, body_at (slot_of body)))
+
+-- one of these entries is the first faulty one
+abbrev pub BreaksEntry : Body → Schema → List ℕ → Place → Type 0
+BreaksEntry body schema entries place = (at : ℕ) × IsDamagedAt (no_names schema) entries at × (place ≡ (1, body.schema_len + at))
+
+-- the entries are read, and the side is too short
+abbrev pub BreaksSide : Body → Files → Schema → List ℕ → Place → Type 0
+BreaksSide body files schema entries place =
+    (names : Book) × HasRead (no_names schema) names entries [] × (has_pages body files ≡ false) × (place ≡ (side_of body, length (files (side_of body))))
+
+-- with this schema, and these entries behind its text, they break a rule at this place
+abbrev pub BreaksEntries : Body → Files → Schema → List ℕ → Place → Type 0
+BreaksEntries body files schema entries place =
+    BreaksView body schema place
+    ⊎ ((is_of_view body schema ≡ true) × (BreaksEntry body schema entries place ⊎ BreaksSide body files schema entries place))
+
+-- how many pages the names take that count, the last of them perhaps in part
+abbrev pub names_pages : ℕ → ℕ
+names_pages names_len = (names_len + 4095) / 4096
+
+-- files with this live body break a rule, the first of them at this place
+abbrev pub BreaksBody : Body → Files → Place → Type 0
+BreaksBody body files place =
+    BreaksNames body files place ⊎ ((schema : Schema) × HasSchema body files schema × BreaksEntries body files schema (entries_in body files) place)

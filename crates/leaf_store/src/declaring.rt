@@ -1,57 +1,63 @@
 //! A schema is declared in files that keep none.
-ghost use Rattle.std.specs.Prelude.{◌≡◌, ◌⊎◌, ◌≤◌, ◌+◌, [], IsTrue, IfOk};
+ghost use Rattle.std.specs.Prelude.{◌≡◌, ◌⊎◌, ◌≤◌, ◌+◌, [], IsTrue, IfOk, IfErr, length};
 ghost use Rattle.site_core.specs.Moments.{LeavesOnly};
-ghost use Rattle.site_core.specs.Causes.{HasCause};
 ghost use Rattle.cube_schema.specs.Lawful.{IsSchema};
+ghost use Rattle.cube_schema.specs.Writing.{canonical};
+ghost use Rattle.cube_schema.specs.declared.schema.Schema as schemas;
+ghost use Rattle.forest_root.specs.Causes.{HasCauseWhere};
 ghost use Rattle.forest_root.specs.Keeps.{KeepsNothing};
-ghost use Rattle.leaf_store.specs.Built.{is_built, one_view};
-ghost use Rattle.leaf_store.specs.Held.{IsLive, IsOneView, KeepsFacts};
+ghost use Rattle.leaf_store.specs.Built.{is_built};
+ghost use Rattle.leaf_store.specs.Held.{KeepsFacts};
 ghost use Rattle.leaf_store.specs.Next.{first_body};
-ghost use Rattle.leaf_store.specs.Opened.{IsEmpty, IsOpened};
+ghost use Rattle.leaf_store.specs.Opened.{IsEmpty, IsNoDamage, IsOpened};
+ghost use Rattle.leaf_store.specs.Stored.{IsStoreOf};
 
-use crate::one_view::OneView;
-use crate::opened::Opened;
-use crate::store::Store;
+use crate::store::{Store, StoreStop};
+use attr_dict::Dicts;
 use cube_schema::Schema;
+use fact_model::Text;
 use forest_root::Body;
-use site_core::{Fault, Site};
+use site_core::Site;
+use std::alloc::Global;
 
-/// Declares a schema with its view, as generation 0, in files that keep none. It takes no memory.
+/// Declares a schema of one view, as generation 0, in files that keep none.
 ///
-/// A stop at any moment leaves no schema or the schema without facts, and so does a fault.
-pub fn declare<T: Site>(site: &mut T, schema: Schema, view: OneView) -> Result<Opened, Fault>
+/// A stop at any moment leaves no schema or the schema without facts, and so does an error.
+pub fn declare<T: Site>(alloc: Global, site: &mut T, schema: Schema) -> Result<Store, StoreStop>
     requires lawful { IsSchema schema }
     requires built { IsTrue (is_built schema) }
-    requires view { view ≡ one_view schema }
     requires empty { IsTrue T.tells → IsEmpty (T.disk site.old) }
 
-    ensures declared { IsTrue T.tells
-        → IfOk result (λ opened. IsLive view opened.store.live [] (T.disk site.new).files) }
+    ensures declared { IsTrue T.tells → IfOk result (λ store. IsStoreOf store [] (T.disk site.new).files) }
     ensures any_moment { IsTrue T.tells → LeavesOnly (T.disk site.old) (T.disk site.new) (λ told files.
-        (told ≡ (T.disk site.old).told) × (KeepsNothing files ⊎ KeepsFacts view [] files)) }
+        (told ≡ (T.disk site.old).told) × (KeepsNothing files ⊎ KeepsFacts schema [] files)) }
+    ensures undamaged { IfErr result IsNoDamage }
 
-    ensures schema { IfOk result (λ opened. opened.schema ≡ schema) }
-    ensures opened { IsTrue T.tells → IfOk result (λ opened. IsOpened opened.store.live (T.disk site.new)) }
+    ensures schema { IfOk result (λ store. store.schema ≡ schema) }
+    ensures opened { IsTrue T.tells → IfOk result (λ store. IsOpened store.live (T.disk site.new)) }
     ensures told { IsTrue T.tells → (T.disk site.new).told ≡ (T.disk site.old).told }
-    ensures cause { HasCause (T.disk_faults site.old) (T.disk_faults site.new) result }
+    ensures cause { HasCauseWhere StoreStop.Disk (T.disk_faults site.old) (T.disk_faults site.new) result }
     ensures told_faults { T.told_faults site.new ≡ T.told_faults site.old }
     ensures reads { T.reads site.new ≤ T.reads site.old + 1 }
     ensures writes { T.writes site.new ≤ T.writes site.old + 5 }
 {
-    let live = first_body(&view);
-    forest_commit::declare(site, view.text.as_bytes(), &live)?;
-    Ok(Opened {
+    let text = schema.write(alloc)?;
+    let names = Dicts::new(alloc, &schema)?;
+    let live = first_body(&text);
+    forest_commit::declare(site, text.as_bytes(), &live)?;
+    Ok(Store {
         schema,
-        store: Store { schema: view, live },
+        live,
+        names,
     })
 }
 
-/// The body of the schema without facts, as generation 0.
-fn first_body(schema: &OneView) -> Body
-    requires { IsOneView schema.now }
-    ensures { result ≡ first_body schema.now }
+/// The body of the schema of this text without facts, as generation 0.
+fn first_body(text: &Text) -> Body
+    requires { length text.now ≤ 4096 }
+    ensures { (schema : schemas.Schema) → text.now ≡ canonical schema → result ≡ first_body schema }
 {
-    let text_len = schema.text.as_bytes().len();
+    let text_len = text.as_bytes().len();
     Body {
         views: 1,
         schema_len: text_len as u32,

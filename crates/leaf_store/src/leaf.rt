@@ -1,5 +1,6 @@
 //! The points of the view are read from their leaf.
 ghost use Rattle.std.specs.Prelude.{◌≡◌, ◌≤◌, ◌+◌, IsTrue, IfOk, IfErr, OnOk, List, length, true};
+ghost use Rattle.std.specs.List.{All};
 ghost use Rattle.site_core.specs.Calls.{Rests};
 ghost use Rattle.fact_model.specs.declared.fact.Fact as facts;
 ghost use Rattle.cube_point.specs.declared.point.Entry as declared;
@@ -9,11 +10,12 @@ ghost use Rattle.page_fmt.specs.Taking.{entries as entries_in};
 ghost use Rattle.page_fmt.specs.Writing.{AreEntries, IsShape};
 ghost use Rattle.forest_root.specs.Causes.{HasCauseWhere};
 ghost use Rattle.leaf_store.specs.Held.{AreAccepted, IsLive, entries_of, shape_of};
-ghost use Rattle.leaf_store.specs.Leaf.{IsLeafOf};
+ghost use Rattle.leaf_store.specs.Built.{view_of};
+ghost use Rattle.leaf_store.specs.Leaf.{HasArity, IsLeafOf};
 ghost use Rattle.leaf_store.specs.Next.{points_in};
-ghost use Rattle.leaf_store.specs.Opened.{IsNoDamage};
+ghost use Rattle.leaf_store.specs.Opened.{IsNoDamage, NamesPlace};
+ghost use Rattle.leaf_store.specs.Opening.{side_of};
 
-use crate::one_view::OneView;
 use crate::opening::slot;
 use crate::store::{Store, StoreStop};
 use cube_point::{Entry, EntryList, Shape};
@@ -37,18 +39,17 @@ enum LeafStop {
     Memory,
 }
 
-/// The shape of the view's tree.
-pub fn shape(schema: &OneView) -> Shape
-    requires { length schema.now.view ≤ 8 }
-    ensures { result ≡ shape_of schema.now }
-{
-    Shape {
-        dims: schema.view.as_slice().len() as u8,
-        measures: schema.measures,
-    }
-}
-
 impl Store {
+    /// The shape of the view's tree.
+    pub fn shape(&self) -> Shape
+        ensures { result ≡ shape_of self.now.schema }
+    {
+        Shape {
+            dims: self.view().len() as u8,
+            measures: self.measures(),
+        }
+    }
+
     /// The points of the view, in point order, read with at most one read. Nothing is changed, also after an error.
     ///
     /// `Damaged` names the front of the live side, and comes only where its first page is not the leaf of as many points as the
@@ -61,7 +62,9 @@ impl Store {
             → IsLive self.now.schema self.now.live accepted (T.disk site.old).files → IfErr result IsNoDamage }
 
         // Whatever the files hold: the points of one leaf of the view, or none.
+        ensures place { IfErr result (NamesPlace (side_of self.now.live, 0)) }
         ensures leaf { IfOk result (AreEntries (shape_of self.now.schema)) }
+        ensures arity { IfOk result (All (HasArity (length (view_of self.now.schema)))) }
         ensures count { IfOk result (λ points. length points ≡ points_in self.now.live) }
         ensures disk { IsTrue T.tells → Rests (T.disk site.old) (T.disk site.new) }
         ensures cause { HasCauseWhere StoreStop.Disk (T.disk_faults site.old) (T.disk_faults site.new) result }
@@ -81,7 +84,7 @@ impl Store {
                 offset: 0,
             });
         }
-        match entries(alloc, &page, &shape(&self.schema), count) {
+        match entries(alloc, &page, &self.shape(), count) {
             Ok(entries) => Ok(entries),
             Err(LeafStop::Bad) => Err(StoreStop::Damaged {
                 file: side,
@@ -101,6 +104,7 @@ fn entries(
 ) -> Result<EntryList, LeafStop>
     requires { IsShape shape.now }
     ensures leaf { IfOk result (AreEntries shape.now) }
+    ensures arity { IfOk result (All (HasArity shape.now.dims)) }
     ensures count { IfOk result (λ found. length found ≡ count) }
     ensures written { (entries : List declared.Entry) → IsLeaf shape.now shape.now.dims entries
         → page.now ≡ leaf_bytes shape.now.dims shape.now.measures entries → count ≡ length entries

@@ -6,16 +6,12 @@ mod committing;
 mod declaring;
 mod leaf;
 mod load;
-mod one_view;
-mod opened;
 mod opening;
 mod plan;
 mod store;
 
-pub use built::{is_built, leaf_view};
+pub use built::is_built;
 pub use declaring::declare;
 pub use load::{Loaded, Refusal};
-pub use one_view::OneView;
-pub use opened::Opened;
 pub use opening::open;
 pub use store::{Store, StoreStop};

@@ -4,10 +4,13 @@ ghost use Rattle.std.specs.List.{All};
 ghost use Rattle.site_core.specs.Moments.{LeavesOnly};
 ghost use Rattle.forest_root.specs.Causes.{HasCauseWhere};
 ghost use Rattle.fact_model.specs.declared.fact.Fact as facts;
-ghost use Rattle.leaf_store.specs.Held.{AreAccepted, IsFactOf, IsLive};
+ghost use Rattle.attr_dict.specs.Book.{HoldsNamesOf};
+ghost use Rattle.cube_schema.specs.Agreeing.{Agrees};
+ghost use Rattle.leaf_store.specs.Held.{AreAccepted, IsLive};
+ghost use Rattle.leaf_store.specs.Stored.{IsStoreOf};
 ghost use Rattle.leaf_store.specs.Opened.{IsOpened, IsNoDamage};
 ghost use Rattle.leaf_store.specs.Loading.{IsLoaded, IsRefusal, KeepsEither, store_of};
-ghost use Rattle.leaf_store.specs.Next.{IsPlan, IsReady};
+ghost use Rattle.leaf_store.specs.Next.{IsPlan, IsReady, TellsSpoilt};
 
 use crate::plan::{Plan, PlanStop};
 use crate::store::{Store, StoreStop};
@@ -20,6 +23,8 @@ use std::alloc::Global;
 pub enum Refusal {
     /// There would be more than 2^40 facts.
     Facts,
+    /// This text attribute would have more names than its `max`.
+    Names(u32),
     /// The mass of this measure would pass 2^127 - 1.
     Mass(u32),
     /// The view would have more points than one leaf has room for.
@@ -27,7 +32,7 @@ pub enum Refusal {
 }
 
 /// What became of a batch, and the store afterwards.
-#[derive(Debug, Drop)]
+#[derive(Drop)]
 pub enum Loaded {
     /// The batch was taken in, and its facts are kept.
     Committed(Store),
@@ -47,16 +52,15 @@ impl Store {
         batch: &FactList,
     ) -> Result<Loaded, StoreStop>
         requires some { 0 < length batch.now }
-        requires each { All (IsFactOf self.schema) batch.now }
+        requires agree { All (Agrees self.schema) batch.now }
         requires opened { IsTrue T.tells → IsOpened self.live (T.disk site.old) }
 
-        ensures loaded { IsTrue T.tells → (accepted : List facts.Fact) → AreAccepted self.schema accepted
-            → IsLive self.schema self.live accepted (T.disk site.old).files
+        ensures loaded { IsTrue T.tells → (accepted : List facts.Fact) → IsStoreOf self accepted (T.disk site.old).files
             → IfOk result (IsLoaded self.schema accepted (accepted ++ batch.now) (T.disk site.new).files) }
-        ensures undamaged { IsTrue T.tells → (accepted : List facts.Fact) → AreAccepted self.schema accepted
-            → IsLive self.schema self.live accepted (T.disk site.old).files → IfErr result IsNoDamage }
-        ensures any_moment { IsTrue T.tells → (accepted : List facts.Fact) → AreAccepted self.schema accepted
-            → IsLive self.schema self.live accepted (T.disk site.old).files
+        ensures undamaged { IsTrue T.tells → (accepted : List facts.Fact) → IsStoreOf self accepted (T.disk site.old).files
+            → IfErr result IsNoDamage }
+        ensures place { IfErr result (TellsSpoilt self.live) }
+        ensures any_moment { IsTrue T.tells → (accepted : List facts.Fact) → IsStoreOf self accepted (T.disk site.old).files
             → LeavesOnly (T.disk site.old) (T.disk site.new) (λ told files.
             (told ≡ (T.disk site.old).told) × KeepsEither self.schema accepted (accepted ++ batch.now) files) }
 
@@ -66,12 +70,13 @@ impl Store {
         ensures cause { HasCauseWhere StoreStop.Disk (T.disk_faults site.old) (T.disk_faults site.new) result }
         ensures told_faults { T.told_faults site.new ≡ T.told_faults site.old }
         ensures reads { T.reads site.new ≤ T.reads site.old + 2 }
-        ensures writes { T.writes site.new ≤ T.writes site.old + 5 }
+        ensures writes { T.writes site.new ≤ T.writes site.old + 6 }
         ensures unwritten { IfOk result (λ loaded. IsRefusal loaded → T.writes site.new ≡ T.writes site.old) }
     {
-        match self.plan(alloc, site, batch) {
-            Ok(plan) => self.commit_all(site, plan),
-            Err(PlanStop::Refused(refusal)) => Ok(Loaded::Refused(self, refusal)),
+        let mut store = self;
+        match store.plan(alloc, site, batch) {
+            Ok(plan) => store.commit_all(site, plan),
+            Err(PlanStop::Refused(refusal)) => Ok(Loaded::Refused(store, refusal)),
             Err(PlanStop::Stopped(stop)) => Err(stop),
         }
     }
@@ -82,11 +87,12 @@ impl Store {
         requires opened { IsTrue T.tells → IsOpened self.live (T.disk site.old) }
 
         ensures loaded { IsTrue T.tells → (accepted all : List facts.Fact) → AreAccepted self.schema accepted
-            → IsLive self.schema self.live accepted (T.disk site.old).files → IsPlan self.schema all plan
+            → IsLive self.schema self.live accepted (T.disk site.old).files → HoldsNamesOf self.names all
+            → IsPlan self.schema accepted all plan
             → IfOk result (IsLoaded self.schema accepted all (T.disk site.new).files) }
         ensures undamaged { IfErr result IsNoDamage }
         ensures any_moment { IsTrue T.tells → (accepted all : List facts.Fact) → AreAccepted self.schema accepted
-            → IsLive self.schema self.live accepted (T.disk site.old).files → IsPlan self.schema all plan
+            → IsLive self.schema self.live accepted (T.disk site.old).files → IsPlan self.schema accepted all plan
             → LeavesOnly (T.disk site.old) (T.disk site.new) (λ told files.
             (told ≡ (T.disk site.old).told) × KeepsEither self.schema accepted all files) }
 
@@ -96,7 +102,7 @@ impl Store {
         ensures cause { HasCauseWhere StoreStop.Disk (T.disk_faults site.old) (T.disk_faults site.new) result }
         ensures told_faults { T.told_faults site.new ≡ T.told_faults site.old }
         ensures reads { T.reads site.new ≤ T.reads site.old + 1 }
-        ensures writes { T.writes site.new ≤ T.writes site.old + 5 }
+        ensures writes { T.writes site.new ≤ T.writes site.old + 6 }
         ensures committed { IfOk result (λ loaded. IsRefusal loaded → ⊥) }
     {
         match self.commit(site, plan) {

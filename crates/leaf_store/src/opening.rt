@@ -1,24 +1,24 @@
 //! The files are opened: the live body is found, and what it counts on is looked at.
-ghost use Rattle.std.specs.Prelude.{◌≡◌, ◌≤◌, ◌+◌, ◌==◌, ◌&&◌, ℕ, IsTrue, IfOk, IfErr, IfSome, OnOk, List, Some, None, length, drop, take};
+ghost use Rattle.std.specs.Prelude.{◌≡◌, ◌<◌, ◌≤◌, ◌+◌, ◌^◌, ◌==◌, ◌&&◌, ◌++◌, IsTrue, IfOk, IfErr, OnOk, List, None, length, drop, take};
 ghost use Rattle.std.specs.List.{list_all};
 ghost use Rattle.site_core.specs.Calls.{Rests};
 ghost use Rattle.fact_model.specs.declared.fact.Fact as facts;
 ghost use Rattle.cube_schema.specs.Lawful.{IsSchema};
+ghost use Rattle.cube_schema.specs.Writing.{canonical};
 ghost use Rattle.cube_schema.specs.declared.schema.Schema as schemas;
-ghost use Rattle.forest_root.specs.Body.{IsBody};
+ghost use Rattle.forest_root.specs.Body.{IsBody, max_names_len};
 ghost use Rattle.forest_root.specs.Causes.{HasCauseWhere};
-ghost use Rattle.forest_root.specs.Live.{IsLiveBody, NoneRaised, IsFirstDamaged};
-ghost use Rattle.forest_root.specs.Root.{body_at};
+ghost use Rattle.forest_root.specs.Live.{IsLiveBody, NoneRaised};
 ghost use Rattle.forest_root.specs.declared.body.Body as bodies;
 ghost use Rattle.leaf_store.specs.Breaks.{BreaksAt, TellsBreak};
-ghost use Rattle.leaf_store.specs.Built.{is_built, one_view};
-ghost use Rattle.leaf_store.specs.Held.{AreAccepted, KeepsFacts};
-ghost use Rattle.leaf_store.specs.Opening.{Place, first_broken, rules_with, schema_in, broken_rule, slot_of, pages_of, is_zero};
-ghost use Rattle.leaf_store.specs.Opened.{IsWarehouse, IsNoDamage, IsOf, JudgesOpened, Judges, MayBeOpened, Names};
+ghost use Rattle.leaf_store.specs.Built.{is_built};
+ghost use Rattle.leaf_store.specs.Held.{AreAccepted, KeepsFacts, names_text};
+ghost use Rattle.leaf_store.specs.Opening.{Place, is_of_view, is_zero, names_pages, pages_of, slot_of};
+ghost use Rattle.leaf_store.specs.Opened.{IsWarehouse, IsNoDamage, Judges, JudgesRest, MayBeOpened, NamesPlace};
 
-use crate::built::{declared_by, leaf_view};
-use crate::opened::Opened;
+use crate::built::declared_by;
 use crate::store::{Store, StoreStop};
+use attr_dict::{Dicts, NamesStop};
 use cube_schema::Schema;
 use forest_root::{Body, RootStop, live};
 use site_core::Site;
@@ -48,16 +48,15 @@ pub fn slot(body: &Body) -> u32
 /// schema is declared. Nothing is changed, also after an error.
 ///
 /// `Damaged` names the first rule that is broken: a raised slot whose body does not decode; a names file that is too short, or
-/// does not begin with the canonical text of a schema that one leaf can serve; a body of other views or measures, or with
-/// names; a side that is too short.
-pub fn open<T: Site>(alloc: Global, site: &mut T) -> Result<Option<Opened>, StoreStop>
+/// does not begin with the canonical text of a schema that one leaf can serve; a body of other views or measures; a faulty entry
+/// of the names file; a side that is too short.
+pub fn open<T: Site>(alloc: Global, site: &mut T) -> Result<Option<Store>, StoreStop>
     ensures warehouse { IsTrue T.tells → (schema : schemas.Schema) (accepted : List facts.Fact) → IsSchema schema
-        → IsTrue (is_built schema) → AreAccepted (one_view schema) accepted
-        → KeepsFacts (one_view schema) accepted (T.disk site.old).files
+        → IsTrue (is_built schema) → AreAccepted schema accepted → KeepsFacts schema accepted (T.disk site.old).files
         → IfOk result (IsWarehouse schema accepted (T.disk site.new).files) }
     ensures undamaged { IsTrue T.tells → (schema : schemas.Schema) (accepted : List facts.Fact) → IsSchema schema
-        → IsTrue (is_built schema) → AreAccepted (one_view schema) accepted
-        → KeepsFacts (one_view schema) accepted (T.disk site.old).files → IfErr result IsNoDamage }
+        → IsTrue (is_built schema) → AreAccepted schema accepted → KeepsFacts schema accepted (T.disk site.old).files
+        → IfErr result IsNoDamage }
     ensures none { IsTrue T.tells → NoneRaised ((T.disk site.old).files 0)
         → IfOk result (λ found. found ≡ None) × IfErr result IsNoDamage }
 
@@ -65,14 +64,20 @@ pub fn open<T: Site>(alloc: Global, site: &mut T) -> Result<Option<Opened>, Stor
     ensures judged { IsTrue T.tells → (body : bodies.Body) → IsLiveBody body ((T.disk site.old).files 0)
         → Judges body (T.disk site.old).files result }
     ensures broken { IsTrue T.tells → (place : Place) → BreaksAt (T.disk site.old).files place
-        → IfErr result (Names (Some place)) × OnOk result ⊥ }
+        → IfErr result (NamesPlace place) × OnOk result ⊥ }
     ensures damaged { IsTrue T.tells → IfErr result (TellsBreak (T.disk site.old).files) }
 
     ensures opened { IsTrue T.tells → IfOk result (λ found. MayBeOpened found (T.disk site.new)) }
     ensures disk { IsTrue T.tells → Rests (T.disk site.old) (T.disk site.new) }
     ensures cause { HasCauseWhere StoreStop.Disk (T.disk_faults site.old) (T.disk_faults site.new) result }
     ensures told_faults { T.told_faults site.new ≡ T.told_faults site.old }
-    ensures reads { T.reads site.new ≤ T.reads site.old + 2 }
+
+    // One read of the root file, and one for each page of the names.
+    ensures reads { IsTrue T.tells → (schema : schemas.Schema) (accepted : List facts.Fact)
+        → KeepsFacts schema accepted (T.disk site.old).files
+        → T.reads site.new ≤ T.reads site.old + (1 + names_pages (length (names_text schema accepted))) }
+    ensures reads_none { IsTrue T.tells → NoneRaised ((T.disk site.old).files 0) → T.reads site.new ≤ T.reads site.old + 1 }
+    ensures few_reads { T.reads site.new ≤ T.reads site.old + (1 + 2 ^ 36) }
     ensures writes { T.writes site.new ≡ T.writes site.old }
 {
     site.sync()?;
@@ -85,119 +90,129 @@ pub fn open<T: Site>(alloc: Global, site: &mut T) -> Result<Option<Opened>, Stor
 }
 
 /// Opens files that have this live body.
-fn open_live<T: Site>(alloc: Global, site: &mut T, body: Body) -> Result<Option<Opened>, StoreStop>
+fn open_live<T: Site>(alloc: Global, site: &mut T, body: Body) -> Result<Option<Store>, StoreStop>
     requires body { IsBody (slot_of body) body }
 
     ensures judged { IsTrue T.tells → Judges body (T.disk site.old).files result }
     ensures disk { IsTrue T.tells → Rests (T.disk site.old) (T.disk site.new) }
     ensures cause { HasCauseWhere StoreStop.Disk (T.disk_faults site.old) (T.disk_faults site.new) result }
     ensures told_faults { T.told_faults site.new ≡ T.told_faults site.old }
-    ensures reads { T.reads site.new ≤ T.reads site.old + 1 }
+    ensures reads { T.reads site.new ≤ T.reads site.old + names_pages body.names_len }
     ensures writes { T.writes site.new ≡ T.writes site.old }
 {
-    let names = site.length(NAMES)?;
-    if names < body.names_len {
-        return Err(damaged(NAMES, names));
+    let length = site.length(NAMES)?;
+    if length < body.names_len {
+        return Err(damaged(NAMES, length));
     }
-    match read_schema(alloc, site, &body)? {
-        Some(schema) => open_declared(alloc, site, schema, body),
+    let bytes = read_front(alloc, site, body.names_len)?;
+    let (text, entries) = bytes.as_slice().split_at(body.schema_len as usize);
+    match declared_by(alloc, text)? {
+        Some(schema) => open_declared(alloc, site, schema, body, entries),
         None => Err(damaged(NAMES, 0)),
     }
 }
 
-/// Opens files that have this live body and this schema.
+/// Opens files that have this live body and this schema, with these entries behind its text.
 fn open_declared<T: Site>(
     alloc: Global,
     site: &mut T,
     schema: Schema,
     body: Body,
-) -> Result<Option<Opened>, StoreStop>
+    entries: &[u8],
+) -> Result<Option<Store>, StoreStop>
     requires body { IsBody (slot_of body) body }
     requires lawful { IsSchema schema }
     requires built { IsTrue (is_built schema) }
-    requires text { body.schema_len ≡ length (one_view schema).text }
+    requires text { body.schema_len ≡ length (canonical schema) }
 
-    ensures judged { IsTrue T.tells → JudgesOpened schema body (first_broken (rules_with body (T.disk site.old).files schema)) result }
+    ensures judged { IsTrue T.tells → JudgesRest body (T.disk site.old).files schema entries.now result }
     ensures disk { IsTrue T.tells → Rests (T.disk site.old) (T.disk site.new) }
     ensures cause { HasCauseWhere StoreStop.Disk (T.disk_faults site.old) (T.disk_faults site.new) result }
     ensures told_faults { T.told_faults site.new ≡ T.told_faults site.old }
     ensures reads { T.reads site.new ≡ T.reads site.old }
     ensures writes { T.writes site.new ≡ T.writes site.old }
 {
-    check(site, &schema, &body)?;
-    let view = leaf_view(alloc, &schema)?;
-    let store = Store {
-        schema: view,
-        live: body,
-    };
-    Ok(Some(Opened { schema, store }))
-}
-
-/// Looks at the rules of files with this live body and this schema, and names the first that is broken.
-fn check<T: Site>(site: &mut T, schema: &Schema, body: &Body) -> Result<(), StoreStop>
-    requires schema { IsSchema schema.now }
-    requires body { IsBody (slot_of body.now) body.now }
-
-    ensures kept { IsTrue T.tells → OnOk result (first_broken (rules_with body.now (T.disk site.old).files schema.now) ≡ None) }
-    ensures names { OnOk result (body.now.names_len ≡ body.now.schema_len) }
-    ensures broken { IsTrue T.tells
-        → IfErr result (Names (first_broken (rules_with body.now (T.disk site.old).files schema.now))) }
-    ensures disk { IsTrue T.tells → Rests (T.disk site.old) (T.disk site.new) }
-    ensures cause { HasCauseWhere StoreStop.Disk (T.disk_faults site.old) (T.disk_faults site.new) result }
-    ensures told_faults { T.told_faults site.new ≡ T.told_faults site.old }
-    ensures reads { T.reads site.new ≡ T.reads site.old }
-    ensures writes { T.writes site.new ≡ T.writes site.old }
-{
-    if !is_of_view(schema.measures.as_slice().len(), body) {
-        return Err(damaged(ROOT, BODY_SIZE * slot(body) as u64));
+    if !is_of_view(schema.measures.as_slice().len(), &body) {
+        return Err(damaged(ROOT, BODY_SIZE * slot(&body) as u64));
     }
-    if body.names_len != body.schema_len as u64 {
-        return Err(damaged(NAMES, body.schema_len as u64));
+    let mut names = Dicts::new(alloc, &schema)?;
+    match names.read_names(entries) {
+        Ok(()) => {}
+        Err(NamesStop::Memory) => return Err(StoreStop::Memory),
+        Err(NamesStop::Damaged(at)) => return Err(damaged(NAMES, body.schema_len as u64 + at)),
     }
-    let side = SIDE + slot(body);
+    let side = SIDE + slot(&body);
     let end = site.length(side)?;
-    if end < PAGE as u64 * pages(body) {
+    if end < PAGE as u64 * pages(&body) {
         return Err(damaged(side, end));
     }
-    Ok(())
+    Ok(Some(Store {
+        schema,
+        live: body,
+        names,
+    }))
+}
+
+/// The first bytes of the names file, so many, a page at a time.
+fn read_front<T: Site>(alloc: Global, site: &mut T, count: u64) -> Result<Vec<u8>, StoreStop>
+    requires { count ≤ max_names_len }
+
+    ensures length { IfOk result (λ bytes. length bytes.items ≡ count) }
+    ensures bytes { IsTrue T.tells → count ≤ length ((T.disk site.old).files 1)
+        → IfOk result (λ bytes. bytes.items ≡ take count ((T.disk site.old).files 1)) }
+    ensures undamaged { IsTrue T.tells → count ≤ length ((T.disk site.old).files 1) → IfErr result IsNoDamage }
+    ensures disk { IsTrue T.tells → Rests (T.disk site.old) (T.disk site.new) }
+    ensures cause { HasCauseWhere StoreStop.Disk (T.disk_faults site.old) (T.disk_faults site.new) result }
+    ensures told_faults { T.told_faults site.new ≡ T.told_faults site.old }
+    ensures reads { T.reads site.new ≤ T.reads site.old + names_pages count }
+    ensures writes { T.writes site.new ≡ T.writes site.old }
+{
+    let mut bytes = Vec::new(alloc);
+    for page in 0..(count + PAGE as u64 - 1) / PAGE as u64 {
+        let at = PAGE as u64 * page;
+        let due = (count - at).min(PAGE as u64) as usize;
+        read_piece(site, at, due, &mut bytes)?;
+    }
+    Ok(bytes)
+}
+
+/// Reads so many bytes of the names file from this place on, and puts them behind `bytes`.
+fn read_piece<T: Site>(
+    site: &mut T,
+    at: u64,
+    due: usize,
+    bytes: &mut Vec<u8>,
+) -> Result<(), StoreStop>
+    requires some { 0 < due }
+    requires few { due ≤ 4096 }
+    requires low { at ≤ max_names_len }
+
+    ensures length { OnOk result (length bytes.new.items ≡ length bytes.old.items + due) }
+    ensures bytes { IsTrue T.tells
+        → OnOk result (bytes.new.items ≡ bytes.old.items ++ take due (drop at ((T.disk site.old).files 1))) }
+    ensures undamaged { IsTrue T.tells → at + due ≤ length ((T.disk site.old).files 1) → IfErr result IsNoDamage }
+    ensures disk { IsTrue T.tells → Rests (T.disk site.old) (T.disk site.new) }
+    ensures cause { HasCauseWhere StoreStop.Disk (T.disk_faults site.old) (T.disk_faults site.new) result }
+    ensures told_faults { T.told_faults site.new ≡ T.told_faults site.old }
+    ensures reads { T.reads site.new ≤ T.reads site.old + 1 }
+    ensures writes { T.writes site.new ≡ T.writes site.old }
+{
+    let mut page = [0; PAGE];
+    let found = site.read(NAMES, at, &mut page[..due])?;
+    // A file that has the bytes gives them all.
+    if found < due {
+        return Err(damaged(NAMES, at + found as u64));
+    }
+    match bytes.extend_from_slice(&page[..due]) {
+        Ok(()) => Ok(()),
+        Err(_) => Err(StoreStop::Memory),
+    }
 }
 
 fn damaged(file: u32, offset: u64) -> StoreStop
     ensures { result ≡ StoreStop.Damaged file offset }
 {
     StoreStop::Damaged { file, offset }
-}
-
-/// The schema with whose canonical text the names file begins, if one leaf can serve it. The file has all that the body counts.
-fn read_schema<T: Site>(
-    alloc: Global,
-    site: &mut T,
-    body: &Body,
-) -> Result<Option<Schema>, StoreStop>
-    requires { IsBody (slot_of body.now) body.now }
-
-    ensures found { IsTrue T.tells → body.now.names_len ≤ length ((T.disk site.old).files 1)
-        → IfOk result (λ found. found ≡ schema_in body.now (T.disk site.old).files) }
-    ensures undamaged { IfErr result IsNoDamage }
-    ensures lawful { IfOk result (λ found. IfSome found IsSchema) }
-    ensures built { IfOk result (λ found. IfSome found (λ schema. IsTrue (is_built schema))) }
-    ensures text { IfOk result (λ found. IfSome found (λ schema. body.now.schema_len ≡ length (one_view schema).text)) }
-    ensures disk { IsTrue T.tells → Rests (T.disk site.old) (T.disk site.new) }
-    ensures cause { HasCauseWhere StoreStop.Disk (T.disk_faults site.old) (T.disk_faults site.new) result }
-    ensures told_faults { T.told_faults site.new ≡ T.told_faults site.old }
-    ensures reads { T.reads site.new ≤ T.reads site.old + 1 }
-    ensures writes { T.writes site.new ≡ T.writes site.old }
-{
-    // No schema that one leaf can serve has a text of more bytes.
-    if body.schema_len as usize > PAGE {
-        return Ok(None);
-    }
-    let mut front = [0; PAGE];
-    let count = site.read(NAMES, 0, &mut front)?;
-    if count < body.schema_len as usize {
-        return Ok(None);
-    }
-    Ok(declared_by(alloc, &front[..body.schema_len as usize])?)
 }
 
 /// Whether the body is of one view, without masses past so many measures.

@@ -1,10 +1,15 @@
 //! What is known of the files of a warehouse with one view.
-ghost use Rattle.std.specs.Prelude.{◌≡◌, length};
+ghost use Rattle.std.specs.Prelude.{◌≡◌, IsTrue, length};
+ghost use Rattle.attr_dict.specs.Book.{no_names};
+ghost use Rattle.cube_schema.specs.Lawful.{IsSchema};
+ghost use Rattle.cube_schema.specs.Writing.{canonical};
 ghost use Rattle.forest_root.specs.Body.{IsBody};
-ghost use Rattle.leaf_store.specs.Held.{IsOneView};
+ghost use Rattle.cube_schema.specs.Kinds.{measure_count};
+ghost use Rattle.leaf_store.specs.Built.{is_built, view_of};
 ghost use Rattle.leaf_store.specs.Opening.{slot_of};
 
-use crate::one_view::OneView;
+use attr_dict::Dicts;
+use cube_schema::Schema;
 use fact_model::Memory;
 use forest_root::Body;
 use site_core::Fault;
@@ -45,14 +50,37 @@ impl From<Memory> for StoreStop {
     }
 }
 
-/// The view of a warehouse, and the live body of its files.
-#[derive(Debug, Drop)]
+/// A warehouse that is opened: its schema, its live body, and the names of its facts.
+#[derive(Drop)]
 pub struct Store {
-    /// What one leaf needs of the schema.
-    pub schema: OneView,
+    /// The schema, with one view.
+    pub schema: Schema,
     /// The live body.
     pub live: Body,
-    ghost one_view: { IsOneView schema },
+    /// The names of the text attributes.
+    pub names: Dicts,
+    ghost lawful: { IsSchema schema },
+    ghost built: { IsTrue (is_built schema) },
     ghost within: { IsBody (slot_of live) live },
-    ghost text: { live.names_len ≡ length schema.text },
+    ghost text: { live.schema_len ≡ length (canonical schema) },
+    ghost kinds: { names.kinds ≡ (no_names schema).kinds },
+}
+
+impl Store {
+    /// The attributes of the view.
+    pub fn view(&self) -> &[u32]
+        ensures { result.now ≡ view_of self.now.schema }
+    {
+        match self.schema.views.get(0) {
+            Some(view) => view.as_slice(),
+            None => &[],
+        }
+    }
+
+    /// How many measures a fact has, 1 to 4.
+    pub fn measures(&self) -> u8
+        ensures { result ≡ measure_count self.now.schema }
+    {
+        self.schema.measures.as_slice().len() as u8
+    }
 }

@@ -6,10 +6,11 @@ use Rattle.std.specs.declared.cmp.Ordering.TheVariants.{Less, Equal, Greater}
 use Rattle.std.specs.List.{AllByRecursion, IsDistinct}
 use Rattle.std.specs.Ordering.{eq_by_cmp, is_eq}
 use Rattle.fact_model.specs.Distinct.{by_order, placed, distinct}
+use Rattle.fact_model.specs.Groups.{having, groups}
 use Rattle.view_points.proofs.Sorts.{onto, squeezed}
 
 module _ {K : Type 0} (R : K → K → Ordering) where
-  -- ---- how many
+  -- ---- which
 
   every-placed : (P : K → Type 0) (k : K) (ks : List K) → P k → AllByRecursion P ks → AllByRecursion P (placed R k ks)
   every-placed P k [] p all = (p, tt)
@@ -19,6 +20,21 @@ module _ {K : Type 0} (R : K → K → Ordering) where
   every-distinct : (P : K → Type 0) (ks : List K) → AllByRecursion P ks → AllByRecursion P (distinct R ks)
   every-distinct P [] all = tt
   every-distinct P (k ∷ ks) all = every-placed P k (distinct R ks) all.0 (every-distinct P ks all.1)
+
+  -- what holds of each item's key holds of the key of each group
+  pub every-group : {X C : Type 0} (P : K → Type 0) (key : X → K) (cell : List X → C) (xs : List X) → AllByRecursion (λ x. P (key x)) xs
+      → AllByRecursion (λ (e : K × C). P e.0) (groups R key cell xs)
+  every-group {X} {C} P key cell xs all = with_cells (distinct R (map key xs)) (every-distinct P (map key xs) (of_keys xs all))
+    where
+      of_keys : (xs : List X) → AllByRecursion (λ x. P (key x)) xs → AllByRecursion P (map key xs)
+      of_keys [] all = tt
+      of_keys (x ∷ xs) all = (all.0, of_keys xs all.1)
+
+      with_cells : (ks : List K) → AllByRecursion P ks → AllByRecursion (λ (e : K × C). P e.0) (map (λ k. (k, cell (having R key k xs))) ks)
+      with_cells [] all = tt
+      with_cells (k ∷ ks) all = (all.0, with_cells ks all.1)
+
+  -- ---- how many
 
   length-placed : (k : K) (ks : List K) → AllByRecursion (λ j. eq_by_cmp R k j ≡ false) ks → length (placed R k ks) ≡ suc (length ks)
   length-placed k [] other = refl

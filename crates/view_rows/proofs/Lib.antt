@@ -2,3 +2,4 @@ pub mod DistinctKeys
 pub mod PlaceKeys
 pub mod PointSums
 pub mod SortedRows
+pub mod ViewPairs

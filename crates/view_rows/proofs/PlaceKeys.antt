@@ -1,102 +1,108 @@
 -- The key of a place: it is that of the place's facts, and tells the place.
-use Rattle.std.proofs.Common.{◌≡◌, ℕ, suc, ◌-◌, ◌≤◌, false, List, [], ◌∷◌, ◌++◌, map, length, take, replicate, refl, sym, ◌∙◌, ap, arith, true≢false, inl, inr}
-use Rattle.std.proofs.Math.Seq.{take-append_seam}
-use Rattle.std.proofs.lemmas.Bool.{cases_Bool}
-use Rattle.std.proofs.lemmas.List.{length-map}
+use Rattle.std.proofs.Common.{◌≡◌, ℕ, suc, ◌-◌, ◌<◌, Bool, true, false, if◌then◌else◌, List, [], ◌∷◌, ◌++◌, map, length, get_or, replicate, Option, Some, None, unwrap_or, is_some, refl, sym, ◌∙◌, ap, arith, true≢false, inl, inr}
+use Rattle.std.proofs.lemmas.Bool.{cases_Bool, le-leb}
 use Rattle.std.specs.Cmp.{Equal-is, tied_itself}
-use Rattle.std.specs.List.{AllByRecursion, IsDistinct}
+use Rattle.std.specs.List.{AllByRecursion, IsDistinct, zip}
 use Rattle.std.specs.Ordering.{eq_by_cmp}
 use Rattle.std.specs.declared.cmp.Ordering.TheVariants.{Less}
 use Rattle.fact_model.specs.declared.fact.Value.{Value}
 use Rattle.fact_model.specs.declared.fact.Value.TheVariants.{Word, Number}
 use Rattle.fact_model.specs.declared.fact.Fact.{Fact}
 use Rattle.fact_model.specs.Fact.{value_at, key_of}
-use Rattle.fact_model.specs.Value.{key_cmp}
+use Rattle.fact_model.specs.Value.{Key, key_cmp}
 use Rattle.fact_model.proofs.ValueOrder.{key_cmp-IsAntisymmetric}
+use Rattle.cube_schema.specs.declared.Kind.{Kind}
+use Rattle.cube_schema.specs.declared.Kind.TheVariants as kind
+use Rattle.cube_schema.specs.Agreeing.{IsOfKind}
 use Rattle.cube_point.specs.Points.{point_cmp}
 use Rattle.cube_point.proofs.PointOrder.{point-total}
-use Rattle.view_points.specs.Agree.{is_text}
-use Rattle.view_points.specs.Arity.{HasArity}
+use Rattle.view_points.specs.Agree.{HasCode, IsCoded, number_limit}
 use Rattle.view_points.specs.Ascends.{Below, Ascends}
-use Rattle.view_points.specs.Codes.{Text}
-use Rattle.view_points.specs.Points.{Names, View, PlacedCell, coord, place_of}
-use Rattle.view_points.proofs.Members.{every-from_All}
-use Rattle.view_rows.specs.Sums.{HasNumbersIn, key_in}
+use Rattle.view_points.specs.Codes.{Text, code_in}
+use Rattle.view_points.specs.Points.{Names, View, PlacedCell, coord, padded, place_of}
+use Rattle.view_points.proofs.Codes.{value-of-code}
+use Rattle.attr_dict.specs.Admitting.{Agrees}
+use Rattle.attr_dict.specs.Book.{value_for}
 
--- ---- the key of a fact's place
+-- ---- a value comes back from its code
 
--- the number that the coordinate of a number stands for
-number-back : (names : List Text) (v : Value) → is_text v ≡ false → Number (coord names v - 1) ≡ v
-number-back names (Word t) h = absurd (true≢false h)
-number-back names (Number n) h = ap Number (minus_one n)
+code-is : (ts : List Text) (v : Value) → HasCode ts v → code_in ts v ≡ Some (coord ts v)
+code-is ts v has = by (code_in ts v) has
   where
-    minus_one : (n : ℕ) → suc n - 1 ≡ n
-    minus_one n = omega arith
+    by : (o : Option ℕ) → is_some o ≡ true → o ≡ Some (unwrap_or o 0)
+    by None h = absurd (true≢false (sym h))
+    by (Some c) h = refl
 
-module _ (names : Names) (x : Fact) where
-  abbrev code_at : ℕ → ℕ
-  code_at a = coord (names a) (value_at x a)
+value-back : (k : Kind) (ts : List Text) (v : Value) → IsOfKind k v → HasCode ts v → unwrap_or (value_for k ts (coord ts v)) (Number 0) ≡ v
+value-back (kind.Word max) ts (Word t) of has =
+    ap (λ o. unwrap_or o (Number 0)) (value-of-code ts (Word t) (coord ts (Word t)) (code-is ts (Word t) has))
+value-back (kind.Word max) ts (Number n) of has = absurd of
+value-back kind.Number ts (Word t) of has = absurd of
+value-back kind.Number ts (Number n) of has =
+    ap (λ (b : Bool). unwrap_or (if b then Some (Number n) else None) (Number 0)) (le-leb (suc n) (suc number_limit) (omega (arith, of)))
 
-  numbers-back : (view : View) → AllByRecursion (λ a. is_text (value_at x a) ≡ false) view
-      → map (λ c. Number (c - 1)) (map code_at view) ≡ key_of view x
-  numbers-back [] h = refl
-  numbers-back (a ∷ view) h = λ i. number-back (names a) (value_at x a) h.0 i ∷ numbers-back view h.1 i
+module _ (kinds : List Kind) (names : Names) where
+  -- ---- the key of a fact's place
 
-  -- the key of a fact's place is that of the fact
-  pub fact-key : (view : View) → HasNumbersIn view x → key_in (length view) (place_of names view x) ≡ key_of view x
-  fact-key view h =
-      let codes : List ℕ = map code_at view in
-      ap (λ n. map (λ c. Number (c - 1)) (take n (codes ++ replicate (8 - length codes) 0))) (sym (length-map view code_at))
-      ∙ (ap (map (λ c. Number (c - 1))) (take-append_seam codes (replicate (8 - length codes) 0))
-      ∙ numbers-back view (every-from_All (λ a. is_text (value_at x a) ≡ false) view h.numbers))
+  abbrev value_from : ℕ → ℕ → Value
+  value_from a code = unwrap_or (value_for (get_or kinds a kind.Number) (names a) code) (Number 0)
 
--- ---- the keys of places of one arity
+  -- the values that the coordinates of a place stand for, by these kinds and names
+  abbrev pub place_key : View → List ℕ → Key
+  place_key view place = map (λ (p : ℕ × ℕ). value_from p.0 p.1) (zip view place)
 
--- the coordinate that stands for a value
-abbrev code_of : Value → ℕ
-code_of (Word t) = 0
-code_of (Number n) = suc n
+  module _ (x : Fact) (agrees : Agrees kinds x) (coded : IsCoded names x) where
+    abbrev code_at : ℕ → ℕ
+    code_at a = coord (names a) (value_at x a)
 
-codes-back : (codes : List ℕ) → AllByRecursion (λ c. 1 ≤ c) codes → map code_of (map (λ c. Number (c - 1)) codes) ≡ codes
-codes-back [] h = refl
-codes-back (c ∷ codes) h = λ i. plus_one c h.0 i ∷ codes-back codes h.1 i
-  where
-    plus_one : (c : ℕ) → 1 ≤ c → suc (c - 1) ≡ c
-    plus_one c h = omega arith
+    values-back : (view : View) (zeros : List ℕ) → AllByRecursion (λ a. a < length kinds) view
+        → place_key view (map code_at view ++ zeros) ≡ key_of view x
+    values-back [] zeros within = refl
+    values-back (a ∷ view) zeros within =
+        let first = value-back (get_or kinds a kind.Number) (names a) (value_at x a) (agrees.each a within.0) (coded a) in
+        λ i. first i ∷ values-back view zeros within.1 i
 
-module _ (arity : ℕ) where
-  key-codes : (place : List ℕ) (has : HasArity arity place) → map code_of (key_in arity place) ≡ has.0
-  key-codes place has =
-      let alone : take (length has.0) (has.0 ++ replicate (8 - length has.0) 0) ≡ has.0 = take-append_seam has.0 (replicate (8 - length has.0) 0) in
-      (λ i. map code_of (key_in (sym has.1 i) (has.3 i)))
-      ∙ (ap (λ codes. map code_of (map (λ c. Number (c - 1)) codes)) alone ∙ codes-back has.0 has.2)
+    -- the key of a fact's place is that of the fact
+    pub fact-key : (view : View) → AllByRecursion (λ a. a < length kinds) view → place_key view (place_of names view x) ≡ key_of view x
+    fact-key view within = values-back view (replicate (8 - length (map code_at view)) 0) within
 
-  -- places with one key are one place
-  same-place : (p q : List ℕ) → HasArity arity p → HasArity arity q → key_in arity p ≡ key_in arity q → p ≡ q
-  same-place p q has other same =
-      has.3
-      ∙ (ap (λ codes. codes ++ replicate (8 - length codes) 0) (sym (key-codes p has) ∙ (ap (map code_of) same ∙ key-codes q other))
-      ∙ sym other.3)
+  -- ---- the place of a key
 
-  other-key : (p q : List ℕ) → HasArity arity p → HasArity arity q → point_cmp p q ≡ Less
-      → eq_by_cmp key_cmp (key_in arity p) (key_in arity q) ≡ false
-  other-key p q has other below = elim (cases_Bool (eq_by_cmp key_cmp (key_in arity p) (key_in arity q))) [
+  -- the coordinates of the values
+  abbrev pub key_place : View → Key → List ℕ
+  key_place view key = padded (map (λ (p : ℕ × Value). coord (names p.0) p.1) (zip view key))
+
+  codes-again : (x : Fact) (view : View)
+      → map (λ (p : ℕ × Value). coord (names p.0) p.1) (zip view (key_of view x)) ≡ map (λ a. coord (names a) (value_at x a)) view
+  codes-again x [] = refl
+  codes-again x (a ∷ view) = ap (λ codes. coord (names a) (value_at x a) ∷ codes) (codes-again x view)
+
+  -- the place of a fact comes back from its key
+  pub place-back : (x : Fact) → Agrees kinds x → IsCoded names x → (view : View) → AllByRecursion (λ a. a < length kinds) view
+      → key_place view (place_key view (place_of names view x)) ≡ place_of names view x
+  place-back x agrees coded view within = ap (key_place view) (fact-key x agrees coded view within) ∙ ap padded (codes-again x view)
+
+-- ---- the keys of places that come back from them
+
+module _ (key : List ℕ → Key) (back : Key → List ℕ) where
+  other-key : (p q : List ℕ) → back (key p) ≡ p → back (key q) ≡ q → point_cmp p q ≡ Less → eq_by_cmp key_cmp (key p) (key q) ≡ false
+  other-key p q first second below = elim (cases_Bool (eq_by_cmp key_cmp (key p) (key q))) [
     | inl t ↦
-        let equal = (Equal-is (key_cmp (key_in arity p) (key_in arity q))).0 t in
-        let same : p ≡ q = same-place p q has other (key_cmp-IsAntisymmetric (key_in arity p) (key_in arity q) equal) in
+        let equal = (Equal-is (key_cmp (key p) (key q))).0 t in
+        let same : p ≡ q = sym first ∙ (ap back (key_cmp-IsAntisymmetric (key p) (key q) equal) ∙ second) in
         cc (tied_itself point-total p, same, below)
     | inr f ↦ f
   ]
 
-  key-apart : (p : List ℕ) (es : List PlacedCell) → HasArity arity p → Below point_cmp p es
-      → AllByRecursion (λ (e : PlacedCell). HasArity arity e.0) es
-      → AllByRecursion (λ k. eq_by_cmp key_cmp (key_in arity p) k ≡ false) (map (λ (e : PlacedCell). key_in arity e.0) es)
-  key-apart p [] has below all = tt
-  key-apart p (e ∷ es) has below all = (other-key p e.0 has all.0 below.0, key-apart p es has below.1 all.1)
+  key-apart : (p : List ℕ) (es : List PlacedCell) → back (key p) ≡ p → Below point_cmp p es
+      → AllByRecursion (λ (e : PlacedCell). back (key e.0) ≡ e.0) es
+      → AllByRecursion (λ k. eq_by_cmp key_cmp (key p) k ≡ false) (map (λ (e : PlacedCell). key e.0) es)
+  key-apart p [] here below all = tt
+  key-apart p (e ∷ es) here below all = (other-key p e.0 here all.0 below.0, key-apart p es here below.1 all.1)
 
   -- the keys of places that ascend are distinct
-  pub keys-distinct : (es : List PlacedCell) → Ascends point_cmp es → AllByRecursion (λ (e : PlacedCell). HasArity arity e.0) es
-      → IsDistinct (eq_by_cmp key_cmp) (map (λ (e : PlacedCell). key_in arity e.0) es)
+  pub keys-distinct : (es : List PlacedCell) → Ascends point_cmp es → AllByRecursion (λ (e : PlacedCell). back (key e.0) ≡ e.0) es
+      → IsDistinct (eq_by_cmp key_cmp) (map (λ (e : PlacedCell). key e.0) es)
   unfolding IsDistinct
   keys-distinct [] up all = tt
   keys-distinct (e ∷ es) up all = (key-apart e.0 es all.0 up.0 all.1, keys-distinct es up.1 all.1)

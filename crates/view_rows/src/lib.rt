@@ -1,4 +1,4 @@
-//! The rows of a slice, from the points of a view of number attributes.
+//! The rows of a slice by all attributes of a view, from the points of the view.
 #![tactic(auto)]
 
 mod sums;

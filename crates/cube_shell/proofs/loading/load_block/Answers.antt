@@ -5,4 +5,4 @@ use Rattle.cube_shell.proofs.loading.load_block.Goals as goal
 
 pub returns-clause-any_moment : goal.returns-clause-any_moment
 returns-clause-any_moment g c = λ t warehouse is.
-    quiet (Idle c.args.opened) (g.T.Site.disk c.args.site.now) (Some warehouse) _ (warehouse, refl, is) (λ told files. g.met.T.Site.only_now c.args.site.now told files t)
+    quiet (Idle c.args.store) (g.T.Site.disk c.args.site.now) (Some warehouse) _ (warehouse, refl, is) (λ told files. g.met.T.Site.only_now c.args.site.now told files t)

@@ -1,13 +1,11 @@
 use Rattle.std.proofs.Common.{◌≡◌, [], length, Some, refl, sym, ap, arith}
 use Rattle.std.proofs.lemmas.Bool.Decides.{nat_tests}
 use Rattle.reply_text.specs.Replies.{committed_text}
-use Rattle.cube_schema.specs.declared.schema.Schema.{Schema}
 use Rattle.cube_shell.specs.declared.state.State.TheVariants.{Idle}
-use Rattle.cube_shell.specs.Refusals.{refusal_text}
 use Rattle.cube_shell.proofs.Acts.{nothing_added}
 use Rattle.cube_shell.proofs.Answering.{answers, answers_as, quiet}
 use Rattle.cube_shell.proofs.Limits.{none_accepted}
-use Rattle.cube_shell.proofs.Takings.{batch_of_view, measures, load_moments, committed_belongs, committed_facts, committed_answer, refused_belongs, refused_answer}
+use Rattle.cube_shell.proofs.Takings.{load_moments, committed_belongs, committed_facts, committed_answer, refused_belongs, refused_answer}
 use Rattle.cube_shell.proofs.loading.take_in.Goals as goal
 
 pub returns-then-is_empty-clause-answer : goal.returns-then-is_empty-clause-answer
@@ -16,17 +14,14 @@ returns-then-is_empty-clause-answer g c = λ t warehouse is.
     let slice = c.as_slice.ensures in
     let zero : length c.args.batch.now ≡ 0 = grind (arith, nat_tests, ap length slice) in
     let none : c.args.batch.now ≡ [] = nothing_added c.args.batch.now zero in
-    let few = measures c.args.opened disk disk warehouse c.args.batch.now is c.requires.agree in
-    answers_as c.acknowledge.result disk (Some warehouse, committed_text (length warehouse.facts)) _ (sym (none_accepted warehouse c.args.batch.now few none is.lawful.accepted))
-    (answers c.acknowledge.result (Idle c.args.opened) (committed_text c.args.opened.store.live.facts) disk (Some warehouse, committed_text (length warehouse.facts))
-    c.acknowledge.ensures.state c.acknowledge.ensures.reply (warehouse, refl, is) (ap committed_text is.live.at.body_is.facts))
+    answers_as c.acknowledge.result disk (Some warehouse, committed_text (length warehouse.facts)) _
+    (sym (none_accepted warehouse c.args.batch.now is.lawful.schema none is.lawful.accepted))
+    (answers c.acknowledge.result (Idle c.args.store) (committed_text c.args.store.live.facts) disk (Some warehouse, committed_text (length warehouse.facts))
+    c.acknowledge.ensures.state c.acknowledge.ensures.reply (warehouse, refl, is) (ap committed_text is.stored.live.at.body_is.facts))
 
 pub returns-then-is_empty-clause-any_moment : goal.returns-then-is_empty-clause-any_moment
 returns-then-is_empty-clause-any_moment g c = λ t warehouse is.
-    quiet (Idle c.args.opened) (g.T.Site.disk c.args.site.now) (Some warehouse) _ (warehouse, refl, is) (λ told files. g.met.T.Site.only_now c.args.site.now told files t)
-
-pub load-requires-clause-each : goal.load-requires-clause-each
-load-requires-clause-each g c = batch_of_view c.args.opened c.args.batch.now c.requires.agree
+    quiet (Idle c.args.store) (g.T.Site.disk c.args.site.now) (Some warehouse) _ (warehouse, refl, is) (λ told files. g.met.T.Site.only_now c.args.site.now told files t)
 
 pub returns-in-Ok-Committed-clause-answer : goal.returns-in-Ok-Committed-clause-answer
 returns-in-Ok-Committed-clause-answer g c = λ t warehouse is.
@@ -34,15 +29,18 @@ returns-in-Ok-Committed-clause-answer g c = λ t warehouse is.
     let new = g.T.Site.disk c.load.new.site in
     let stable = (c.in-Ok-Committed.ensures.opened t).stable in
     let given = c.in-Ok-Committed.ensures.loaded t warehouse.facts in
-    let belongs = committed_belongs c.args.opened old new warehouse c.args.batch.now is c.requires.agree c.in-Ok-Committed.field-0 c.in-Ok-Committed.store c.in-Ok-Committed.field-0-is stable given _ refl refl in
-    let same = committed_answer c.args.opened old new warehouse c.args.batch.now is c.requires.agree c.in-Ok-Committed.field-0 c.in-Ok-Committed.store c.in-Ok-Committed.field-0-is stable given in
-    let facts = committed_facts c.args.opened old new warehouse c.args.batch.now is c.requires.agree c.in-Ok-Committed.field-0 c.in-Ok-Committed.store c.in-Ok-Committed.field-0-is stable given in
-    answers_as c.acknowledge-in-Ok-Committed.result new _ _ (sym same)
+    let loaded = c.in-Ok-Committed.field-0 in
+    let now = c.in-Ok-Committed.store in
+    let same = c.in-Ok-Committed.field-0-is in
+    let belongs = committed_belongs c.args.store old new warehouse c.args.batch.now is c.requires.agree loaded now stable given same in
+    let answer = committed_answer c.args.store old new warehouse c.args.batch.now is c.requires.agree loaded now stable given same in
+    let facts = committed_facts c.args.store old new warehouse c.args.batch.now is c.requires.agree loaded now stable given same in
+    answers_as c.acknowledge-in-Ok-Committed.result new _ _ (sym answer)
     (answers c.acknowledge-in-Ok-Committed.result _ _ new _ c.acknowledge-in-Ok-Committed.ensures.state c.acknowledge-in-Ok-Committed.ensures.reply (_, refl, belongs) (ap committed_text facts))
 
 pub returns-in-Ok-Committed-clause-any_moment : goal.returns-in-Ok-Committed-clause-any_moment
 returns-in-Ok-Committed-clause-any_moment g c = λ t warehouse is.
-    load_moments c.args.opened _ _ warehouse c.args.batch.now is c.requires.agree (c.load.ensures.any_moment t warehouse.facts)
+    load_moments c.args.store _ _ warehouse c.args.batch.now is c.requires.agree (c.load.ensures.any_moment t warehouse.facts)
 
 pub returns-in-Ok-Refused-clause-answer : goal.returns-in-Ok-Refused-clause-answer
 returns-in-Ok-Refused-clause-answer g c = λ t warehouse is.
@@ -50,15 +48,19 @@ returns-in-Ok-Refused-clause-answer g c = λ t warehouse is.
     let new = g.T.Site.disk c.load.new.site in
     let stable = (c.in-Ok-Refused.ensures.opened t).stable in
     let given = c.in-Ok-Refused.ensures.loaded t warehouse.facts in
-    let belongs = refused_belongs c.args.opened old new warehouse c.args.batch.now is c.requires.agree c.in-Ok-Refused.field-0 c.in-Ok-Refused.store c.in-Ok-Refused.refusal c.in-Ok-Refused.field-0-is stable given _ refl refl in
-    let same = refused_answer c.args.opened old new warehouse c.args.batch.now is c.requires.agree c.in-Ok-Refused.field-0 c.in-Ok-Refused.store c.in-Ok-Refused.refusal c.in-Ok-Refused.field-0-is stable given in
-    answers_as c.refuse.result new _ _ (sym same)
-    (answers c.refuse.result _ _ new _ c.refuse.ensures.state c.refuse.ensures.reply (_, refl, belongs) (ap (λ (s : Schema). refusal_text s c.in-Ok-Refused.refusal) is.schema))
+    let loaded = c.in-Ok-Refused.field-0 in
+    let now = c.in-Ok-Refused.store in
+    let refusal = c.in-Ok-Refused.refusal in
+    let same = c.in-Ok-Refused.field-0-is in
+    let belongs = refused_belongs c.args.store old new warehouse c.args.batch.now is c.requires.agree loaded now stable given refusal same in
+    let answer = refused_answer c.args.store old new warehouse c.args.batch.now is c.requires.agree loaded now stable given refusal same in
+    answers_as c.refuse.result new _ _ (sym answer)
+    (answers c.refuse.result _ _ new _ c.refuse.ensures.state c.refuse.ensures.reply (_, refl, belongs) refl)
 
 pub returns-in-Ok-Refused-clause-any_moment : goal.returns-in-Ok-Refused-clause-any_moment
 returns-in-Ok-Refused-clause-any_moment g c = λ t warehouse is.
-    load_moments c.args.opened _ _ warehouse c.args.batch.now is c.requires.agree (c.load.ensures.any_moment t warehouse.facts)
+    load_moments c.args.store _ _ warehouse c.args.batch.now is c.requires.agree (c.load.ensures.any_moment t warehouse.facts)
 
 pub returns-in-Err-clause-any_moment : goal.returns-in-Err-clause-any_moment
 returns-in-Err-clause-any_moment g c = λ t warehouse is.
-    load_moments c.args.opened _ _ warehouse c.args.batch.now is c.requires.agree (c.load.ensures.any_moment t warehouse.facts)
+    load_moments c.args.store _ _ warehouse c.args.batch.now is c.requires.agree (c.load.ensures.any_moment t warehouse.facts)

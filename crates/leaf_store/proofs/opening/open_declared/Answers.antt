@@ -1,12 +1,15 @@
-use Rattle.std.proofs.Common.{◌∙◌, sym, subst, ap, length}
-use Rattle.leaf_store.specs.declared.one_view.OneView.{OneView}
-use Rattle.leaf_store.specs.Held.{IsOneView}
-use Rattle.leaf_store.proofs.Views.{is_one_view}
+use Rattle.std.proofs.Common.{◌∙◌, ap}
+use Rattle.attr_dict.specs.Book.{Book}
+use Rattle.attr_dict.proofs.Kept.{kinds-after}
 use Rattle.leaf_store.proofs.opening.open_declared.Goals as goal
 
-pub invariant_of-store : goal.invariant_of-store
-invariant_of-store g c = record {
-  one_view = subst IsOneView (sym c.in_ok-view.ensures) (is_one_view c.args.schema c.requires.lawful c.requires.built);
-  within = c.requires.body;
-  text = c.in_ok-check.ensures.names ∙ (c.requires.text ∙ ap (λ (v : OneView). length v.text) (sym c.in_ok-view.ensures));
-}
+pub invariant_of-result : goal.invariant_of-result
+invariant_of-result g c =
+    let read = c.in-Ok.ensures.read in
+    record {
+      lawful = c.requires.lawful;
+      built = c.requires.built;
+      within = c.requires.body;
+      text = c.requires.text;
+      kinds = ap (λ (b : Book). b.kinds) read.book ∙ (kinds-after _ read.es ∙ ap (λ (b : Book). b.kinds) c.in_ok-names.ensures);
+    }

@@ -1,77 +1,67 @@
-use Rattle.std.proofs.Common.{◌≡◌, ◌∙◌, ◌+◌, ◌<◌, ◌≤◌, ◌++◌, ℕ, List, length, refl, sym, subst, ap, arith, length-append}
-use Rattle.fact_model.specs.declared.fact.Fact.{Fact}
-use Rattle.cube_point.specs.declared.point.Entry.{Entry}
-use Rattle.page_fmt.specs.Writing.{AreEntries}
-use Rattle.forest_root.specs.declared.body.Body.{Body}
-use Rattle.forest_root.specs.Body.{IsBody, max_facts}
-use Rattle.leaf_store.specs.Held.{entries_of, masses_of, shape_of}
-use Rattle.leaf_store.specs.Next.{IsReady, IsPlan, IsStopped, HasMass, added}
-use Rattle.leaf_store.specs.Opening.{slot_of}
-use Rattle.leaf_store.proofs.Ready.{refused_mass, summed, leaf_entries, body_is, plan_is, refused_points, ok_then, err_then, err_if}
+use Rattle.std.proofs.Common.{◌∙◌, ◌++◌, ◌≤◌, length, sym, subst, ap, arith, length-append}
+use Rattle.std.specs.Prelude.{slice_index}
+use Rattle.std.proofs.lemmas.List.{length-map}
+use Rattle.forest_root.specs.Body.{max_facts}
+use Rattle.view_points.specs.Codes.{names}
+use Rattle.attr_dict.specs.Admitting.{codes_of}
+use Rattle.attr_dict.proofs.Kept.{lists-own}
+use Rattle.leaf_store.specs.Built.{view_of}
+use Rattle.leaf_store.specs.Next.{IsStopped}
+use Rattle.leaf_store.proofs.Named.{adds_names, agree_with, all_named, full_stop, names_back, names_grow, none_full, view_kinds}
+use Rattle.leaf_store.proofs.Ready.{both_agree, err_if, err_then}
 use Rattle.leaf_store.proofs.store.Store.plan.Goals as goal
 
-pub total-requires : goal.total-requires
-total-requires g c = omega (arith, c.args.self.now.within.within.facts)
+pub admit-requires : goal.admit-requires
+admit-requires g c = agree_with c.args.self.now.schema c.args.self.now.names c.args.self.now.kinds c.args.batch.now c.requires.agree
 
-pub returns-in_err-masses-clause-stopped : goal.returns-in_err-masses-clause-stopped
-returns-in_err-masses-clause-stopped g c = λ t accepted fine live.
+pub returns-in_err-admitted-clause-stopped : goal.returns-in_err-admitted-clause-stopped
+returns-in_err-admitted-clause-stopped g c = λ t accepted is.
     let schema = c.args.self.now.schema in
     let batch = c.args.batch.now in
-    let files = (g.T.Site.disk c.args.site.now).files in
-    let refused = c.in_err-masses.ensures.refused in
-    let old : c.args.self.now.live.masses ≡ masses_of accepted = live.at.body_is.masses in
-    let has : HasMass (masses_of accepted) batch refused.0 = subst (λ (xs : List Fact). HasMass (masses_of accepted) xs refused.0) c.as_slice-2.ensures (subst (λ (l : List ℕ). HasMass l c.as_slice-2.result.now refused.0) old refused.2) in
-    let few : length (accepted ++ batch) ≤ max_facts = omega (arith, c.in_ok-facts.ensures.total.0, c.in_ok-facts.ensures.total.1, live.at.body_is.facts, length-append accepted batch, ap length c.as_slice.ensures) in
-    err_then c.from_residual-in_err-masses.result _ (IsStopped schema (accepted ++ batch)) (err_if c.from_residual-in_err-masses.result _ c.from_residual-in_err-masses.ensures.1)
-    (λ stop is. subst (IsStopped schema (accepted ++ batch)) (sym (is ∙ refused.1)) (refused_mass accepted batch schema refused.0 few has))
+    let few : length (accepted ++ batch) ≤ max_facts = omega (arith, c.in_ok-facts.ensures.total.0, c.in_ok-facts.ensures.total.1, is.live.at.body_is.facts, length-append accepted batch, ap length c.as_slice.ensures) in
+    err_then c.from_residual-in_err-admitted.result _ (IsStopped schema (accepted ++ batch)) (err_if c.from_residual-in_err-admitted.result _ c.from_residual-in_err-admitted.ensures.1)
+    (λ stop same. subst (IsStopped schema (accepted ++ batch)) (sym same) (full_stop schema c.args.self.now.names accepted batch c.in_err-admitted.field-0.0 c.args.self.now.kinds is.names few c.in_err-admitted.ensures.full))
+
+pub plan_with-requires-clause-coded : goal.plan_with-requires-clause-coded
+plan_with-requires-clause-coded g c =
+    let attrs = view_kinds c.args.self.now.schema c.args.self.now.names c.args.self.now.kinds c.args.self.now.lawful in
+    record {
+      known = c.in_ok-admitted.ensures.known;
+      narrow = c.in_ok-admitted.ensures.narrow;
+      lists = ap length c.in_ok-admitted.ensures.coded ∙ length-map c.args.batch.now (codes_of c.admit.new.self.names);
+      viewed = c.in_ok-admitted.ensures.viewed (view_of c.args.self.now.schema) attrs;
+      placed = c.in_ok-admitted.ensures.placed (view_of c.args.self.now.schema) attrs;
+    }
+
+pub forget-requires : goal.forget-requires
+forget-requires g c = λ a. omega (arith, c.lengths-before.ensures a, ap length (c.in_ok-admitted.ensures.names a), names_grow c.args.self.now.names c.args.batch.now a)
 
 pub returns-in-Ok-clause-planned : goal.returns-in-Ok-clause-planned
-returns-in-Ok-clause-planned g c = λ t accepted fine live.
+returns-in-Ok-clause-planned g c = λ t accepted is.
     let schema = c.args.self.now.schema in
+    let b = c.args.self.now.names in
     let batch = c.args.batch.now in
-    let facts : c.in_ok-facts.facts ≡ c.args.self.now.live.facts + length batch = omega (arith, c.in_ok-facts.ensures.total.0, ap length c.as_slice.ensures) in
-    let up : c.in_ok-masses.masses ≡ added c.args.self.now.live.masses batch = c.in_ok-masses.ensures.all ∙ ap (added c.args.self.now.live.masses) c.as_slice-2.ensures in
-    let all = summed schema (g.T.Site.disk c.args.site.now).files c.args.self.now.live accepted batch c.in_ok-facts.facts c.args.self.now.live.masses c.in_ok-masses.masses live facts c.in_ok-facts.ensures.total.1 refl up c.in_ok-masses.ensures.within in
-    let same : c.in-Ok.entries ≡ entries_of schema (accepted ++ batch) = c.in-Ok.ensures.points t accepted fine live all.2 in
-    ok_then c.planned.result _ _ (IsPlan schema (accepted ++ batch)) c.planned.ensures.plan c.planned.ensures.fits
-    (λ plan is fits. plan_is schema c.args.self.now.live accepted batch c.in-Ok.entries plan c.in_ok-facts.facts c.in_ok-masses.masses fine.each c.requires.each all.2 same fits all.0 all.1 is.0 is.1)
+    let kinds = c.args.self.now.kinds in
+    let agree = both_agree schema accepted batch is.accepted.each c.requires.agree in
+    c.in-Ok.ensures.planned t accepted is.accepted is.live (all_named schema b kinds accepted batch is.names c.admit.new.self c.in_ok-admitted.ensures.names)
+    (none_full schema b kinds accepted batch is.names c.in_ok-admitted.ensures.none agree)
+    (adds_names schema b kinds accepted batch is.names c.in_ok-admitted.admitted.names (c.in_ok-admitted.ensures.entries (names accepted) (lists-own b accepted is.names)))
 
-pub returns-in-Ok-clause-stopped : goal.returns-in-Ok-clause-stopped
-returns-in-Ok-clause-stopped g c = λ t accepted fine live.
-    let schema = c.args.self.now.schema in
-    let batch = c.args.batch.now in
-    let facts : c.in_ok-facts.facts ≡ c.args.self.now.live.facts + length batch = omega (arith, c.in_ok-facts.ensures.total.0, ap length c.as_slice.ensures) in
-    let up : c.in_ok-masses.masses ≡ added c.args.self.now.live.masses batch = c.in_ok-masses.ensures.all ∙ ap (added c.args.self.now.live.masses) c.as_slice-2.ensures in
-    let all = summed schema (g.T.Site.disk c.args.site.now).files c.args.self.now.live accepted batch c.in_ok-facts.facts c.args.self.now.live.masses c.in_ok-masses.masses live facts c.in_ok-facts.ensures.total.1 refl up c.in_ok-masses.ensures.within in
-    let same : c.in-Ok.entries ≡ entries_of schema (accepted ++ batch) = c.in-Ok.ensures.points t accepted fine live all.2 in
-    err_then c.planned.result _ (IsStopped schema (accepted ++ batch)) c.planned.ensures.refused
-    (λ stop is. subst (IsStopped schema (accepted ++ batch)) (sym is.0) (refused_points schema (accepted ++ batch) c.in-Ok.entries all.2 same is.1))
-
-pub returns-in-Ok-clause-ready : goal.returns-in-Ok-clause-ready
-returns-in-Ok-clause-ready g c =
-    let schema = c.args.self.now.schema in
-    let live = c.args.self.now.live in
-    let batch = c.args.batch.now in
-    let entries = c.in-Ok.entries in
-    let some : 0 < length entries = c.in-Ok.ensures.some c.requires.some in
-    let facts : c.in_ok-facts.facts ≡ live.facts + length batch = omega (arith, c.in_ok-facts.ensures.total.0, ap length c.as_slice.ensures) in
-    let long : length c.in_ok-masses.masses ≡ 4 = ap length c.in_ok-masses.ensures.all in
-    let body = body_is schema live c.in_ok-facts.facts c.in_ok-masses.masses (length entries) (length batch) c.args.self.now.one_view c.args.self.now.within c.requires.some facts c.in_ok-facts.ensures.total.1
-    long c.in_ok-masses.ensures.within c.in-Ok.ensures.few in
-    ok_then c.planned.result _ _ (IsReady schema live) c.planned.ensures.plan c.planned.ensures.fits
-    (λ plan is fits. record {
-      some = subst (λ (es : List Entry). 0 < length es) (sym is.0) some;
-      entries = subst (AreEntries (shape_of schema)) (sym is.0) (leaf_entries schema entries some c.in-Ok.ensures.ascend c.in-Ok.ensures.each fits);
-      body = subst (λ (b : Body). IsBody (slot_of b) b) (sym is.1) body;
-      generation = ap (λ (b : Body). b.generation) is.1;
-      names_len = ap (λ (b : Body). b.names_len) is.1;
-    })
+pub returns-in-Ok-clause-named : goal.returns-in-Ok-clause-named
+returns-in-Ok-clause-named g c = λ accepted own. all_named c.args.self.now.schema c.args.self.now.names c.args.self.now.kinds accepted c.args.batch.now own c.admit.new.self c.in_ok-admitted.ensures.names
 
 pub returns-in-Err-clause-stopped : goal.returns-in-Err-clause-stopped
-returns-in-Err-clause-stopped g c = λ t accepted fine live.
+returns-in-Err-clause-stopped g c = λ t accepted is.
     let schema = c.args.self.now.schema in
+    let b = c.args.self.now.names in
     let batch = c.args.batch.now in
-    let facts : c.in_ok-facts.facts ≡ c.args.self.now.live.facts + length batch = omega (arith, c.in_ok-facts.ensures.total.0, ap length c.as_slice.ensures) in
-    let up : c.in_ok-masses.masses ≡ added c.args.self.now.live.masses batch = c.in_ok-masses.ensures.all ∙ ap (added c.args.self.now.live.masses) c.as_slice-2.ensures in
-    let all = summed schema (g.T.Site.disk c.args.site.now).files c.args.self.now.live accepted batch c.in_ok-facts.facts c.args.self.now.live.masses c.in_ok-masses.masses live facts c.in_ok-facts.ensures.total.1 refl up c.in_ok-masses.ensures.within in
-    c.in-Err.ensures.undamaged t accepted fine live all.2
+    let kinds = c.args.self.now.kinds in
+    let agree = both_agree schema accepted batch is.accepted.each c.requires.agree in
+    c.in-Err.ensures.stopped t accepted is.accepted is.live (all_named schema b kinds accepted batch is.names c.admit.new.self c.in_ok-admitted.ensures.names)
+    (none_full schema b kinds accepted batch is.names c.in_ok-admitted.ensures.none agree)
+    (adds_names schema b kinds accepted batch is.names c.in_ok-admitted.admitted.names (c.in_ok-admitted.ensures.entries (names accepted) (lists-own b accepted is.names)))
+
+pub returns-in-Err-clause-forgotten : goal.returns-in-Err-clause-forgotten
+returns-in-Err-clause-forgotten g c = λ accepted own.
+    names_back c.args.self.now.schema c.args.self.now.names c.args.self.now.kinds accepted c.args.batch.now own c.admit.new.self c.forget.new.self (λ a. slice_index c.lengths-before.result.at a)
+    c.in_ok-admitted.ensures.names c.lengths-before.ensures c.forget.ensures.names
