@@ -1,5 +1,5 @@
 use Rattle.std.proofs.Common.{◌≡◌, false}
-use Rattle.cube_tests.proofs.scripts.told.Given as goal
+use Rattle.part_tests.proofs.scripts.told.Given as goal
 
 abbrev pub invariant-loop-piece : goal.invariant-loop-piece
 invariant-loop-piece l = l.lines.over ≡ false

@@ -2,7 +2,7 @@ use Rattle.std.proofs.Common.{[], ◌∷◌}
 use Rattle.cube_point.specs.declared.point.Entry.{Entry}
 use Rattle.cube_point.specs.Points.{IsPoint}
 use Rattle.view_points.proofs.Members.{All-from_every}
-use Rattle.cube_tests.proofs.points.the_points_of_a_refresh.Goals as goal
+use Rattle.part_tests.proofs.points.the_points_of_a_refresh.Goals as goal
 
 abbrev IsPlaced : Entry → Type 0
 IsPlaced e = IsPoint e.point

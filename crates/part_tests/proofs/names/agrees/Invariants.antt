@@ -3,7 +3,7 @@ use Rattle.fact_model.specs.Fact.{value_at}
 use Rattle.cube_schema.specs.declared.Attr.{Attr}
 use Rattle.cube_schema.specs.declared.Kind.TheVariants as kind
 use Rattle.cube_schema.specs.Agreeing.{IsOfKind}
-use Rattle.cube_tests.proofs.names.agrees.Given as goal
+use Rattle.part_tests.proofs.names.agrees.Given as goal
 
 -- the values passed are of their attributes' kinds
 abbrev pub invariant-loop-at : goal.invariant-loop-at

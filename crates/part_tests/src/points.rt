@@ -2,9 +2,9 @@
 ghost use Rattle.std.specs.Prelude.{◌≡◌, ◌<◌, ◌≤◌, [], ◌∷◌, IfOk, length, map};
 ghost use Rattle.std.specs.List.{All};
 ghost use Rattle.cube_point.specs.Points.{IsPoint};
-ghost use Rattle.cube_tests.specs.Sales.{state_a_measures, state_a_codes};
+ghost use Rattle.part_tests.specs.Sales.{state_a_measures, state_a_codes};
 
-use crate::runs::sale;
+use crate::facts::sale;
 use cube_point::{Coded, CoordList, Entry, Point};
 use delta_agg::{merge_points, view_deltas};
 use fact_model::{Cell, FactList, ListOf, Memory, Part};

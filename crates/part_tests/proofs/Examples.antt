@@ -3,7 +3,7 @@ use Rattle.std.proofs.Common.{◌≡◌, ◌≤◌, ℕ, zero, suc, pos, List, [
 use Rattle.fact_model.specs.declared.fact.Fact.{Fact}
 use Rattle.fact_model.specs.Fact.{numbers_at, mass_limit}
 use Rattle.delta_agg.specs.Batch.{KeepMasses}
-use Rattle.cube_tests.specs.Sales.{state_a_measures}
+use Rattle.part_tests.specs.Sales.{state_a_measures}
 
 are-numbers : (m : ℕ) (facts : List Fact) → numbers_at m facts ≡ map (λ ns. get_or ns m (pos 0)) (map (λ (x : Fact). x.measures) facts)
 are-numbers m [] = refl

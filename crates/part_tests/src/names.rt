@@ -4,7 +4,7 @@ ghost use Rattle.attr_dict.specs.Admitting.{Agrees};
 ghost use Rattle.cube_schema.specs.Agreeing.{IsOfKind};
 ghost use Rattle.cube_schema.specs.declared.Attr.{Attr};
 
-use crate::runs::sale;
+use crate::facts::sale;
 use attr_dict::{DictRefusal, Dicts, NamesStop};
 use cube_schema::{Kind, Schema};
 use fact_model::{Fact, FactList, Memory, Value};

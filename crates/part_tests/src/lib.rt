@@ -1,0 +1,24 @@
+//! Tests of the rooms below the program: facts and the points of batches, texts of schemas, the trees of views, names of attributes and
+//! what files keep of them, the order of a refresh, the commands of scripts, the records and facts of blocks, and the texts of replies.
+#![tactic(auto)]
+
+#[cfg(test)]
+mod batches;
+#[cfg(test)]
+mod facts;
+#[cfg(test)]
+mod names;
+#[cfg(test)]
+mod points;
+#[cfg(test)]
+mod records;
+#[cfg(test)]
+mod replies;
+#[cfg(test)]
+mod schemas;
+#[cfg(test)]
+mod scripts;
+#[cfg(test)]
+mod stops;
+#[cfg(test)]
+mod trees;
