@@ -13,7 +13,7 @@ use Rattle.page_fmt.specs.Writing.{AreEntries, FitsLeaf, IsShape}
 use Rattle.leaf_pack.specs.Kept.{comes_after}
 use Rattle.leaf_pack.specs.Leaf.{is_full, is_other, is_after}
 
-both-of : (p q : Bool) → (p && q) ≡ true → (p ≡ true) × (q ≡ true)
+pub both-of : (p q : Bool) → (p && q) ≡ true → (p ≡ true) × (q ≡ true)
 both-of true q e = (refl, e)
 both-of false q e = absurd (true≢false (sym e))
 
@@ -21,11 +21,11 @@ not-not : (b : Bool) → not b ≡ false → b ≡ true
 not-not true e = refl
 not-not false e = absurd (true≢false e)
 
-one : {A : Type 0} (P : A → Type 0) (x : A) → P x → All P (x ∷ [])
+pub one : {A : Type 0} (P : A → Type 0) (x : A) → P x → All P (x ∷ [])
 one P x h zero d lt = h
 one P x h (suc k) d lt = absurd (omega (arith, lt))
 
-ascend-more : {A : Type 0} (less : A → A → Bool) (xs : List A) (x : A) → ascend less xs ≡ true → comes_after less xs x ≡ true → ascend less (xs ++ x ∷ []) ≡ true
+pub ascend-more : {A : Type 0} (less : A → A → Bool) (xs : List A) (x : A) → ascend less xs ≡ true → comes_after less xs x ≡ true → ascend less (xs ++ x ∷ []) ≡ true
 ascend-more less [] x a b = refl
 ascend-more less (y ∷ []) x a b = and_from (less y x) true b refl
 ascend-more less (y ∷ z ∷ l) x a b =

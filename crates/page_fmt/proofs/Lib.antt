@@ -5,4 +5,5 @@ pub mod Fields
 pub mod Laws
 pub mod Loops
 pub mod Vectors
+pub mod Rooms
 pub mod Writes

@@ -9,6 +9,7 @@ mod read;
 mod rules;
 mod size;
 mod take;
+mod tree;
 
 pub use inner::put_inner;
 pub use leaf::put_leaf;
@@ -16,3 +17,4 @@ pub use page::{BadPage, Child, Head, Node, Place};
 pub use read::{inner_entry, leaf_entry};
 pub use size::{inner_room, leaf_room};
 pub use take::take_page;
+pub use tree::tree_pages;

@@ -1,0 +1,12 @@
+pub mod Adding
+pub mod Bytes
+pub mod Counted
+pub mod Filling
+pub mod Law
+pub mod Lawful
+pub mod Runs
+pub mod Standing
+pub mod Stepping
+pub mod Taken
+pub mod Vectors
+pub mod Whole

@@ -1,0 +1,5 @@
+pub mod Filling
+pub mod Lawful
+pub mod Packing
+pub mod Pages
+pub mod Steps
