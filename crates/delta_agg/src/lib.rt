@@ -1,8 +1,10 @@
-//! The points of a batch in a view, and the merge of two lists of points.
+//! The points of a batch in a view and in each tree, and the merge of two lists of points.
 #![tactic(auto)]
 
 mod batch;
 mod merge;
+mod trees;
 
 pub use batch::view_deltas;
 pub use merge::{MergeStop, merge_points};
+pub use trees::{DeltaList, deltas};

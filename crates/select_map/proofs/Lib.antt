@@ -4,3 +4,4 @@ pub mod Trees
 pub mod Last
 pub mod Fewest
 pub mod Selected
+pub mod TreeViews

@@ -132,7 +132,8 @@ fewest views tree count valid =
     (λ (none : tree_count views ≤ 0). omega arith)
     (cases_lt 0 (tree_count views))
 
-selection : (views : List View) → Short views → IsSelection views (selected views)
+-- the mapping of such views is a selection
+pub selection : (views : List View) → Short views → IsSelection views (selected views)
 selection views short =
     let size = trees-length views in
     record {
@@ -145,7 +146,8 @@ selection views short =
     }
 
 -- ---- of a schema
-schema-short : (s : Schema) → IsSchema s → Short s.views
+-- the views of a schema have such arities
+pub schema-short : (s : Schema) → IsSchema s → Short s.views
 schema-short s lawful v lt =
     let view = get_or s.views v [] in
     let is = all-at (is_view (length s.attrs)) s.views v [] lawful.views lt in

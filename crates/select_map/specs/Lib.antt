@@ -1,3 +1,4 @@
 pub mod Selection
 pub mod Standing
+pub mod Trees
 pub mod Views
