@@ -6,13 +6,16 @@
 
 mod bodies;
 mod body;
+mod forest;
 mod gates;
 mod lowering;
+mod place;
 mod raised;
 mod root_file;
 
 pub use bodies::{put_bodies, put_body};
 pub use body::Body;
+pub use forest::{Forest, Store};
 pub use gates::{close_gate, raise_gate};
 pub use lowering::lower_gates;
 pub use raised::{RootStop, live};

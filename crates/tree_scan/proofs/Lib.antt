@@ -1,0 +1,5 @@
+pub mod Extending
+pub mod Following
+pub mod Orders
+pub mod Packed
+pub mod Reading

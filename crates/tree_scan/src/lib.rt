@@ -1,0 +1,7 @@
+//! The points of a tree are read from its pages, each once and in their order.
+#![tactic(auto)]
+
+mod points;
+mod scan;
+
+pub use scan::{ScanStop, read_tree};

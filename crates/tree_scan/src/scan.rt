@@ -1,0 +1,108 @@
+//! All points of a tree, read page by page.
+
+ghost use Rattle.std.specs.Prelude.{◌≡◌, ◌<◌, ◌≤◌, ◌+◌, ◌^◌, IsTrue, IfOk, IfErr};
+ghost use Rattle.site_core.specs.Calls.{Rests};
+ghost use Rattle.forest_root.specs.Causes.{HasCauseWhere};
+ghost use Rattle.page_fmt.specs.Writing.{IsShape};
+ghost use Rattle.tree_scan.specs.Scanning.{ArePoints, IsScanned, NamesPage};
+ghost use Rattle.tree_scan.specs.Steps.{HasRead};
+
+use crate::points::take_in;
+use cube_point::EntryList;
+use fact_model::{ListOf, Memory};
+use page_fmt::Place;
+use site_core::{Fault, Site};
+use std::alloc::Global;
+
+/// The bytes of a page.
+const PAGE: usize = 4096;
+
+/// Why the points of a tree could not be read.
+#[derive(Clone, Copy, Debug, PartialEq, Eq)]
+pub enum ScanStop {
+    /// A call on the file failed.
+    Disk,
+    /// The page with this number is short or not lawful, or has a point that does not come after all points before it.
+    Damaged {
+        /// The number of the page in its file.
+        page: u64,
+    },
+    /// Want of memory.
+    Memory,
+}
+
+/// The points of a tree in point order, read with at most one read a page, its pages in their order. Nothing is changed, also
+/// after an error.
+///
+/// `Damaged` names the first page that is short or not lawful, or has a point that does not come after all points before it.
+pub fn read_tree<T: Site>(alloc: Global, site: &mut T, place: &Place) -> Result<EntryList, ScanStop>
+    requires file { place.now.file < 4 }
+    requires shape { IsShape place.now.shape }
+    requires few { place.now.first + place.now.pages ≤ 2 ^ 50 }
+
+    ensures scanned { IsTrue T.tells
+        → IsScanned place.now.shape ((T.disk site.old).files place.now.file) place.now.first place.now.pages result }
+
+    // Whatever the file holds.
+    ensures points { IfOk result (ArePoints place.now.shape) }
+    ensures page { IfErr result (NamesPage place.now.first place.now.pages) }
+    ensures disk { IsTrue T.tells → Rests (T.disk site.old) (T.disk site.new) }
+    ensures cause { HasCauseWhere ScanStop.Disk (T.disk_faults site.old) (T.disk_faults site.new) result }
+    ensures told_faults { T.told_faults site.new ≡ T.told_faults site.old }
+    ensures reads { T.reads site.new ≤ T.reads site.old + place.now.pages }
+    ensures writes { T.writes site.new ≡ T.writes site.old }
+{
+    let mut entries = Vec::new(alloc);
+    let mut page = [0; PAGE];
+    for number in place.first..place.first + place.pages {
+        read_page(site, place.file, number, &mut page)?;
+        if !take_in(&page, &place.shape, number, &mut entries)? {
+            return Err(ScanStop::Damaged { page: number });
+        }
+    }
+    Ok(ListOf::from_vec(entries))
+}
+
+/// Reads the page with this number, which the file has to have whole.
+fn read_page<T: Site>(
+    site: &mut T,
+    file: u32,
+    number: u64,
+    into: &mut [u8; PAGE],
+) -> Result<(), ScanStop>
+    requires file { file < 4 }
+    requires few { number ≤ 2 ^ 50 }
+
+    ensures page { IsTrue T.tells → HasRead ((T.disk site.old).files file) number into.new result }
+    ensures names { IfErr result (NamesPage number 1) }
+    ensures disk { IsTrue T.tells → Rests (T.disk site.old) (T.disk site.new) }
+    ensures cause { HasCauseWhere ScanStop.Disk (T.disk_faults site.old) (T.disk_faults site.new) result }
+    ensures told_faults { T.told_faults site.new ≡ T.told_faults site.old }
+    ensures reads { T.reads site.new ≤ T.reads site.old + 1 }
+    ensures writes { T.writes site.new ≡ T.writes site.old }
+{
+    if site.read(file, PAGE as u64 * number, into)? < PAGE {
+        return Err(ScanStop::Damaged { page: number });
+    }
+    Ok(())
+}
+
+impl From<Fault> for ScanStop {
+    ghost use Rattle.tree_scan.specs.declared.scan.ScanStop.TheVariants as stops;
+
+    ghost from_gives = { λ _ stop. stop ≡ stops.Disk };
+
+    fn from(_fault: Fault) -> ScanStop {
+        ScanStop::Disk
+    }
+}
+
+impl From<Memory> for ScanStop {
+    ghost use Rattle.tree_scan.specs.declared.scan.ScanStop.TheVariants as stops;
+
+    ghost from_gives = { λ _ stop. stop ≡ stops.Memory };
+
+    fn from(_memory: Memory) -> ScanStop {
+        ScanStop::Memory
+    }
+}
