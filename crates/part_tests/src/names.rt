@@ -13,7 +13,7 @@ use std::test::Fail;
 
 const BLOCK: &str = "attr part text max 2\nattr year number\nmeasure qty\nview part";
 
-fn is_of_kind(kind: Kind, value: &Value) -> bool
+pub(crate) fn is_of_kind(kind: Kind, value: &Value) -> bool
     ensures { IsTrue result → IsOfKind kind value.now }
 {
     match (kind, value) {

@@ -32,7 +32,7 @@ fn cell(count: u64, numbers: Numbers) -> Cell
 }
 
 /// The point of the view without attributes.
-fn of_all(count: u64, numbers: Numbers) -> Entry
+pub(crate) fn of_all(count: u64, numbers: Numbers) -> Entry
     ensures point { IsPoint result.point }
     ensures measures { result.cell.measures ≡ 1 }
 {
@@ -45,7 +45,7 @@ fn of_all(count: u64, numbers: Numbers) -> Entry
     }
 }
 
-fn of_year(year: u64, count: u64, numbers: Numbers) -> Entry
+pub(crate) fn of_year(year: u64, count: u64, numbers: Numbers) -> Entry
     requires { 0 < year }
     ensures point { IsPoint result.point }
     ensures measures { result.cell.measures ≡ 1 }
@@ -59,7 +59,7 @@ fn of_year(year: u64, count: u64, numbers: Numbers) -> Entry
     }
 }
 
-fn of_part_and_year(part: u64, year: u64, count: u64, numbers: Numbers) -> Entry
+pub(crate) fn of_part_and_year(part: u64, year: u64, count: u64, numbers: Numbers) -> Entry
     requires part { 0 < part }
     requires year { 0 < year }
     ensures point { IsPoint result.point }
@@ -74,7 +74,7 @@ fn of_part_and_year(part: u64, year: u64, count: u64, numbers: Numbers) -> Entry
     }
 }
 
-fn state_a(alloc: Global) -> Result<FactList, Memory>
+pub(crate) fn state_a(alloc: Global) -> Result<FactList, Memory>
     ensures { IfOk result (λ facts. map (λ fact. fact.measures) facts ≡ state_a_measures) }
 {
     let mut facts = ListOf::new(alloc);
@@ -93,7 +93,7 @@ fn codes(alloc: Global, part: u64, year: u64) -> Result<CoordList, Memory>
     Ok(codes)
 }
 
-fn codes_of_state_a(alloc: Global) -> Result<Coded, Memory>
+pub(crate) fn codes_of_state_a(alloc: Global) -> Result<Coded, Memory>
     ensures { IfOk result (λ coded. coded ≡ state_a_codes) }
 {
     let mut coded = ListOf::new(alloc);

@@ -3,7 +3,8 @@ use cube_schema::Schema;
 use select_map::select;
 use std::test::Fail;
 
-const BLOCK: &str =
+/// Six views in three trees.
+pub(crate) const BLOCK: &str =
     "attr a text\nattr b number\nattr c number\nmeasure m\nview a,b\nview b\nview\nview c\nview b,a\nview a";
 
 #[test]
