@@ -191,15 +191,19 @@ IsHeld shape arity e = (e.point.arity ≡ arity) × FitsLeaf shape e
 abbrev pub merged_entries : List Entry → List Entry → List Entry
 merged_entries old new = map entry_of (merge_points (map pair_of old) (map pair_of new))
 
-module _ (shape : Shape) (arity : ℕ) (four : shape.measures ≤ 4) where
+-- an entry of a leaf, of an arity that has Q
+abbrev pub IsHeldWith : Shape → (ℕ → Type 0) → Entry → Type 0
+IsHeldWith shape Q e = Q e.point.arity × FitsLeaf shape e
+
+module _ (shape : Shape) (Q : ℕ → Type 0) (four : shape.measures ≤ 4) where
   abbrev Pairs : PlacedCell → Type 0
-  Pairs e = IsHeld shape arity (entry_of e)
+  Pairs e = IsHeldWith shape Q (entry_of e)
 
-  pairs : (es : List Entry) → AllByRecursion (IsHeld shape arity) es → AllByRecursion Pairs (map pair_of es)
+  pairs : (es : List Entry) → AllByRecursion (IsHeldWith shape Q) es → AllByRecursion Pairs (map pair_of es)
   pairs [] h = tt
-  pairs (e ∷ es) h = (subst (IsHeld shape arity) (sym (entry-pair e h.0.1.point)) h.0, pairs es h.1)
+  pairs (e ∷ es) h = (subst (IsHeldWith shape Q) (sym (entry-pair e h.0.1.point)) h.0, pairs es h.1)
 
-  back : (es : List PlacedCell) → AllByRecursion Pairs es → AllByRecursion (IsHeld shape arity) (map entry_of es)
+  back : (es : List PlacedCell) → AllByRecursion Pairs es → AllByRecursion (IsHeldWith shape Q) (map entry_of es)
   back [] h = tt
   back (e ∷ es) h = (h.0, back es h.1)
 
@@ -207,14 +211,18 @@ module _ (shape : Shape) (arity : ℕ) (four : shape.measures ≤ 4) where
   alone-pairs [] = refl
   alone-pairs (e ∷ es) = ap (λ ms. alone e ∷ ms) (alone-pairs es)
 
-  -- where all cells that meet join, a leaf may hold each entry of the merge
-  pub merged-held : (old new : List Entry) → All (IsHeld shape arity) old → All (IsHeld shape arity) new → AllJoin old new → All (IsHeld shape arity) (merged_entries old new)
-  merged-held old new h k joins =
+  -- where all cells that meet join, the merge has such entries as both lists have
+  pub merged-kept : (old new : List Entry) → All (IsHeldWith shape Q) old → All (IsHeldWith shape Q) new → AllJoin old new → All (IsHeldWith shape Q) (merged_entries old new)
+  merged-kept old new h k joins =
       let fit : AllByRecursion Fits (meet (map pair_of old) (map pair_of new)) =
       subst (AllByRecursion Fits) (λ i. together point_cmp beside (alone-pairs old i) (alone-pairs new i)) (every-from_All Fits _ joins) in
-      All-from_every (IsHeld shape arity) (merged_entries old new) (back (merge_points (map pair_of old) (map pair_of new))
+      All-from_every (IsHeldWith shape Q) (merged_entries old new) (back (merge_points (map pair_of old) (map pair_of new))
       (each-merged Pairs (λ e d p q fits. (p.0, fits-joined shape e d four p.1 q.1 fits)) (map pair_of old) (map pair_of new)
-      (pairs old (every-from_All (IsHeld shape arity) old h)) (pairs new (every-from_All (IsHeld shape arity) new k)) fit))
+      (pairs old (every-from_All (IsHeldWith shape Q) old h)) (pairs new (every-from_All (IsHeldWith shape Q) new k)) fit))
+
+-- so where all are of one arity, a leaf may hold each entry of the merge
+pub merged-held : (shape : Shape) (arity : ℕ) → shape.measures ≤ 4 → (old new : List Entry) → All (IsHeld shape arity) old → All (IsHeld shape arity) new → AllJoin old new → All (IsHeld shape arity) (merged_entries old new)
+merged-held shape arity four = merged-kept shape (λ n. n ≡ arity) four
 
 -- the merge of two lists in order is in order
 pub merged-ascends : (old new : List Entry) → ascend entry_before old ≡ true → ascend entry_before new ≡ true → ascend entry_before (merged_entries old new) ≡ true

@@ -1,0 +1,16 @@
+pub mod Added
+pub mod Committed
+pub mod Declared
+pub mod Filters
+pub mod NamesLong
+pub mod Named
+pub mod Openings
+pub mod Packings
+pub mod Places
+pub mod Ready
+pub mod Schemas
+pub mod Standing
+pub mod Storable
+pub mod TreeMerges
+pub mod TreeReads
+pub mod ViewReads

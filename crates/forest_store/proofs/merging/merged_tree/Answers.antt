@@ -1,0 +1,70 @@
+use Rattle.std.proofs.Common.{◌≡◌, ◌∙◌, ◌<◌, ◌+◌, List, length, refl, sym, ap, subst, arith}
+use Rattle.std.specs.List.{All}
+use Rattle.cube_point.specs.declared.point.Entry.{Entry}
+use Rattle.cube_point.specs.Points.{IsPoint}
+use Rattle.delta_agg.specs.Joins.{AllJoin, merged_entries}
+use Rattle.tree_pack.specs.Pages.{count_of}
+use Rattle.tree_pack.specs.Packing.{AreTreePoints}
+use Rattle.tree_scan.specs.Scanning.{ArePoints}
+use Rattle.select_map.specs.Selection.{tree_of}
+use Rattle.forest_root.specs.Forest.{place_of}
+use Rattle.forest_pages.specs.Forest.{tree_entries}
+use Rattle.forest_store.specs.Trees.{NamesPageOf, by_arity}
+use Rattle.forest_store.proofs.Packings.{old-few}
+use Rattle.forest_store.proofs.Places.{place-shape}
+use Rattle.forest_store.proofs.TreeMerges.{apart-pages, count-merged, facts-join, facts-merged, merged-points}
+use Rattle.forest_store.proofs.merging.merged_tree.Goals as goal
+
+pub merge_points-requires-clause-old_points : goal.merge_points-requires-clause-old_points
+merge_points-requires-clause-old_points g c = subst (All (λ (e : Entry). IsPoint e.point)) (sym c.as_slice.ensures) (λ i d lt. (c.in_ok-old.ensures.each.good i d lt).point)
+
+pub merge_points-requires-clause-points : goal.merge_points-requires-clause-points
+merge_points-requires-clause-points g c = λ i d lt. (c.requires.added.1.points.good i d lt).point
+
+pub merge_points-requires-clause-measures : goal.merge_points-requires-clause-measures
+merge_points-requires-clause-measures g c = subst (All (λ (o : Entry). All (λ (d : Entry). o.cell.measures ≡ d.cell.measures) c.args.delta.now)) (sym c.as_slice.ensures)
+    (λ i o lt. λ j d low. (c.in_ok-old.ensures.each.good i o lt).measures ∙ sym (c.requires.added.1.points.good j d low).measures)
+
+pub returns-in-Ok-clause-points : goal.returns-in-Ok-clause-points
+returns-in-Ok-clause-points g c = λ t accepted batch fine all live delta.
+    let forest = c.args.forest.now in
+    let old = c.as_slice.ensures ∙ c.in_ok-old.ensures.points t accepted fine live in
+    c.in-Ok.ensures.merged ∙ ((λ i. merged_entries (old i) (delta i)) ∙ facts-merged forest.schema forest.lawful accepted batch forest.mapping forest.mapped c.args.tree)
+
+pub returns-in-Ok-clause-each : goal.returns-in-Ok-clause-each
+returns-in-Ok-clause-each g c =
+    let forest = c.args.forest.now in
+    let shape = (place_of forest c.args.tree).shape in
+    let was = subst (ArePoints shape) (sym c.as_slice.ensures) c.in_ok-old.ensures.each in
+    let counted = ap by_arity c.as_slice.ensures ∙ c.in_ok-old.ensures.counts in
+    subst (AreTreePoints shape) (sym c.in-Ok.ensures.merged)
+    (merged-points shape (place-shape forest c.args.tree c.requires.tree) c.as_slice.result.now c.args.delta.now was c.requires.added.1.points c.in-Ok.ensures.joined
+    (forest.body.facts + c.requires.added.0) c.requires.added.2 (λ a low. omega (arith, old-few forest c.args.tree c.as_slice.result.now counted a low, c.requires.added.1.few a)))
+
+pub returns-in-Ok-clause-few : goal.returns-in-Ok-clause-few
+returns-in-Ok-clause-few g c = λ most are a low.
+    let forest = c.args.forest.now in
+    let was = subst (ArePoints (place_of forest c.args.tree).shape) (sym c.as_slice.ensures) c.in_ok-old.ensures.each in
+    let counted = ap by_arity c.as_slice.ensures ∙ c.in_ok-old.ensures.counts in
+    omega (
+      arith,
+      ap (count_of a) c.in-Ok.ensures.merged,
+      old-few forest c.args.tree c.as_slice.result.now counted a low,
+      are.few a,
+      count-merged a c.as_slice.result.now c.args.delta.now (λ i d lt. (was.good i d lt).point) (λ i d lt. (are.points.good i d lt).point),
+    )
+
+pub returns-in-Err-DoesNotJoin-clause-undamaged : goal.returns-in-Err-DoesNotJoin-clause-undamaged
+returns-in-Err-DoesNotJoin-clause-undamaged g c = λ t accepted batch fine all live delta.
+    let forest = c.args.forest.now in
+    let old = c.as_slice.ensures ∙ c.in_ok-old.ensures.points t accepted fine live in
+    let joins : AllJoin c.as_slice.result.now c.args.delta.now = subst (λ (es : List Entry). AllJoin es c.args.delta.now) (sym old) (subst (AllJoin (tree_entries forest.schema accepted (tree_of forest.mapping c.args.tree))) (sym delta)
+    (facts-join forest.schema forest.lawful accepted batch forest.mapping forest.mapped c.args.tree all)) in
+    absurd (c.in-Err-DoesNotJoin.ensures.stop c.in-Err-DoesNotJoin.field-0-is joins)
+
+pub returns-in-Err-DoesNotJoin-clause-place : goal.returns-in-Err-DoesNotJoin-clause-place
+returns-in-Err-DoesNotJoin-clause-place g c =
+    let place = place_of c.args.forest.now c.args.tree in
+    let some = apart-pages c.as_slice.result.now c.args.delta.now place.pages (c.in-Err-DoesNotJoin.ensures.stop c.in-Err-DoesNotJoin.field-0-is)
+    (subst (λ (es : List Entry). 0 < length es → 0 < place.pages) (sym c.as_slice.ensures) c.in_ok-old.ensures.some) in
+    subst (NamesPageOf place) (sym c.bad_tree.ensures) (place.first, omega arith, omega (arith, some), refl, refl)

@@ -1,0 +1,64 @@
+use Rattle.std.proofs.Common.{◌≡◌, ◌∙◌, ◌<◌, ◌≤◌, ◌+◌, ◌^◌, Ok, Err, [], sym, ap, subst, arith}
+use Rattle.page_fmt.specs.declared.page.Place.{Place}
+use Rattle.page_fmt.specs.Writing.{IsShape}
+use Rattle.tree_scan.specs.Scanning.{IsScanned}
+use Rattle.forest_root.specs.Forest.{place_of}
+use Rattle.forest_store.specs.Opened.{IsNoDamage}
+use Rattle.forest_store.specs.Trees.{by_arity}
+use Rattle.forest_store.proofs.Places.{place-few, place-file, place-shape}
+use Rattle.forest_store.proofs.TreeReads.{lists-differ, lists-same, nothing-counted, nothing-scanned, place-counted, place-scanned, scan-undamaged}
+use Rattle.forest_store.proofs.reading.tree_points.Goals as goal
+
+pub returns-then-place-eq0-clause-points : goal.returns-then-place-eq0-clause-points
+returns-then-place-eq0-clause-points g c = λ t accepted fine live.
+    let forest = c.args.forest.now in
+    let files = (g.T.Site.disk c.args.site.now).files in
+    let none = ap (λ (p : Place). p.pages) (sym c.place-place.ensures) ∙ c.if-place-eq0.true in
+    c.new.ensures ∙ (place-scanned forest c.args.tree c.requires.tree accepted fine files live (Ok []) (nothing-scanned (place_of forest c.args.tree) (files (place_of forest c.args.tree).file) none)).0
+
+pub returns-then-place-eq0-clause-counts : goal.returns-then-place-eq0-clause-counts
+returns-then-place-eq0-clause-counts g c =
+    let none = ap (λ (p : Place). p.pages) (sym c.place-place.ensures) ∙ c.if-place-eq0.true in
+    ap by_arity c.new.ensures ∙ nothing-counted c.args.forest.now c.args.tree c.requires.tree none
+
+pub read_tree-requires-clause-file : goal.read_tree-requires-clause-file
+read_tree-requires-clause-file g c = subst (λ (p : Place). p.file < 4) (sym c.place-place.ensures) (place-file c.args.forest.now c.args.tree c.requires.tree)
+
+pub read_tree-requires-clause-shape : goal.read_tree-requires-clause-shape
+read_tree-requires-clause-shape g c = subst (λ (p : Place). IsShape p.shape) (sym c.place-place.ensures) (place-shape c.args.forest.now c.args.tree c.requires.tree)
+
+pub read_tree-requires-clause-few : goal.read_tree-requires-clause-few
+read_tree-requires-clause-few g c = subst (λ (p : Place). p.first + p.pages ≤ 2 ^ 50) (sym c.place-place.ensures) (place-few c.args.forest.now c.args.tree c.requires.tree)
+
+pub stop_at-requires-clause-few : goal.stop_at-requires-clause-few
+stop_at-requires-clause-few g c = subst (λ (p : Place). p.first + p.pages ≤ 2 ^ 50) (sym c.place-place.ensures) (place-few c.args.forest.now c.args.tree c.requires.tree)
+
+pub returns-in-Err-clause-undamaged : goal.returns-in-Err-clause-undamaged
+returns-in-Err-clause-undamaged g c = λ t accepted fine live.
+    let files = (g.T.Site.disk c.args.site.now).files in
+    let scanned = subst (λ (p : Place). IsScanned p.shape (files p.file) p.first p.pages (Err c.in-Err.stop)) c.place-place.ensures (c.in-Err.ensures.scanned t) in
+    subst IsNoDamage (sym c.stop_at.ensures) (scan-undamaged c.place-place.result c.in-Err.stop (place-scanned c.args.forest.now c.args.tree c.requires.tree accepted fine files live (Err c.in-Err.stop) scanned).1)
+
+pub bad_page-requires : goal.bad_page-requires
+bad_page-requires g c =
+    let few : c.place-place.result.first + c.place-place.result.pages ≤ 2 ^ 50 = subst (λ (p : Place). p.first + p.pages ≤ 2 ^ 50) (sym c.place-place.ensures) (place-few c.args.forest.now c.args.tree c.requires.tree) in
+    omega (arith, few)
+
+pub returns-then-ne-clause-undamaged : goal.returns-then-ne-clause-undamaged
+returns-then-ne-clause-undamaged g c = λ t accepted fine live.
+    let files = (g.T.Site.disk c.args.site.now).files in
+    let scanned = subst (λ (p : Place). IsScanned p.shape (files p.file) p.first p.pages (Ok c.in-Ok.entries)) c.place-place.ensures (c.in-Ok.ensures.scanned t) in
+    let is = (place-scanned c.args.forest.now c.args.tree c.requires.tree accepted fine files live (Ok c.in-Ok.entries) scanned).0 in
+    let same : c.counts.result ≡ c.counts_at.result = c.counts.ensures ∙ (ap by_arity (c.as_slice.ensures ∙ is) ∙ (place-counted c.args.forest.now c.args.tree c.requires.tree accepted fine files live ∙ sym c.counts_at.ensures)) in
+    absurd (lists-differ c.counts.result c.counts_at.result same (sym c.ne.ensures ∙ c.if-ne.true))
+
+pub returns-clause-points : goal.returns-clause-points
+returns-clause-points g c = λ t accepted fine live.
+    let files = (g.T.Site.disk c.args.site.now).files in
+    let scanned = subst (λ (p : Place). IsScanned p.shape (files p.file) p.first p.pages (Ok c.in-Ok.entries)) c.place-place.ensures (c.in-Ok.ensures.scanned t) in
+    (place-scanned c.args.forest.now c.args.tree c.requires.tree accepted fine files live (Ok c.in-Ok.entries) scanned).0
+
+pub returns-clause-counts : goal.returns-clause-counts
+returns-clause-counts g c =
+    let same : c.counts.result ≡ c.counts_at.result = lists-same c.counts.result c.counts_at.result (sym c.ne.ensures ∙ c.if-ne.false) in
+    ap by_arity (sym c.as_slice.ensures) ∙ (sym c.counts.ensures ∙ (same ∙ c.counts_at.ensures))

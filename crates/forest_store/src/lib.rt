@@ -1,0 +1,20 @@
+//! The views of a warehouse on disk, in packed trees: opening, the points of a view, and the load of a batch.
+#![tactic(auto)]
+
+mod committing;
+mod declaring;
+mod loading;
+mod merging;
+mod opening;
+mod packed;
+mod plan;
+mod reading;
+mod schema_text;
+mod sizes;
+mod stop;
+
+pub use declaring::declare;
+pub use loading::{Loaded, Refusal, load};
+pub use opening::open;
+pub use reading::points;
+pub use stop::StoreStop;

@@ -1,0 +1,152 @@
+//! The points of a tree, and those of one of its views, are read from its pages.
+ghost use Rattle.std.specs.Prelude.{◌≡◌, ◌<◌, ◌≤◌, ◌+◌, ◌*◌, ◌^◌, ◌==◌, ℕ, IsTrue, IfOk, IfErr, [], List, filter, get_or, length, slice_index};
+ghost use Rattle.std.specs.List.{All};
+ghost use Rattle.site_core.specs.Calls.{Rests};
+ghost use Rattle.fact_model.specs.declared.fact.Fact as facts;
+ghost use Rattle.select_map.specs.Selection.{tree_of};
+ghost use Rattle.select_map.specs.Views.{tree_number};
+ghost use Rattle.tree_pack.specs.Pages.{count_of};
+ghost use Rattle.tree_scan.specs.Scanning.{ArePoints, NamesPage};
+ghost use Rattle.forest_root.specs.Causes.{HasCauseWhere};
+ghost use Rattle.forest_root.specs.Forest.{counts_of, place_of};
+ghost use Rattle.forest_pages.specs.Forest.{tree_entries, view_entries};
+ghost use Rattle.forest_store.specs.Held.{AreAccepted, IsLive};
+ghost use Rattle.forest_store.specs.Opened.{IsNoDamage};
+ghost use Rattle.forest_store.specs.Trees.{AreViewPoints, HasArity, NamesPageOf, by_arity, stop_at as told_at};
+
+use crate::sizes::counts_at;
+use crate::stop::StoreStop;
+use cube_point::{Entry, EntryList};
+use fact_model::ListOf;
+use forest_root::{Forest, Store};
+use page_fmt::Place;
+use site_core::Site;
+use std::alloc::Global;
+use tree_scan::{ScanStop, read_tree};
+
+/// The bytes of a page.
+const PAGE: u64 = 4096;
+
+/// How many arities a view may have: 0 to 8.
+pub(crate) const ARITIES: usize = 9;
+
+/// The points of a view, in point order, read with at most one read for each page of its tree. Nothing is changed, also after an
+/// error.
+///
+/// `Damaged` names a page of the tree on the live side: the first that is short or not lawful, or has a point out of order; or the
+/// tree's first page, where it has not as many points of each arity as the body counts.
+pub fn points<T: Site>(
+    alloc: Global,
+    site: &mut T,
+    store: &Store,
+    view: u32,
+) -> Result<EntryList, StoreStop>
+    requires view { view < length store.now.forest.schema.views }
+
+    ensures points { IsTrue T.tells → (accepted : List facts.Fact) → AreAccepted store.now.forest.schema accepted
+        → IsLive store.now.forest.schema store.now.forest.body accepted (T.disk site.old).files
+        → IfOk result (λ points. points ≡ view_entries store.now.forest.schema accepted (get_or store.now.forest.schema.views view [])) }
+    ensures undamaged { IsTrue T.tells → (accepted : List facts.Fact) → AreAccepted store.now.forest.schema accepted
+        → IsLive store.now.forest.schema store.now.forest.body accepted (T.disk site.old).files → IfErr result IsNoDamage }
+
+    // Whatever the files hold: points of the view, as many as the body counts, or none.
+    ensures place { IfErr result (NamesPageOf (place_of store.now.forest (tree_number store.now.forest.schema.views view))) }
+    ensures each { IfOk result (AreViewPoints store.now.forest.schema (get_or store.now.forest.schema.views view [])) }
+    ensures count { IfOk result (λ points. length points ≡ slice_index store.now.forest.body.counts view) }
+    ensures disk { IsTrue T.tells → Rests (T.disk site.old) (T.disk site.new) }
+    ensures cause { HasCauseWhere StoreStop.Disk (T.disk_faults site.old) (T.disk_faults site.new) result }
+    ensures told_faults { T.told_faults site.new ≡ T.told_faults site.old }
+    ensures reads { T.reads site.new ≤ T.reads site.old
+        + (place_of store.now.forest (tree_number store.now.forest.schema.views view)).pages }
+    ensures writes { T.writes site.new ≡ T.writes site.old }
+{
+    let forest = &store.forest;
+    let entries = tree_points(alloc, site, forest, forest.mapping.tree_of(view))?;
+    let attrs = &forest.schema.views.as_slice()[view as usize];
+    Ok(of_arity(entries, attrs.as_slice().len()))
+}
+
+/// The points of this arity. It takes no memory.
+fn of_arity(entries: EntryList, arity: usize) -> EntryList
+    ensures { result ≡ filter (λ e. e.point.arity == arity) entries }
+{
+    let mut entries = entries.into_vec();
+    entries.retain(|entry| entry.point.arity as usize == arity);
+    ListOf::from_vec(entries)
+}
+
+/// The points of a tree, in point order: as many of each arity as the body counts.
+pub(crate) fn tree_points<T: Site>(
+    alloc: Global,
+    site: &mut T,
+    forest: &Forest,
+    tree: u32,
+) -> Result<EntryList, StoreStop>
+    requires tree { tree < length forest.now.mapping.trees }
+
+    ensures points { IsTrue T.tells → (accepted : List facts.Fact) → AreAccepted forest.now.schema accepted
+        → IsLive forest.now.schema forest.now.body accepted (T.disk site.old).files
+        → IfOk result (λ points. points ≡ tree_entries forest.now.schema accepted (tree_of forest.now.mapping tree)) }
+    ensures undamaged { IsTrue T.tells → (accepted : List facts.Fact) → AreAccepted forest.now.schema accepted
+        → IsLive forest.now.schema forest.now.body accepted (T.disk site.old).files → IfErr result IsNoDamage }
+
+    // Whatever the files hold.
+    ensures place { IfErr result (NamesPageOf (place_of forest.now tree)) }
+    ensures each { IfOk result (ArePoints (place_of forest.now tree).shape) }
+    ensures some { IfOk result (λ points. 0 < length points → 0 < (place_of forest.now tree).pages) }
+    ensures counts { IfOk result (λ points. by_arity points ≡ counts_of forest.now.body.counts (tree_of forest.now.mapping tree)) }
+    ensures disk { IsTrue T.tells → Rests (T.disk site.old) (T.disk site.new) }
+    ensures cause { HasCauseWhere StoreStop.Disk (T.disk_faults site.old) (T.disk_faults site.new) result }
+    ensures told_faults { T.told_faults site.new ≡ T.told_faults site.old }
+    ensures reads { T.reads site.new ≤ T.reads site.old + (place_of forest.now tree).pages }
+    ensures writes { T.writes site.new ≡ T.writes site.old }
+{
+    let place = forest.place(tree);
+    if place.pages == 0 {
+        return Ok(ListOf::new(alloc));
+    }
+    let entries = match read_tree(alloc, site, &place) {
+        Ok(entries) => entries,
+        Err(stop) => return Err(stop_at(&place, stop)),
+    };
+    if counts(entries.as_slice()) != counts_at(forest, tree) {
+        return Err(bad_page(&place, place.first));
+    }
+    Ok(entries)
+}
+
+/// How many of the points have each arity from 0 to 8.
+pub(crate) fn counts(entries: &[Entry]) -> [u64; ARITIES]
+    requires { All (λ e. e.point.arity ≤ 8) entries.now }
+    ensures { result ≡ by_arity entries.now }
+{
+    let mut counts = [0; ARITIES];
+    for entry in entries {
+        counts[entry.point.arity as usize] += 1;
+    }
+    counts
+}
+
+/// The same stop, told of the file.
+fn stop_at(place: &Place, stop: ScanStop) -> StoreStop
+    requires page { NamesPage place.now.first place.now.pages stop }
+    requires few { place.now.first + place.now.pages ≤ 2 ^ 50 }
+    ensures { result ≡ told_at place.now stop }
+{
+    match stop {
+        ScanStop::Disk => StoreStop::Disk,
+        ScanStop::Damaged { page } => bad_page(place, page),
+        ScanStop::Memory => StoreStop::Memory,
+    }
+}
+
+/// The place's page with this number is not what the warehouse writes.
+fn bad_page(place: &Place, page: u64) -> StoreStop
+    requires { page ≤ 2 ^ 50 }
+    ensures { result ≡ StoreStop.Damaged place.now.file (4096 * page) }
+{
+    StoreStop::Damaged {
+        file: place.file,
+        offset: PAGE * page,
+    }
+}
