@@ -1,15 +1,13 @@
 -- How many trees the views of a schema have, and of how many dimensions.
-use Rattle.std.proofs.Common.{◌≡◌, ◌≢◌, ◌≤◌, ◌<◌, ◌+◌, ℕ, zero, suc, List, [], ◌∷◌, length, map, get_or, Option, Some, None, refl, sym, subst, ap, ◌∙◌, arith}
-use Rattle.std.specs.Prelude.{is_some, if◌then◌else◌}
+use Rattle.std.proofs.Common.{◌≡◌, ◌≤◌, ◌<◌, ◌+◌, ℕ, zero, suc, List, [], ◌∷◌, length, map, Option, Some, None, sym, subst, arith}
 use Rattle.std.specs.List.{All, range_with_len}
-use Rattle.std.proofs.lemmas.List.{length-map, get_or-map}
-use Rattle.std.proofs.lemmas.List.FromFn.{length-range_with_len}
+use Rattle.std.proofs.lemmas.List.{length-map}
 use Rattle.cube_schema.specs.declared.schema.Schema.{Schema}
 use Rattle.cube_schema.specs.Lawful.{IsSchema}
 use Rattle.select_map.specs.declared.mapping.Mapping.{Mapping}
 use Rattle.select_map.specs.declared.mapping.Tree.{Tree}
 use Rattle.select_map.specs.Views.{View, last_from, selected, tree_at, tree_count, view_in, views_in}
-use Rattle.select_map.specs.Selection.{IsSelection, IsValid}
+use Rattle.select_map.specs.Selection.{IsSelection}
 use Rattle.select_map.proofs.Selected.{selection, schema-short}
 
 -- the last place with a view is one of the places

@@ -1,9 +1,10 @@
-//! Where the trees of a generation lie.
+//! Where the trees of a generation lie, and how many pages and points its body tells of them.
 ghost use Rattle.std.specs.Prelude.{◌≡◌, ◌≤◌, ◌<◌, ◌^◌, ℕ, length, map, slice_index};
 ghost use Rattle.std.specs.List.{All};
 ghost use Rattle.page_fmt.specs.Writing.{IsShape};
 ghost use Rattle.select_map.specs.declared.mapping.Tree as declared;
-ghost use Rattle.forest_root.specs.Forest.{count_in, pages_of, pages_of_all, place_of, shape_of};
+ghost use Rattle.select_map.specs.Selection.{tree_of};
+ghost use Rattle.forest_root.specs.Forest.{count_in, counts_of, pages_of, pages_of_all, place_of, shape_of};
 
 use crate::forest::Forest;
 use cube_point::Shape;
@@ -27,6 +28,22 @@ impl Forest {
             pages: self.pages(&trees[tree]),
             shape: self.shape(&trees[tree]),
         }
+    }
+
+    /// How many pages all trees have: the last one ends there.
+    pub fn all_pages(&self) -> u64
+        ensures { result ≡ pages_of_all self.now.schema self.now.body.counts self.now.mapping.trees }
+    {
+        self.pages_of_all(self.mapping.trees.as_slice())
+    }
+
+    /// The number of points of each view of a tree, by arity: 0 where it has none of that arity.
+    pub fn counts_at(&self, tree: u32) -> [u64; 9]
+        requires { tree < length self.now.mapping.trees }
+        ensures { result ≡ counts_of self.now.body.counts (tree_of self.now.mapping tree) }
+    {
+        let trees = self.mapping.trees.as_slice();
+        self.counts(&trees[tree as usize].view_of)
     }
 
     /// How many pages the trees have.

@@ -26,7 +26,7 @@ use Rattle.attr_dict.proofs.Kept.{all-agree, names-after, names-enter}
 use Rattle.forest_root.specs.declared.body.Body.{Body}
 use Rattle.forest_root.specs.Root.{body_at}
 use Rattle.forest_root.specs.Keeps.{LiveAt}
-use Rattle.forest_root.specs.Live.{IsFirstDamaged, IsLiveBody, NoneRaised}
+use Rattle.forest_root.specs.Live.{IsFirstDamaged, IsLiveBody}
 use Rattle.forest_root.proofs.Answered.{live_damaged, one_first}
 use Rattle.forest_root.proofs.One.{held_is_live, one_body, one_live}
 use Rattle.forest_root.specs.declared.forest.Store.{Store}
@@ -257,10 +257,6 @@ live_body schema facts body files kept live = record {
   slot = kept.0;
   at = subst (λ (b : Body). LiveAt (held schema facts) kept.0 b files) (sym (one_live (held schema facts) kept.0 kept.1 body files kept.2 live)) kept.2;
 }
-
--- some slot is raised
-pub some_live : (schema : Schema) (facts : List Fact) (files : Files) → KeepsFacts schema facts files → NoneRaised (files 0) → ⊥
-some_live schema facts files kept raised = raised kept.0 kept.2.low kept.2.raised
 
 -- files that keep facts have no slot whose body does not decode
 pub kept_decodes : (schema : Schema) (facts : List Fact) (slot : ℕ) (files : Files) → KeepsFacts schema facts files → IsFirstDamaged slot (files 0) → ⊥

@@ -3,7 +3,7 @@ use Rattle.std.proofs.Common.{◌≡◌, List, ℕ, inl, sym, subst, ◌∙◌}
 use Rattle.site_core.specs.Disk.{Files, Disk}
 use Rattle.site_core.specs.Calls.{Stays, Rests}
 use Rattle.site_core.specs.Moments.{IsStable, LeavesOnly}
-use Rattle.site_core.proofs.Run.{started, each_moment}
+use Rattle.site_core.proofs.Run.{each_moment}
 use Rattle.fact_model.specs.declared.fact.Fact.{Fact}
 use Rattle.forest_root.specs.declared.body.Body.{Body}
 use Rattle.cube_schema.specs.declared.schema.Schema.{Schema}
@@ -14,14 +14,6 @@ use Rattle.forest_store.specs.Opened.{HasRoot, IsOpened}
 -- files with a live body keep its facts
 pub live_keeps : (schema : Schema) (live : Body) (facts : List Fact) (files : Files) → IsLive schema live facts files → KeepsFacts schema facts files
 live_keeps schema live facts files is = (is.slot, live, is.at)
-
--- a run that does nothing; `only` is the site's law only_now
-pub rests_keeping : (schema : Schema) (live : Body) (facts all : List Fact) (disk : Disk) → IsLive schema live facts disk.files → IsStable disk
-    → ((told : List ℕ) (files : Files) → disk.left_since disk.clock told files → (told ≡ disk.told) × disk.may_leave files)
-    → LeavesOnly disk disk (λ told files. (told ≡ disk.told) × KeepsEither schema facts all files)
-rests_keeping schema live facts all disk is stable only = started disk (λ told files. (told ≡ disk.told) × KeepsEither schema facts all files) (λ told files left.
-    let now = only told files left in
-    (now.0, inl (subst (KeepsFacts schema facts) (sym (stable files now.1)) (live_keeps schema live facts disk.files is))))
 
 -- after calls that change nothing a stop still leaves what a read gives
 pub rests_stable : (old new : Disk) → Rests old new → IsStable old → IsStable new

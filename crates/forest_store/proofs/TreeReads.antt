@@ -1,5 +1,5 @@
 -- A tree of files that keep facts is read as its points, of which there are as many as the body counts.
-use Rattle.std.proofs.Common.{◌≡◌, ◌<◌, ◌+◌, ◌%◌, ℕ, Bool, true, false, Result, Ok, IfOk, IfErr, List, [], length, take, refl, sym, ap, ◌∙◌, subst, arith}
+use Rattle.std.proofs.Common.{◌≡◌, inl, ◌<◌, ◌+◌, ◌%◌, ℕ, Bool, true, false, Result, Ok, Err, IfOk, IfErr, List, [], length, take, refl, sym, ap, ◌∙◌, subst, arith}
 use Rattle.std.specs.Prelude.{not, slice_index}
 use Rattle.std.specs.Str.{bytes_eq}
 use Rattle.std.proofs.lemmas.Slice.Eq.{bytes_eq-Decides}
@@ -31,7 +31,7 @@ use Rattle.forest_pages.proofs.Scanned.{tree-scanned}
 use Rattle.forest_pages.proofs.Selected.{tree-counted}
 use Rattle.forest_store.specs.Held.{AreAccepted, IsLive}
 use Rattle.forest_store.specs.Opened.{IsNoDamage}
-use Rattle.forest_store.specs.Trees.{by_arity, stop_at}
+use Rattle.forest_store.specs.Trees.{TellsDamage, by_arity, stop_at}
 use Rattle.forest_store.proofs.Places.{nine-slots, there}
 use Rattle.forest_store.proofs.Storable.{storable}
 
@@ -62,6 +62,19 @@ scan-undamaged place scans.Memory h = tt
 -- no page is read as no points
 pub nothing-scanned : (place : Place) (bytes : List ℕ) → place.pages ≡ 0 → IsScanned place.shape bytes place.first place.pages (Ok [])
 nothing-scanned place bytes none = subst (λ n. IsScanned place.shape bytes place.first n (Ok [])) (sym none) ((λ number low high. absurd (omega (arith, low, high))), refl)
+
+-- damage that a scan of a tree tells is where the tree is damaged
+pub scan-damage : (forest : Forest) (files : Files) (t : ℕ) (place : Place) (stop : ScanStop) → place ≡ place_of forest t
+    → IsScanned place.shape (files place.file) place.first place.pages (Err stop) → TellsDamage forest files t (stop_at place stop)
+scan-damage forest files t place stop same scanned =
+    subst (λ p. TellsDamage forest files t (stop_at p stop)) (sym same)
+    (by stop (subst (λ (p : Place). IsScanned p.shape (files p.file) p.first p.pages (Err stop)) same scanned))
+  where
+    by : (stop : ScanStop) → IsScanned (place_of forest t).shape (files (place_of forest t).file) (place_of forest t).first (place_of forest t).pages (Err stop)
+        → TellsDamage forest files t (stop_at (place_of forest t) stop)
+    by scans.Disk is = tt
+    by (scans.Damaged page) is = (page, inl is, refl, refl)
+    by scans.Memory is = tt
 
 module _ (forest : Forest) (t : ℕ) (lt : t < length forest.mapping.trees) where
   abbrev schema : Schema

@@ -1,21 +1,23 @@
 -- The points of a tree and of a view, read from their pages.
-use Rattle.std.specs.Prelude.{◌≡◌, ℕ, ◌+◌, ◌*◌, ◌<◌, ◌≤◌, true, List, [], get_or, length, map}
+use Rattle.std.specs.Prelude.{◌≡◌, ◌≢◌, ◌⊎◌, ℕ, ◌+◌, ◌*◌, ◌<◌, ◌≤◌, ◌==◌, true, List, [], filter, get_or, length, map}
 use Rattle.std.specs.List.{All, range_with_len}
+use Rattle.site_core.specs.Disk.{Files}
 use Rattle.fact_model.specs.declared.fact.Fact.{Fact}
 use Rattle.cube_point.specs.declared.point.Entry.{Entry}
 use Rattle.cube_point.specs.declared.point.Shape.{Shape}
 use Rattle.cube_schema.specs.declared.schema.Schema.{Schema}
 use Rattle.cube_schema.specs.Kinds.{measure_count}
-use Rattle.select_map.specs.Views.{View, selected}
+use Rattle.select_map.specs.Selection.{tree_of}
+use Rattle.select_map.specs.Views.{View, selected, tree_number}
 use Rattle.view_points.specs.Codes.{names_of}
 use Rattle.delta_agg.specs.Trees.{named_tree}
 use Rattle.forest_root.specs.declared.forest.Forest.{Forest}
-use Rattle.forest_root.specs.Forest.{place_of}
+use Rattle.forest_root.specs.Forest.{counts_of, place_of}
 use Rattle.page_fmt.specs.declared.page.Place.{Place}
 use Rattle.page_fmt.specs.Taking.{ascend, entry_before}
 use Rattle.page_fmt.specs.Writing.{FitsLeaf}
 use Rattle.tree_pack.specs.Pages.{count_of}
-use Rattle.tree_scan.specs.Scanning.{ArePoints}
+use Rattle.tree_scan.specs.Scanning.{AreGood, ArePoints, IsFirstBad, entries_of}
 use Rattle.tree_scan.specs.declared.scan.ScanStop.{ScanStop}
 use Rattle.tree_scan.specs.declared.scan.ScanStop.TheVariants as scans
 use Rattle.forest_store.specs.declared.stop.StoreStop.{StoreStop}
@@ -25,9 +27,48 @@ use Rattle.forest_store.specs.declared.stop.StoreStop.TheVariants as stops
 abbrev pub by_arity : List Entry → List ℕ
 by_arity es = map (λ arity. count_of arity es) (range_with_len 0 9)
 
+-- the points of all pages that stand there, and that these pages are good, or which is the first that is not
+abbrev pub entries_at : Place → Files → List Entry
+entries_at place files = entries_of place.shape (files place.file) place.first place.pages
+
+abbrev pub AreGoodIn : Place → Files → Type 0
+AreGoodIn place files = AreGood place.shape (files place.file) place.first place.pages
+
+abbrev pub IsFirstBadIn : Place → Files → ℕ → Type 0
+IsFirstBadIn place files page = IsFirstBad place.shape (files place.file) place.first place.pages page
+
 -- the entry's point has so many coordinates
 abbrev pub HasArity : ℕ → Entry → Type 0
 HasArity arity e = e.point.arity ≡ arity
+
+-- these are the points of a tree in these files: each of its pages is there and lawful, its points come after all before them, and there
+-- are as many of each arity as the body counts
+pub record IsTreeIn (forest : Forest) (files : Files) (t : ℕ) (es : List Entry) : Type 0 where
+  pub good : AreGoodIn (place_of forest t) files
+  pub points : es ≡ entries_at (place_of forest t) files
+  pub counted : by_arity es ≡ counts_of forest.body.counts (tree_of forest.mapping t)
+
+-- the tree is damaged at this page: it is the first that is not good; or all are good, but the points are not as many as the body counts,
+-- and it is the tree's first page
+abbrev pub IsDamagedAt : Forest → Files → ℕ → ℕ → Type 0
+IsDamagedAt forest files t page =
+    IsFirstBadIn (place_of forest t) files page
+    ⊎ (AreGoodIn (place_of forest t) files
+    × (by_arity (entries_at (place_of forest t) files) ≢ counts_of forest.body.counts (tree_of forest.mapping t))
+    × (page ≡ (place_of forest t).first))
+
+-- damage that is told is where the tree is damaged
+abbrev pub TellsDamage : Forest → Files → ℕ → StoreStop → Type 0
+TellsDamage forest files t (stops.Damaged file offset) =
+    (page : ℕ) × IsDamagedAt forest files t page × (file ≡ (place_of forest t).file) × (offset ≡ 4096 * page)
+TellsDamage forest files t stops.Disk = Unit {0}
+TellsDamage forest files t stops.Memory = Unit {0}
+
+-- these are the points of a view in these files: those of its arity in its tree
+abbrev pub IsViewIn : Forest → Files → ℕ → List Entry → Type 0
+IsViewIn forest files view es =
+    (all : List Entry) × IsTreeIn forest files (tree_number forest.schema.views view) all
+    × (es ≡ filter (λ e. e.point.arity == length (get_or forest.schema.views view [])) all)
 
 -- points of a view: in order, of its arity, and each as a leaf may hold it
 pub record AreViewPoints (schema : Schema) (view : View) (es : List Entry) : Type 0 where

@@ -10,7 +10,6 @@ mod packed;
 mod plan;
 mod reading;
 mod schema_text;
-mod sizes;
 mod stop;
 
 pub use declaring::declare;

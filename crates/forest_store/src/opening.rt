@@ -16,7 +16,6 @@ ghost use Rattle.forest_store.specs.Opening.{Place, is_zero, names_pages, slot_o
 ghost use Rattle.forest_store.specs.Opened.{IsWarehouse, IsNoDamage, Judges, JudgesRest, MayBeOpened, NamesPlace};
 
 use crate::schema_text::declared_by;
-use crate::sizes::all_pages;
 use crate::stop::StoreStop;
 use attr_dict::{Dicts, NamesStop};
 use cube_schema::Schema;
@@ -150,7 +149,7 @@ fn open_declared<T: Site>(
     };
     let side = SIDE + slot(&forest.body);
     let end = site.length(side)?;
-    if end / (PAGE as u64) < all_pages(&forest) {
+    if end / (PAGE as u64) < forest.all_pages() {
         return Err(damaged(side, end));
     }
     Ok(Some(Store { forest, dicts }))

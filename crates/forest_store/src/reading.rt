@@ -12,9 +12,8 @@ ghost use Rattle.forest_root.specs.Forest.{counts_of, place_of};
 ghost use Rattle.forest_pages.specs.Forest.{tree_entries, view_entries};
 ghost use Rattle.forest_store.specs.Held.{AreAccepted, IsLive};
 ghost use Rattle.forest_store.specs.Opened.{IsNoDamage};
-ghost use Rattle.forest_store.specs.Trees.{AreViewPoints, HasArity, NamesPageOf, by_arity, stop_at as told_at};
+ghost use Rattle.forest_store.specs.Trees.{AreViewPoints, HasArity, IsTreeIn, IsViewIn, NamesPageOf, TellsDamage, by_arity, stop_at as told_at};
 
-use crate::sizes::counts_at;
 use crate::stop::StoreStop;
 use cube_point::{Entry, EntryList};
 use fact_model::ListOf;
@@ -49,7 +48,10 @@ pub fn points<T: Site>(
     ensures undamaged { IsTrue T.tells → (accepted : List facts.Fact) → AreAccepted store.now.forest.schema accepted
         → IsLive store.now.forest.schema store.now.forest.body accepted (T.disk site.old).files → IfErr result IsNoDamage }
 
-    // Whatever the files hold: points of the view, as many as the body counts, or none.
+    // Whatever the files hold: the points of the view in a tree that is whole, or the page at which it is damaged.
+    ensures whole { IsTrue T.tells → IfOk result (IsViewIn store.now.forest (T.disk site.old).files view) }
+    ensures damage { IsTrue T.tells
+        → IfErr result (TellsDamage store.now.forest (T.disk site.old).files (tree_number store.now.forest.schema.views view)) }
     ensures place { IfErr result (NamesPageOf (place_of store.now.forest (tree_number store.now.forest.schema.views view))) }
     ensures each { IfOk result (AreViewPoints store.now.forest.schema (get_or store.now.forest.schema.views view [])) }
     ensures count { IfOk result (λ points. length points ≡ slice_index store.now.forest.body.counts view) }
@@ -90,7 +92,9 @@ pub(crate) fn tree_points<T: Site>(
     ensures undamaged { IsTrue T.tells → (accepted : List facts.Fact) → AreAccepted forest.now.schema accepted
         → IsLive forest.now.schema forest.now.body accepted (T.disk site.old).files → IfErr result IsNoDamage }
 
-    // Whatever the files hold.
+    // Whatever the files hold: the points of a tree that is whole, or the page at which it is damaged.
+    ensures whole { IsTrue T.tells → IfOk result (IsTreeIn forest.now (T.disk site.old).files tree) }
+    ensures damage { IsTrue T.tells → IfErr result (TellsDamage forest.now (T.disk site.old).files tree) }
     ensures place { IfErr result (NamesPageOf (place_of forest.now tree)) }
     ensures each { IfOk result (ArePoints (place_of forest.now tree).shape) }
     ensures some { IfOk result (λ points. 0 < length points → 0 < (place_of forest.now tree).pages) }
@@ -109,7 +113,7 @@ pub(crate) fn tree_points<T: Site>(
         Ok(entries) => entries,
         Err(stop) => return Err(stop_at(&place, stop)),
     };
-    if counts(entries.as_slice()) != counts_at(forest, tree) {
+    if counts(entries.as_slice()) != forest.counts_at(tree) {
         return Err(bad_page(&place, place.first));
     }
     Ok(entries)

@@ -340,6 +340,18 @@ leaf-size shape arity es is =
     let two = (is_number 2).long n (size-fits size n pos is.count) in
     omega (arith, long, few, two, length-append (coded 2 n) (zeros 4 ++ (body ++ zeros (4088 - length body))), length-append body (zeros (4088 - length body)), length-replicate {A = ℕ} (4088 - length body) 0)
 
+-- an inner page has it too
+pub inner-size : (shape : Shape) (own : ℕ) (cs : List Child) → shape.dims ≤ 8 → IsInner shape own cs → length (inner_bytes shape.dims cs) ≡ 4096
+inner-size shape own cs dims is =
+    let size = child_size shape.dims in
+    let some : 0 < size = omega arith in
+    let n = length cs in
+    let body = flat_map (child_bytes shape.dims) cs in
+    let long = many-long size (child_bytes shape.dims) (child_of shape.dims) (IsChild shape.dims) (child_format shape.dims dims) n cs is.stored in
+    let few = (counted size n some is.count).0 in
+    let two = (is_number 2).long n (size-fits size n some is.count) in
+    omega (arith, long, few, two, length-append (coded 2 n) (zeros 4 ++ (body ++ zeros (4088 - length body))), length-append body (zeros (4088 - length body)), length-replicate {A = ℕ} (4088 - length body) 0)
+
 -- the entries and children that were written
 pub leaf-entries : (shape : Shape) (arity : ℕ) (es : List Entry) → IsLeaf shape arity es → entries shape.measures (leaf_bytes arity shape.measures es) ≡ es
 unfolding entries

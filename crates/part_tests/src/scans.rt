@@ -151,42 +151,44 @@ const BYTE_BEHIND: Page<'static> = &[(0, 1), (1, 1), (3, 1), (11, 9), (19, 1), (
 /// An inner page that names itself.
 const OWN_CHILD: Page<'static> = &[(0, 2), (1, 2), (3, 1), (31, 3)];
 
+/// Pages that are damaged, cut at a length, with the number of the page that is named.
+const DAMAGED: [(&str, [Page<'static>; 3], usize, u64); 10] = [
+    ("leaves exchanged", [SECOND_LEAF, FIRST_LEAF, TOP], 16384, 2),
+    (
+        "the same leaf twice",
+        [FIRST_LEAF, FIRST_LEAF, TOP],
+        16384,
+        2,
+    ),
+    (
+        "a coordinate of zero",
+        [ZERO_COORDINATE, SECOND_LEAF, TOP],
+        16384,
+        1,
+    ),
+    (
+        "a byte behind the entries",
+        [FIRST_LEAF, BYTE_BEHIND, TOP],
+        16384,
+        2,
+    ),
+    (
+        "a page that is its own child",
+        [FIRST_LEAF, SECOND_LEAF, OWN_CHILD],
+        16384,
+        3,
+    ),
+    ("two pages", [BYTE_BEHIND, ZERO_COORDINATE, TOP], 16384, 1),
+    ("a byte too few", [FIRST_LEAF, SECOND_LEAF, TOP], 16383, 3),
+    ("a page too few", [FIRST_LEAF, SECOND_LEAF, TOP], 12288, 3),
+    ("half a page", [FIRST_LEAF, SECOND_LEAF, TOP], 10000, 2),
+    ("no page", [FIRST_LEAF, SECOND_LEAF, TOP], 0, 1),
+];
+
 #[test]
 fn the_first_damaged_page_is_named(rt: HostRuntime) -> Result<(), Fail> {
     let alloc = rt.alloc();
-    let cases: [(&str, [Page<'_>; 3], usize, u64); 10] = [
-        ("leaves exchanged", [SECOND_LEAF, FIRST_LEAF, TOP], 16384, 2),
-        (
-            "the same leaf twice",
-            [FIRST_LEAF, FIRST_LEAF, TOP],
-            16384,
-            2,
-        ),
-        (
-            "a coordinate of zero",
-            [ZERO_COORDINATE, SECOND_LEAF, TOP],
-            16384,
-            1,
-        ),
-        (
-            "a byte behind the entries",
-            [FIRST_LEAF, BYTE_BEHIND, TOP],
-            16384,
-            2,
-        ),
-        (
-            "a page that is its own child",
-            [FIRST_LEAF, SECOND_LEAF, OWN_CHILD],
-            16384,
-            3,
-        ),
-        ("two pages", [BYTE_BEHIND, ZERO_COORDINATE, TOP], 16384, 1),
-        ("a byte too few", [FIRST_LEAF, SECOND_LEAF, TOP], 16383, 3),
-        ("a page too few", [FIRST_LEAF, SECOND_LEAF, TOP], 12288, 3),
-        ("half a page", [FIRST_LEAF, SECOND_LEAF, TOP], 10000, 2),
-        ("no page", [FIRST_LEAF, SECOND_LEAF, TOP], 0, 1),
-    ];
-    for (case, pages, length, page) in cases {
+    for (case, pages, length, page) in DAMAGED {
         let mut site = site_of(alloc, &pages, length)?;
         let found = read(alloc, &mut site, 3);
         assert_eq!(rt; found, Err(ScanStop::Damaged { page }), "at {case}");

@@ -1,9 +1,7 @@
-use Rattle.std.proofs.Common.{◌≡◌, ◌≤◌, ◌<◌, ◌+◌, ◌%◌, ◌^◌, ℕ, List, length, take, get_or, subst, sym, ap, ◌∙◌, arith, length-take, min}
+use Rattle.std.proofs.Common.{◌≡◌, ◌≤◌, ◌<◌, ◌+◌, ◌%◌, ℕ, List, length, take, get_or, subst, sym, ap, ◌∙◌, arith, length-take}
 use Rattle.std.specs.List.{All}
 use Rattle.std.proofs.lemmas.List.{get_or_default}
 use Rattle.std.proofs.lemmas.List.Elements.{All-take}
-use Rattle.cube_schema.specs.declared.schema.Schema.{Schema}
-use Rattle.page_fmt.specs.declared.page.Place.{Place}
 use Rattle.select_map.specs.declared.mapping.Tree.{Tree}
 use Rattle.select_map.specs.Selection.{no_tree}
 use Rattle.forest_root.specs.Forest.{place_of, pages_of_all, pages_of, shape_of}
