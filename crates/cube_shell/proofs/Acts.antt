@@ -1,5 +1,5 @@
 -- Two laws of the plain machine: each reply has a byte, and a command that makes no stage leaves what is known.
-use Rattle.std.proofs.Common.{◌⊎◌, inl, inr, ◌≡◌, ◌<◌, ℕ, ◌+◌, Bool, true, false, cond, List, [], ◌∷◌, ◌++◌, length, map, Option, Some, None, Result, Ok, Err, refl, ◌∙◌, ap, append-nil, arith, length-append, codes, decimal, nat_lt, nat_le}
+use Rattle.std.proofs.Common.{◌⊎◌, inl, inr, ◌≡◌, ◌<◌, ℕ, ◌+◌, Bool, true, false, cond, List, [], ◌∷◌, ◌++◌, get_or, length, map, Option, Some, None, Result, Ok, Err, refl, ◌∙◌, ap, append-nil, arith, length-append, codes, decimal, nat_lt, nat_le}
 use Rattle.std.proofs.lemmas.Bool.Decides.{nat_tests}
 use Rattle.cube_schema.specs.declared.schema.Schema.{Schema}
 use Rattle.cube_schema.specs.declared.schema.SchemaRefusal.{SchemaRefusal}
@@ -10,19 +10,18 @@ use Rattle.fact_csv.specs.declared.refusal.RowRefusal.{RowRefusal}
 use Rattle.fact_csv.specs.declared.refusal.RowRefusal.TheVariants as rows
 use Rattle.fact_model.specs.declared.fact.Fact.{Fact}
 use Rattle.fact_model.specs.declared.slice.Row.{Row}
-use Rattle.fact_model.specs.Rows.{rows as rows_of, keys_of}
+use Rattle.fact_model.specs.Rows.{rows as rows_of}
 use Rattle.csv_text.specs.Rows.{row_fields, rows_text}
-use Rattle.leaf_store.specs.Built.{is_built, view_of}
-use Rattle.leaf_store.specs.Held.{leaf_limit}
 use Rattle.script_lang.specs.declared.command.Block.{Block}
 use Rattle.script_lang.specs.declared.command.Block.TheVariants.{Whole, Long}
 use Rattle.script_lang.specs.declared.command.Command.{Command}
 use Rattle.script_lang.specs.declared.command.Command.TheVariants as says
+use Rattle.cube_shell.specs.declared.asked.ViewSums.{ViewSums}
 use Rattle.cube_shell.specs.World.{World, Warehouse}
 use Rattle.reply_text.specs.Replies.{line, numbered, schema_text, batch_text, answer_text}
 use Rattle.view_rows.specs.Sums.{sums_of}
 use Rattle.cube_shell.specs.Slices.{asked}
-use Rattle.cube_shell.specs.Machine.{status_text, Answer, act, declared, declare, fact_limit, first_full, first_heavy, within_leaf, within_masses, within_names, loaded, load, answered, slice, replies_with}
+use Rattle.cube_shell.specs.Machine.{status_text, Answer, act, declared, declare, fact_limit, first_full, first_heavy, within_masses, within_names, loaded, load, answered, slice, replies_with}
 use Rattle.cube_shell.specs.Headline.{size, makes_stage}
 
 -- ---- replies have a byte
@@ -61,21 +60,16 @@ batch_some rows.Memory = some_line []
 
 declared_some : (read : Result Schema SchemaRefusal) → 0 < length (declared read).1
 declared_some (Err refusal) = schema_some refusal
-declared_some (Ok schema) = either (is_built schema) _ _ (some_line (codes "declared")) (some_line (codes "refused unbuilt"))
+declared_some (Ok schema) = some_line (codes "declared")
 
 declare_some : (world : World) (block : Block) → 0 < length (declare world block).1
 declare_some (Some warehouse) block = some_line (codes "refused declared")
 declare_some None Long = some_line (codes "refused schema block")
 declare_some None (Whole bytes) = declared_some (schema_of bytes)
 
-within_leaf_some : (warehouse : Warehouse) (all : List Fact) → 0 < length (within_leaf warehouse all).1
-within_leaf_some warehouse all =
-    either (nat_le (length (keys_of (sums_of (view_of warehouse.schema) 0) all)) (leaf_limit warehouse.schema)) _ _
-    (some_number (codes "committed ") (length all)) (some_line (codes "refused unbuilt"))
-
 within_masses_some : (warehouse : Warehouse) (all : List Fact) (heavy : Option (List ℕ)) → 0 < length (within_masses warehouse all heavy).1
 within_masses_some warehouse all (Some name) = behind (codes "refused mass ") _ (some_line name)
-within_masses_some warehouse all None = within_leaf_some warehouse all
+within_masses_some warehouse all None = some_number (codes "committed ") (length all)
 
 within_names_some : (warehouse : Warehouse) (all : List Fact) (full : Option (List ℕ)) → 0 < length (within_names warehouse all full).1
 within_names_some warehouse all (Some name) = behind (codes "refused names ") _ (some_line name)
@@ -96,9 +90,9 @@ load_some (Some warehouse) (Whole bytes) = loaded_some warehouse (batch_of wareh
 answer_some : (found : List Row) → 0 < length (answer_text found)
 answer_some found = behind (rows_text (map row_fields found)) _ (some_number (codes "rows ") (length found))
 
-answered_some : (warehouse : Warehouse) (measure : Option ℕ) → 0 < length (answered warehouse measure).1
+answered_some : (warehouse : Warehouse) (found : Option ViewSums) → 0 < length (answered warehouse found).1
 answered_some warehouse None = some_line (codes "refused unbuilt")
-answered_some warehouse (Some m) = answer_some (rows_of warehouse.facts (sums_of (view_of warehouse.schema) m))
+answered_some warehouse (Some wanted) = answer_some (rows_of warehouse.facts (sums_of (get_or warehouse.schema.views wanted.view []) wanted.measure))
 
 slice_some : (world : World) (text : List ℕ) → 0 < length (slice world text).1
 slice_some None text = some_line (codes "refused no schema")
@@ -135,7 +129,7 @@ stays_either world false x y p q = q
 
 declared_stage : (read : Result Schema SchemaRefusal) → StaysOrGrows None (declared read)
 declared_stage (Err refusal) = λ h. refl
-declared_stage (Ok schema) = stays_either None (is_built schema) _ _ (λ h. absurd (cc)) (λ h. refl)
+declared_stage (Ok schema) = λ h. absurd (cc)
 
 declare_stage : (world : World) (block : Block) → StaysOrGrows world (declare world block)
 declare_stage (Some warehouse) block = λ h. refl
@@ -151,17 +145,11 @@ same_facts facts batch h =
     let none : batch ≡ [] = nothing_added batch (grind (arith, nat_tests, length-append facts batch)) in
     ap (λ (l : List Fact). facts ++ l) none ∙ append-nil facts
 
-within_leaf_stage : (warehouse : Warehouse) (batch : List Fact) → StaysOrGrows (Some warehouse) (within_leaf warehouse (warehouse.facts ++ batch))
-within_leaf_stage warehouse batch =
-    stays_either (Some warehouse)
-    (nat_le (length (keys_of (sums_of (view_of warehouse.schema) 0) (warehouse.facts ++ batch))) (leaf_limit warehouse.schema)) _ _
-    (λ h. ap (λ (l : List Fact). Some (record { schema = warehouse.schema; facts = l })) (same_facts warehouse.facts batch h))
-    (λ h. refl)
-
 within_masses_stage : (warehouse : Warehouse) (batch : List Fact) (heavy : Option (List ℕ))
     → StaysOrGrows (Some warehouse) (within_masses warehouse (warehouse.facts ++ batch) heavy)
 within_masses_stage warehouse batch (Some name) = λ h. refl
-within_masses_stage warehouse batch None = within_leaf_stage warehouse batch
+within_masses_stage warehouse batch None =
+    λ h. ap (λ (l : List Fact). Some (record { schema = warehouse.schema; facts = l })) (same_facts warehouse.facts batch h)
 
 within_names_stage : (warehouse : Warehouse) (batch : List Fact) (full : Option (List ℕ))
     → StaysOrGrows (Some warehouse) (within_names warehouse (warehouse.facts ++ batch) full)
@@ -180,9 +168,9 @@ load_stage None block = λ h. refl
 load_stage (Some warehouse) Long = λ h. refl
 load_stage (Some warehouse) (Whole bytes) = loaded_stage warehouse (batch_of warehouse.schema bytes)
 
-answered_stage : (warehouse : Warehouse) (measure : Option ℕ) → StaysOrGrows (Some warehouse) (answered warehouse measure)
+answered_stage : (warehouse : Warehouse) (found : Option ViewSums) → StaysOrGrows (Some warehouse) (answered warehouse found)
 answered_stage warehouse None = λ h. refl
-answered_stage warehouse (Some m) = λ h. refl
+answered_stage warehouse (Some wanted) = λ h. refl
 
 slice_stage : (world : World) (text : List ℕ) → StaysOrGrows world (slice world text)
 slice_stage None text = λ h. refl

@@ -3,9 +3,9 @@ use Rattle.std.proofs.Common.{◌≡◌, ℕ, List, inl, Result, Ok, Err, IfOk, 
 use Rattle.site_core.specs.Disk.{Files, Disk}
 use Rattle.site_core.specs.Calls.{Stays, Rests}
 use Rattle.site_core.proofs.Run.{started, each_moment}
-use Rattle.leaf_store.specs.declared.store.Store.{Store}
-use Rattle.leaf_store.specs.Stored.{IsStoreOf}
-use Rattle.leaf_store.proofs.Standing.{rests_stable}
+use Rattle.forest_root.specs.declared.forest.Store.{Store}
+use Rattle.forest_store.specs.Stored.{IsStoreOf}
+use Rattle.forest_store.proofs.Standing.{rests_stable}
 use Rattle.cube_shell.specs.declared.answered.Answered.{Answered}
 use Rattle.cube_shell.specs.declared.state.State.{State}
 use Rattle.cube_shell.specs.declared.state.State.TheVariants.{Stopped, Empty, Idle}

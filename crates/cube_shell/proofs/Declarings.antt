@@ -1,29 +1,23 @@
 -- What declaring a schema leaves.
-use Rattle.std.proofs.Common.{◌≡◌, ◌⊎◌, inl, inr, [], Ok, None, refl, sym, ap, subst}
-use Rattle.std.specs.Prelude.{IsTrue, codes}
+use Rattle.std.proofs.Common.{◌≡◌, ◌⊎◌, inl, inr, [], Ok, None}
 use Rattle.site_core.specs.Disk.{Files, Disk}
 use Rattle.site_core.specs.Moments.{IsStable, LeavesOnly}
 use Rattle.site_core.proofs.Run.{wider}
 use Rattle.cube_schema.specs.Lawful.{IsSchema}
 use Rattle.cube_schema.specs.declared.schema.Schema.{Schema}
 use Rattle.forest_root.specs.Keeps.{KeepsNothing}
-use Rattle.leaf_store.specs.declared.store.Store.{Store}
-use Rattle.leaf_store.specs.Built.{is_built}
-use Rattle.leaf_store.specs.Held.{KeepsFacts}
-use Rattle.leaf_store.specs.Stored.{IsStoreOf}
-use Rattle.leaf_store.proofs.Declared.{none_accepted}
-use Rattle.reply_text.specs.Replies.{line}
-use Rattle.cube_shell.specs.Keeps.{IsLawful, Keeps}
-use Rattle.cube_shell.specs.Machine.{Answer, declared, empty}
+use Rattle.forest_root.specs.declared.forest.Store.{Store}
+use Rattle.forest_store.specs.Held.{KeepsFacts}
+use Rattle.forest_store.specs.Stored.{IsStoreOf}
+use Rattle.forest_store.proofs.Declared.{none_accepted}
+use Rattle.cube_shell.specs.Keeps.{IsLawful}
+use Rattle.cube_shell.specs.Machine.{declared}
 use Rattle.cube_shell.specs.Session.{Belongs, Between, KeepsEither}
 
-module _ (schema : Schema) (lawful : IsSchema schema) (built : IsTrue (is_built schema)) where
+module _ (schema : Schema) (lawful : IsSchema schema) where
   -- no facts keep all limits
   empty_lawful : IsLawful (record { schema = schema; facts = [] })
-  empty_lawful = record { schema = lawful; built = built; accepted = none_accepted schema }
-
-  pub declared_answer : declared (Ok schema) ≡ (empty schema, line (codes "declared"))
-  declared_answer = rw built refl
+  empty_lawful = record { schema = lawful; accepted = none_accepted schema }
 
   pub declared_moments : (old new : Disk) → LeavesOnly old new (λ told files. (told ≡ old.told) × (KeepsNothing files ⊎ KeepsFacts schema [] files))
       → Between old new None (declared (Ok schema)).0
@@ -31,8 +25,8 @@ module _ (schema : Schema) (lawful : IsSchema schema) (built : IsTrue (is_built 
     where
       by : (files : Files) → KeepsNothing files ⊎ KeepsFacts schema [] files → KeepsEither None (declared (Ok schema)).0 files
       by files (inl nothing) = inl nothing
-      by files (inr kept) = inr (subst (Keeps files) (sym (ap (λ (a : Answer). a.0) declared_answer)) (record { lawful = empty_lawful; kept = kept }))
+      by files (inr kept) = inr (record { lawful = empty_lawful; kept = kept })
 
-  pub declared_belongs : (store : Store) (disk : Disk) → store.schema ≡ schema → IsStoreOf store [] disk.files → IsStable disk
+  pub declared_belongs : (store : Store) (disk : Disk) → store.forest.schema ≡ schema → IsStoreOf store [] disk.files → IsStable disk
       → Belongs store disk (record { schema = schema; facts = [] })
   declared_belongs store disk is stored stable = record { lawful = empty_lawful; schema = is; stored = stored; stable = stable }

@@ -7,37 +7,23 @@ use Rattle.std.specs.List.{All}
 use Rattle.std.specs.Prelude.{nat_lt}
 use Rattle.fact_model.specs.declared.fact.Fact.{Fact}
 use Rattle.fact_model.specs.Fact.{mass, mass_limit}
-use Rattle.fact_model.specs.Rows.{keys_of}
 use Rattle.cube_schema.specs.Agreeing.{Agrees}
-use Rattle.cube_schema.specs.Kinds.{max_at, max_of, measure_count, no_attr}
+use Rattle.cube_schema.specs.Kinds.{max_at, max_of, no_attr}
 use Rattle.cube_schema.specs.Lawful.{IsSchema}
 use Rattle.cube_schema.specs.declared.schema.Attr.{Attr}
 use Rattle.cube_schema.specs.declared.schema.Schema.{Schema}
 use Rattle.view_points.specs.Codes.{names_of}
-use Rattle.view_points.specs.Points.{points}
-use Rattle.attr_dict.specs.Book.{no_names}
 use Rattle.attr_dict.proofs.Kept.{all-agree, names-past}
-use Rattle.view_rows.specs.Sums.{sums_of}
-use Rattle.view_rows.proofs.PointSums.{key-count}
-use Rattle.leaf_store.specs.declared.load.Refusal.{Refusal}
-use Rattle.leaf_store.specs.declared.load.Refusal.TheVariants as refusals
-use Rattle.leaf_store.specs.Built.{view_of}
-use Rattle.leaf_store.specs.Held.{AreAccepted, HasMasses, HasNames, leaf_limit}
-use Rattle.leaf_store.specs.Loading.{IsRefused}
-use Rattle.leaf_store.proofs.Named.{view_kinds}
-use Rattle.leaf_store.proofs.Openings.{mass_past}
-use Rattle.leaf_store.proofs.Views.{few_measures}
+use Rattle.forest_store.specs.declared.loading.Refusal.{Refusal}
+use Rattle.forest_store.specs.declared.loading.Refusal.TheVariants as refusals
+use Rattle.forest_store.specs.Held.{AreAccepted, HasNames}
+use Rattle.forest_store.specs.Loading.{IsRefused}
+use Rattle.forest_store.proofs.Openings.{mass_past}
+use Rattle.forest_store.proofs.Schemas.{few_measures}
 use Rattle.reply_text.specs.Replies.{committed_text}
-use Rattle.cube_shell.specs.Machine.{accepted, fact_limit, first_full, first_heavy, within_leaf, within_masses, within_names}
+use Rattle.cube_shell.specs.Machine.{accepted, fact_limit, first_full, first_heavy, within_masses, within_names}
 use Rattle.cube_shell.specs.Refusals.{refusal_text}
 use Rattle.cube_shell.specs.World.{Warehouse}
-
--- ---- the points are as many as the keys
-
-key_points : (schema : Schema) (facts : List Fact) → IsSchema schema → All (Agrees schema) facts
-    → length (keys_of (sums_of (view_of schema) 0) facts) ≡ length (points (measure_count schema) (view_of schema) facts)
-key_points schema facts lawful each =
-    key-count (no_names schema).kinds (measure_count schema) (view_of schema) facts (view_kinds schema (no_names schema) refl lawful) (all-agree schema facts each) 0
 
 -- ---- the first attribute with too many names
 
@@ -101,9 +87,6 @@ module _ (warehouse : Warehouse) (batch : List Fact) (lawful : IsSchema warehous
   abbrev few : Bool
   few = nat_le (length (warehouse.facts ++ batch)) fact_limit
 
-  abbrev built : Bool
-  built = nat_le (length (keys_of (sums_of (view_of warehouse.schema) 0) (warehouse.facts ++ batch))) (leaf_limit warehouse.schema)
-
   past_few : few ≡ true → accepted warehouse batch ≡ within_names warehouse all (first_full 0 warehouse.schema.attrs all)
   past_few a = rw a refl
 
@@ -111,20 +94,14 @@ module _ (warehouse : Warehouse) (batch : List Fact) (lawful : IsSchema warehous
   past_named a named = past_few a ∙ ap (within_names warehouse all)
       (none_full 0 warehouse.schema.attrs all (λ c. subst (λ (n : ℕ). length (names_of all n) ≤ max_at warehouse.schema c) (omega arith) (named c)))
 
-  past_light : few ≡ true → HasNames warehouse.schema all → HasMasses all → accepted warehouse batch ≡ within_leaf warehouse all
-  past_light a named masses = past_named a named
-      ∙ ap (within_masses warehouse all) (none_heavy 0 warehouse.schema.measures all (λ m below. masses m (omega (arith, below, few_measures warehouse.schema lawful))))
-
   -- a batch that keeps the limits is accepted
   pub all_accepted : AreAccepted warehouse.schema (warehouse.facts ++ batch)
       → accepted warehouse batch ≡ (Some (record { schema = warehouse.schema; facts = warehouse.facts ++ batch }), committed_text (length (warehouse.facts ++ batch)))
   all_accepted fine =
-      let count = key_points warehouse.schema all lawful fine.each in
-      let points = fine.points in
       let long = fine.few in
       let a : few ≡ true = grind (arith, nat_tests) in
-      let c : built ≡ true = grind (arith, nat_tests) in
-      past_light a fine.named fine.masses ∙ rw c refl
+      past_named a fine.named
+      ∙ ap (within_masses warehouse all) (none_heavy 0 warehouse.schema.measures all (λ m below. fine.masses m (omega (arith, below, few_measures warehouse.schema lawful))))
 
   -- a full attribute is declared
   full_declared : All (Agrees warehouse.schema) all → (a : ℕ) → max_at warehouse.schema a < length (names_of all a) → a < length warehouse.schema.attrs
@@ -162,12 +139,6 @@ module _ (warehouse : Warehouse) (batch : List Fact) (lawful : IsSchema warehous
       let a : few ≡ true = grind (arith, nat_tests) in
       past_named a is.1 ∙ ap (within_masses warehouse all) (one_heavy 0 m warehouse.schema.measures all (heavy_declared each m is.2.passes)
       (λ j below. is.2.first j (omega (arith, below))) (subst (λ (n : ℕ). mass_limit < mass n all) (omega arith) is.2.passes))
-  all_refused each refusals.Points is =
-      let long = is.0 in let many = is.3 in
-      let count = key_points warehouse.schema all lawful each in
-      let a : few ≡ true = grind (arith, nat_tests) in
-      let c : built ≡ false = grind (arith, nat_tests) in
-      past_light a is.1 is.2 ∙ rw c refl
 
 -- an empty batch is accepted
 pub none_accepted : (warehouse : Warehouse) (batch : List Fact) → IsSchema warehouse.schema → batch ≡ [] → AreAccepted warehouse.schema warehouse.facts

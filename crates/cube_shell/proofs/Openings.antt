@@ -1,18 +1,16 @@
 -- What opening the files makes of a session.
 use Rattle.std.proofs.Common.{◌≡◌, List, Option, Some, None, refl, sym, ◌∙◌, subst}
-use Rattle.std.specs.Prelude.{IsTrue}
 use Rattle.site_core.specs.Disk.{Files, Disk}
 use Rattle.fact_model.specs.declared.fact.Fact.{Fact}
 use Rattle.cube_schema.specs.Lawful.{IsSchema}
 use Rattle.cube_schema.specs.declared.schema.Schema.{Schema}
 use Rattle.forest_root.specs.Live.{NoneRaised}
-use Rattle.leaf_store.specs.declared.store.Store.{Store}
-use Rattle.leaf_store.specs.declared.store.StoreStop.{StoreStop}
-use Rattle.leaf_store.specs.declared.store.StoreStop.TheVariants as stops
-use Rattle.leaf_store.specs.Built.{is_built}
-use Rattle.leaf_store.specs.Held.{AreAccepted, KeepsFacts}
-use Rattle.leaf_store.specs.Opened.{IsWarehouse, MayBeOpened, NamesPlace}
-use Rattle.leaf_store.specs.Opening.{Place}
+use Rattle.forest_root.specs.declared.forest.Store.{Store}
+use Rattle.forest_store.specs.declared.stop.StoreStop.{StoreStop}
+use Rattle.forest_store.specs.declared.stop.StoreStop.TheVariants as stops
+use Rattle.forest_store.specs.Held.{AreAccepted, KeepsFacts}
+use Rattle.forest_store.specs.Opened.{IsWarehouse, MayBeOpened, NamesPlace}
+use Rattle.forest_store.specs.Opening.{Place}
 use Rattle.cube_shell.specs.declared.stop.Stop.{Stop}
 use Rattle.cube_shell.specs.Damage.{StopsAt}
 use Rattle.cube_shell.specs.Ends.{stop_of}
@@ -23,12 +21,12 @@ use Rattle.cube_shell.specs.World.{World, Warehouse}
 -- what was opened is the warehouse that the files keep
 pub opened_stands : (found : Option Store) (store : Store) (files : Files) (disk : Disk) (world : World) → found ≡ Some store → MayBeOpened found disk → Keeps files world
     → (NoneRaised (files 0) → found ≡ None)
-    → ((schema : Schema) (facts : List Fact) → IsSchema schema → IsTrue (is_built schema) → AreAccepted schema facts → KeepsFacts schema facts files → IsWarehouse schema facts disk.files found)
+    → ((schema : Schema) (facts : List Fact) → IsSchema schema → AreAccepted schema facts → KeepsFacts schema facts files → IsWarehouse schema facts disk.files found)
     → (warehouse : Warehouse) × (world ≡ Some warehouse) × Belongs store disk warehouse
 opened_stands found store files disk None is fit keeps none given = let no : Some store ≡ None = sym is ∙ none keeps in absurd (cc)
 opened_stands found store files disk (Some warehouse) is fit keeps none given =
     let all = subst (IsWarehouse warehouse.schema warehouse.facts disk.files) is
-    (given warehouse.schema warehouse.facts keeps.lawful.schema keeps.lawful.built keeps.lawful.accepted keeps.kept) in (
+    (given warehouse.schema warehouse.facts keeps.lawful.schema keeps.lawful.accepted keeps.kept) in (
       warehouse,
       refl,
       record {

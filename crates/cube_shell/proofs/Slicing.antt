@@ -1,26 +1,17 @@
 -- The slices that are asked for.
-use Rattle.std.proofs.Common.{◌≡◌, ◌∷◌, ◌++◌, ℕ, ◌<◌, Bool, true, false, List, [], length, map, take, drop, Some, refl, sym, ◌∙◌, ap}
+use Rattle.std.proofs.Common.{◌≡◌, ◌∷◌, ◌++◌, ℕ, suc, ◌+◌, ◌<◌, Bool, true, false, List, [], length, take, drop, get_or, Option, Some, None, refl, sym, ◌∙◌, ap, subst, arith}
 use Rattle.std.specs.Prelude.{◌==◌}
 use Rattle.std.specs.List.{position}
 use Rattle.std.specs.Str.{bytes_eq}
 use Rattle.std.proofs.Math.Seq.{take-append_seam}
 use Rattle.std.proofs.lemmas.Bool.{eq-eqb, true≢false}
-use Rattle.std.proofs.lemmas.List.{take-append-drop}
+use Rattle.std.proofs.lemmas.List.{get_or_default, take-append-drop}
 use Rattle.std.proofs.lemmas.List.Quantifiers.{position-Some}
-use Rattle.std.proofs.lemmas.Option.{none-some}
+use Rattle.std.proofs.lemmas.Option.{none-some, same_Some}
 use Rattle.std.proofs.lemmas.Slice.Eq.{bytes_eq-Decides}
 use Rattle.cube_schema.specs.declared.schema.Schema.{Schema}
-use Rattle.leaf_store.specs.Built.{view_of}
-use Rattle.cube_shell.specs.Slices.{asked, asked_of, sums_text}
-use Rattle.site_core.specs.Disk.{Disk}
-use Rattle.cube_point.specs.declared.point.Entry.{Entry}
-use Rattle.view_points.specs.Entries.{entry_of}
-use Rattle.view_points.specs.Points.{points}
-use Rattle.cube_schema.specs.Kinds.{measure_count}
-use Rattle.leaf_store.specs.declared.store.Store.{Store}
-use Rattle.leaf_store.specs.Held.{AreAccepted, IsLive, entries_of}
-use Rattle.cube_shell.specs.Session.{Belongs}
-use Rattle.cube_shell.specs.World.{Warehouse}
+use Rattle.cube_shell.specs.declared.asked.ViewSums.{ViewSums}
+use Rattle.cube_shell.specs.Slices.{asked, asked_of, first_asked, or_later, sums_text}
 
 -- a text that does not begin with the front is not the front and some back
 pub refused : (front back text : List ℕ) → bytes_eq (take (length front) text) front ≡ false → bytes_eq (front ++ back) text ≡ false
@@ -56,17 +47,29 @@ declared-of : (schema : Schema) (view text : List ℕ) (m : ℕ) → asked_of sc
 declared-of schema [] text m found = absurd (none-some m found)
 declared-of schema (a ∷ view) text m found = (position-Some (λ measure. bytes_eq (sums_text schema (a ∷ view) measure) text) schema.measures m [] found).0
 
--- what is found is a declared measure
-pub asked_declared : (schema : Schema) (text : List ℕ) (m : ℕ) → asked schema text ≡ Some m → m < length schema.measures
-asked_declared schema text m found = declared-of schema (view_of schema) text m found
+-- what views from one on give is what the first of them gives, or the others
+module _ (schema : Schema) (text : List ℕ) where
+  abbrev IsDeclared : ℕ → ViewSums → Type 0
+  IsDeclared past wanted = (wanted.view < past) × (wanted.measure < length schema.measures)
 
--- the points that a store gives are those of the view over the warehouse's facts
-pub points_of : (store : Store) (disk : Disk) (warehouse : Warehouse) → Belongs store disk warehouse → (entries : List Entry) (view : List ℕ)
-    → (AreAccepted store.schema warehouse.facts → IsLive store.schema store.live warehouse.facts disk.files → entries ≡ entries_of store.schema warehouse.facts)
-    → view ≡ view_of store.schema → entries ≡ map entry_of (points (measure_count store.schema) view warehouse.facts)
-points_of store disk warehouse is entries view given same =
-    given is.stored.accepted is.stored.live ∙ ap (λ (v : List ℕ). map entry_of (points (measure_count store.schema) v warehouse.facts)) (sym same)
+  here-or-later : (v past : ℕ) (view : List ℕ) (found : Option ℕ) (later : Option ViewSums) (wanted : ViewSums) → v < past → asked_of schema view text ≡ found
+      → (later ≡ Some wanted → IsDeclared past wanted) → or_later v found later ≡ Some wanted → IsDeclared past wanted
+  here-or-later v past view None later wanted low is behind same = behind same
+  here-or-later v past view (Some m) later wanted low is behind same =
+      subst (IsDeclared past) (same_Some _ wanted same) (low, declared-of schema view text m is)
 
--- and that view is the warehouse's
-pub view_is : (store : Store) (disk : Disk) (warehouse : Warehouse) → Belongs store disk warehouse → (view : List ℕ) → view ≡ view_of store.schema → view ≡ view_of warehouse.schema
-view_is store disk warehouse is view same = same ∙ ap view_of is.schema
+  declared-from : (v : ℕ) (views : List (List ℕ)) (wanted : ViewSums) → first_asked schema text v views ≡ Some wanted → IsDeclared (v + length views) wanted
+  declared-from v [] wanted found = absurd (none-some wanted found)
+  declared-from v (view ∷ views) wanted found =
+      here-or-later v (v + length (view ∷ views)) view (asked_of schema view text) (first_asked schema text (suc v) views) wanted (omega arith) refl
+      (λ later. subst (λ past. IsDeclared past wanted) (omega arith) (declared-from (suc v) views wanted later)) found
+
+  -- what is asked for is a view and a measure of the schema
+  pub asked_declared : (wanted : ViewSums) → asked schema text ≡ Some wanted → (wanted.view < length schema.views) × (wanted.measure < length schema.measures)
+  asked_declared wanted found = let is = declared-from 0 schema.views wanted found in (omega (arith, is.0), is.1)
+
+-- what is taken out of the views at a number is the view of this number
+pub view_taken : (views taken : List (List ℕ)) (v : ℕ) (element view : List ℕ) → v < length views → taken ≡ views → element ≡ get_or taken v element → view ≡ element
+    → view ≡ get_or views v []
+view_taken views taken v element view low same is lent =
+    lent ∙ (is ∙ (ap (λ (vs : List (List ℕ)). get_or vs v element) same ∙ sym (get_or_default views v [] element low)))

@@ -2,19 +2,19 @@
 use Rattle.std.proofs.Common.{sym, subst}
 use Rattle.site_core.specs.Disk.{Files, Disk}
 use Rattle.cube_schema.specs.declared.schema.Schema.{Schema}
-use Rattle.leaf_store.specs.declared.store.Store.{Store}
-use Rattle.leaf_store.specs.Held.{KeepsFacts}
+use Rattle.forest_root.specs.declared.forest.Store.{Store}
+use Rattle.forest_store.specs.Held.{KeepsFacts}
 use Rattle.cube_shell.specs.declared.state.State.{State}
 use Rattle.cube_shell.specs.declared.state.State.TheVariants.{Stopped, Empty, Idle}
 use Rattle.cube_shell.specs.World.{World, Warehouse}
 use Rattle.cube_shell.specs.Keeps.{Keeps, KeepsWarehouse}
 use Rattle.cube_shell.specs.Session.{Belongs, Stands}
-use Rattle.leaf_store.proofs.Standing.{live_keeps}
+use Rattle.forest_store.proofs.Standing.{live_keeps}
 
 pub belongs_read : (store : Store) (disk : Disk) (warehouse : Warehouse) → Belongs store disk warehouse → KeepsWarehouse disk.files warehouse
 belongs_read store disk warehouse is = record {
   lawful = is.lawful;
-  kept = subst (λ (s : Schema). KeepsFacts s warehouse.facts disk.files) is.schema (live_keeps store.schema store.live warehouse.facts disk.files is.stored.live);
+  kept = subst (λ (s : Schema). KeepsFacts s warehouse.facts disk.files) is.schema (live_keeps store.forest.schema store.forest.body warehouse.facts disk.files is.stored.live);
 }
 
 pub stands_read : (state : State) (disk : Disk) (world : World) → Stands state disk world → Keeps disk.files world

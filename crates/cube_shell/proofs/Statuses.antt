@@ -5,7 +5,7 @@ use Rattle.cube_shell.specs.declared.stop.Stop.{Stop}
 use Rattle.cube_shell.specs.declared.stop.Stop.TheVariants as stops
 use Rattle.cube_shell.specs.declared.status.Status.{Status}
 use Rattle.cube_shell.specs.declared.status.Status.TheVariants.{TooLong}
-use Rattle.leaf_store.specs.Opening.{Place}
+use Rattle.forest_store.specs.Opening.{Place}
 use Rattle.cube_shell.specs.Damage.{StopsAt, EndsAt}
 use Rattle.cube_shell.specs.Ends.{status_of}
 

@@ -7,15 +7,15 @@ use Rattle.std.specs.List.{All}
 use Rattle.fact_model.specs.declared.fact.Fact.{Fact}
 use Rattle.cube_schema.specs.Agreeing.{Agrees}
 use Rattle.cube_schema.specs.declared.schema.Schema.{Schema}
-use Rattle.leaf_store.specs.declared.store.Store.{Store}
-use Rattle.leaf_store.specs.declared.load.Refusal.{Refusal}
-use Rattle.leaf_store.specs.declared.load.Loaded.{Loaded}
-use Rattle.leaf_store.specs.declared.load.Loaded.TheVariants.{Committed, Refused}
-use Rattle.leaf_store.specs.Held.{AreAccepted}
-use Rattle.leaf_store.specs.Stored.{IsStoreOf}
-use Rattle.leaf_store.specs.Loading.{IsLoaded, IsRefused}
-use Rattle.leaf_store.specs.Loading as loading
-use Rattle.leaf_store.proofs.Ready.{both_agree}
+use Rattle.forest_root.specs.declared.forest.Store.{Store}
+use Rattle.forest_store.specs.declared.loading.Refusal.{Refusal}
+use Rattle.forest_store.specs.declared.loading.Loaded.{Loaded}
+use Rattle.forest_store.specs.declared.loading.Loaded.TheVariants.{Committed, Refused}
+use Rattle.forest_store.specs.Held.{AreAccepted}
+use Rattle.forest_store.specs.Stored.{IsStoreOf}
+use Rattle.forest_store.specs.Loading.{IsLoaded, IsRefused}
+use Rattle.forest_store.specs.Loading as loading
+use Rattle.forest_store.proofs.Ready.{both_agree}
 use Rattle.reply_text.specs.Replies.{committed_text}
 use Rattle.cube_shell.specs.Keeps.{IsLawful, Keeps}
 use Rattle.cube_shell.specs.Machine.{Answer, accepted}
@@ -24,7 +24,7 @@ use Rattle.cube_shell.specs.Session.{Belongs, Between, KeepsEither}
 use Rattle.cube_shell.specs.World.{Warehouse}
 use Rattle.cube_shell.proofs.Limits.{all_accepted, all_refused}
 
-module _ (store : Store) (old new : Disk) (warehouse : Warehouse) (batch : List Fact) (is : Belongs store old warehouse) (each : All (Agrees store.schema) batch) where
+module _ (store : Store) (old new : Disk) (warehouse : Warehouse) (batch : List Fact) (is : Belongs store old warehouse) (each : All (Agrees store.forest.schema) batch) where
   abbrev next : Warehouse
   next = record { schema = warehouse.schema; facts = warehouse.facts ++ batch }
 
@@ -32,11 +32,11 @@ module _ (store : Store) (old new : Disk) (warehouse : Warehouse) (batch : List 
   agree = both_agree warehouse.schema warehouse.facts batch is.lawful.accepted.each (subst (λ (s : Schema). All (Agrees s) batch) is.schema each)
 
   lawful : AreAccepted warehouse.schema (warehouse.facts ++ batch) → IsLawful next
-  lawful fine = record { schema = is.lawful.schema; built = is.lawful.built; accepted = fine }
+  lawful fine = record { schema = is.lawful.schema; accepted = fine }
 
   -- a load keeps the world, or what the plain machine makes of it
   pub load_moments : (IsStoreOf store warehouse.facts old.files
-      → LeavesOnly old new (λ told files. (told ≡ old.told) × loading.KeepsEither store.schema warehouse.facts (warehouse.facts ++ batch) files))
+      → LeavesOnly old new (λ told files. (told ≡ old.told) × loading.KeepsEither store.forest.schema warehouse.facts (warehouse.facts ++ batch) files))
       → Between old new (Some warehouse) (accepted warehouse batch).0
   load_moments given =
       wider old new _ _
@@ -49,11 +49,11 @@ module _ (store : Store) (old new : Disk) (warehouse : Warehouse) (batch : List 
           (record { lawful = lawful both.0; kept = both.1 }))
 
   module _ (loaded : Loaded) (now : Store) (stable : IsStable new)
-      (given : IsStoreOf store warehouse.facts old.files → IsLoaded store.schema warehouse.facts (warehouse.facts ++ batch) new.files loaded) where
+      (given : IsStoreOf store warehouse.facts old.files → IsLoaded store.forest.schema warehouse.facts (warehouse.facts ++ batch) new.files loaded) where
     -- a batch that was committed
     module _ (same : loaded ≡ Committed now) where
-      committed_as : (now.schema ≡ store.schema) × IsStoreOf now (warehouse.facts ++ batch) new.files
-      committed_as = subst (IsLoaded store.schema warehouse.facts (warehouse.facts ++ batch) new.files) same (given is.stored)
+      committed_as : (now.forest.schema ≡ store.forest.schema) × IsStoreOf now (warehouse.facts ++ batch) new.files
+      committed_as = subst (IsLoaded store.forest.schema warehouse.facts (warehouse.facts ++ batch) new.files) same (given is.stored)
 
       all_fine : AreAccepted warehouse.schema (warehouse.facts ++ batch)
       all_fine = subst (λ (s : Schema). AreAccepted s (warehouse.facts ++ batch)) (committed_as.0 ∙ is.schema) committed_as.1.accepted
@@ -61,7 +61,7 @@ module _ (store : Store) (old new : Disk) (warehouse : Warehouse) (batch : List 
       pub committed_belongs : Belongs now new next
       committed_belongs = record { lawful = lawful all_fine; schema = committed_as.0 ∙ is.schema; stored = committed_as.1; stable = stable }
 
-      pub committed_facts : now.live.facts ≡ length (warehouse.facts ++ batch)
+      pub committed_facts : now.forest.body.facts ≡ length (warehouse.facts ++ batch)
       committed_facts = committed_as.1.live.at.body_is.facts
 
       pub committed_answer : accepted warehouse batch ≡ (Some next, committed_text (length (warehouse.facts ++ batch)))
@@ -69,13 +69,13 @@ module _ (store : Store) (old new : Disk) (warehouse : Warehouse) (batch : List 
 
     -- a batch that was refused
     module _ (refusal : Refusal) (same : loaded ≡ Refused now refusal) where
-      refused_as : (now.schema ≡ store.schema) × IsStoreOf now warehouse.facts new.files × IsRefused store.schema (warehouse.facts ++ batch) refusal
-      refused_as = subst (IsLoaded store.schema warehouse.facts (warehouse.facts ++ batch) new.files) same (given is.stored)
+      refused_as : (now.forest.schema ≡ store.forest.schema) × IsStoreOf now warehouse.facts new.files × IsRefused store.forest.schema (warehouse.facts ++ batch) refusal
+      refused_as = subst (IsLoaded store.forest.schema warehouse.facts (warehouse.facts ++ batch) new.files) same (given is.stored)
 
       pub refused_belongs : Belongs now new warehouse
       refused_belongs = record { lawful = is.lawful; schema = refused_as.0 ∙ is.schema; stored = refused_as.1; stable = stable }
 
-      pub refused_answer : accepted warehouse batch ≡ (Some warehouse, refusal_text now.schema refusal)
+      pub refused_answer : accepted warehouse batch ≡ (Some warehouse, refusal_text now.forest.schema refusal)
       refused_answer =
           all_refused warehouse batch is.lawful.schema agree refusal
           (subst (λ (s : Schema). IsRefused s (warehouse.facts ++ batch) refusal) is.schema refused_as.2)

@@ -1,6 +1,6 @@
 -- Ends for damage at a place.
 use Rattle.std.specs.Prelude.{◌≡◌}
-use Rattle.leaf_store.specs.Opening.{Place}
+use Rattle.forest_store.specs.Opening.{Place}
 use Rattle.cube_shell.specs.declared.stop.Stop.{Stop}
 use Rattle.cube_shell.specs.declared.stop.Stop.TheVariants as stops
 use Rattle.cube_shell.specs.declared.status.Status.{Status}

@@ -1,8 +1,8 @@
 -- How a command and a run may end, and why.
 use Rattle.std.specs.Prelude.{ℕ}
 use Rattle.site_core.specs.Causes.{Rose}
-use Rattle.leaf_store.specs.declared.store.StoreStop.{StoreStop}
-use Rattle.leaf_store.specs.declared.store.StoreStop.TheVariants as store
+use Rattle.forest_store.specs.declared.stop.StoreStop.{StoreStop}
+use Rattle.forest_store.specs.declared.stop.StoreStop.TheVariants as store
 use Rattle.cube_shell.specs.declared.stop.Stop.{Stop}
 use Rattle.cube_shell.specs.declared.stop.Stop.TheVariants as stops
 use Rattle.cube_shell.specs.declared.status.Status.{Status}

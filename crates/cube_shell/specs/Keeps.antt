@@ -1,16 +1,14 @@
 -- What files keep of the plain machine's world.
-use Rattle.std.specs.Prelude.{IsTrue, Some, None}
+use Rattle.std.specs.Prelude.{Some, None}
 use Rattle.site_core.specs.Disk.{Files}
 use Rattle.cube_schema.specs.Lawful.{IsSchema}
 use Rattle.forest_root.specs.Keeps.{Keeps as Holds, KeepsNothing}
-use Rattle.leaf_store.specs.Built.{is_built}
-use Rattle.leaf_store.specs.Held.{AreAccepted, held}
+use Rattle.forest_store.specs.Held.{AreAccepted, held}
 use Rattle.cube_shell.specs.World.{World, Warehouse}
 
 -- a schema that some block declares, and facts that agree with it and keep its limits
 pub record IsLawful (warehouse : Warehouse) : Type 0 where
   pub schema : IsSchema warehouse.schema
-  pub built : IsTrue (is_built warehouse.schema)
   pub accepted : AreAccepted warehouse.schema warehouse.facts
 
 -- the files keep the schema and its facts

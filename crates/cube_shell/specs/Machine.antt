@@ -1,5 +1,5 @@
 -- The plain machine: the reply to each command, and what is known behind it.
-use Rattle.std.specs.Prelude.{ℕ, suc, cond, List, [], ◌∷◌, ◌++◌, codes, length, nat_le, Option, Some, None, Result, Ok, Err}
+use Rattle.std.specs.Prelude.{ℕ, suc, cond, List, [], ◌∷◌, ◌++◌, codes, get_or, length, nat_le, Option, Some, None, Result, Ok, Err}
 use Rattle.cube_schema.specs.declared.schema.Attr.{Attr}
 use Rattle.cube_schema.specs.declared.schema.Schema.{Schema}
 use Rattle.cube_schema.specs.declared.schema.SchemaRefusal.{SchemaRefusal}
@@ -10,13 +10,12 @@ use Rattle.fact_csv.specs.Batch.{batch_of}
 use Rattle.fact_csv.specs.declared.refusal.RowRefusal.{RowRefusal}
 use Rattle.fact_model.specs.declared.fact.Fact.{Fact}
 use Rattle.fact_model.specs.Fact.{mass, mass_limit}
-use Rattle.fact_model.specs.Rows.{rows, keys_of}
-use Rattle.leaf_store.specs.Built.{is_built, view_of}
-use Rattle.leaf_store.specs.Held.{leaf_limit}
+use Rattle.fact_model.specs.Rows.{rows}
 use Rattle.script_lang.specs.declared.command.Block.{Block}
 use Rattle.script_lang.specs.declared.command.Block.TheVariants.{Whole, Long}
 use Rattle.script_lang.specs.declared.command.Command.{Command}
 use Rattle.script_lang.specs.declared.command.Command.TheVariants as says
+use Rattle.cube_shell.specs.declared.asked.ViewSums.{ViewSums}
 use Rattle.cube_shell.specs.World.{World, Warehouse}
 use Rattle.reply_text.specs.Replies.{line, committed_text, facts_text, schema_text, batch_text, full_text, mass_text, answer_text}
 use Rattle.view_rows.specs.Sums.{sums_of}
@@ -39,7 +38,7 @@ empty schema = Some (record { schema = schema; facts = [] })
 -- the schema of a block is declared, or the block is refused
 abbrev pub declared : Result Schema SchemaRefusal → Answer
 declared (Err refusal) = (None, schema_text refusal)
-declared (Ok schema) = cond (is_built schema) (empty schema, line (codes "declared")) (None, line (codes "refused unbuilt"))
+declared (Ok schema) = (empty schema, line (codes "declared"))
 
 abbrev pub declare : World → Block → Answer
 declare (Some warehouse) block = (Some warehouse, line (codes "refused declared"))
@@ -58,17 +57,10 @@ abbrev pub first_full : ℕ → List Attr → List Fact → Option (List ℕ)
 first_full a [] facts = None
 first_full a (attr ∷ attrs) facts = cond (nat_le (length (names_of facts a)) (max_of attr.kind)) (first_full (suc a) attrs facts) (Some attr.name)
 
--- all facts, where one leaf has room for the view's points
-abbrev pub within_leaf : Warehouse → List Fact → Answer
-within_leaf warehouse all =
-    cond (nat_le (length (keys_of (sums_of (view_of warehouse.schema) 0) all)) (leaf_limit warehouse.schema))
-    (Some (record { schema = warehouse.schema; facts = all }), committed_text (length all))
-    (Some warehouse, line (codes "refused unbuilt"))
-
 -- all facts, where no mass passes the limit
 abbrev pub within_masses : Warehouse → List Fact → Option (List ℕ) → Answer
 within_masses warehouse all (Some name) = (Some warehouse, mass_text name)
-within_masses warehouse all None = within_leaf warehouse all
+within_masses warehouse all None = (Some (record { schema = warehouse.schema; facts = all }), committed_text (length all))
 
 -- all facts, where no attribute has too many distinct texts
 abbrev pub within_names : Warehouse → List Fact → Option (List ℕ) → Answer
@@ -95,10 +87,11 @@ load (Some warehouse) (Whole bytes) = loaded warehouse (batch_of warehouse.schem
 
 -- ---- slice
 
--- the sums of a measure by the view's attributes
-abbrev pub answered : Warehouse → Option ℕ → Answer
+-- the sums of a measure by a view's attributes
+abbrev pub answered : Warehouse → Option ViewSums → Answer
 answered warehouse None = (Some warehouse, line (codes "refused unbuilt"))
-answered warehouse (Some m) = (Some warehouse, answer_text (rows warehouse.facts (sums_of (view_of warehouse.schema) m)))
+answered warehouse (Some wanted) =
+    (Some warehouse, answer_text (rows warehouse.facts (sums_of (get_or warehouse.schema.views wanted.view []) wanted.measure)))
 
 abbrev pub slice : World → List ℕ → Answer
 slice None text = (None, line (codes "refused no schema"))

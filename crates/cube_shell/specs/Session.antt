@@ -3,9 +3,9 @@ use Rattle.std.specs.Prelude.{◌≡◌, ◌⊎◌, ℕ, List, [], ◌++◌, cod
 use Rattle.script_lang.specs.declared.command.Command.{Command}
 use Rattle.site_core.specs.Disk.{Files, Disk}
 use Rattle.site_core.specs.Moments.{IsStable, LeavesOnly}
-use Rattle.leaf_store.specs.declared.store.Store.{Store}
-use Rattle.leaf_store.specs.Opened.{IsEmpty, IsOpened}
-use Rattle.leaf_store.specs.Stored.{IsStoreOf}
+use Rattle.forest_root.specs.declared.forest.Store.{Store}
+use Rattle.forest_store.specs.Opened.{IsEmpty, IsOpened}
+use Rattle.forest_store.specs.Stored.{IsStoreOf}
 use Rattle.reply_text.specs.Replies.{line, facts_text}
 use Rattle.cube_shell.specs.declared.answered.Answered.{Answered}
 use Rattle.cube_shell.specs.declared.state.State.{State}
@@ -18,7 +18,7 @@ use Rattle.cube_shell.specs.World.{World, Warehouse}
 -- the store is that of the warehouse which the files keep
 pub record Belongs (store : Store) (disk : Disk) (warehouse : Warehouse) : Type 0 where
   pub lawful : IsLawful warehouse
-  pub schema : store.schema ≡ warehouse.schema
+  pub schema : store.forest.schema ≡ warehouse.schema
   pub stored : IsStoreOf store warehouse.facts disk.files
   -- a stop now leaves what a read gives
   pub stable : IsStable disk
@@ -33,7 +33,7 @@ IsRunning (Idle store) = Unit {0}
 abbrev pub IsFit : State → Disk → Type 0
 IsFit Stopped disk = ⊥
 IsFit Empty disk = IsEmpty disk
-IsFit (Idle store) disk = IsOpened store.live disk
+IsFit (Idle store) disk = IsOpened store.forest.body disk
 
 -- it stands for this world
 abbrev pub Stands : State → Disk → World → Type 0
@@ -45,7 +45,7 @@ Stands (Idle store) disk world = (warehouse : Warehouse) × (world ≡ Some ware
 abbrev pub state_text : State → List ℕ
 state_text Stopped = []
 state_text Empty = line (codes "no schema")
-state_text (Idle store) = facts_text store.live.facts
+state_text (Idle store) = facts_text store.forest.body.facts
 
 -- the files keep this world or that
 abbrev pub KeepsEither : World → World → Files → Type 0

@@ -9,19 +9,33 @@ use cube_schema::Schema;
 use fact_model::{Memory, Text};
 use std::alloc::Global;
 
-/// The number of the measure whose sums by the view's attributes a slice asks for, if it has the form
-/// `sum(MEASURE) by ATTRIBUTES`.
-pub fn asked(alloc: Global, schema: &Schema, text: &[u8]) -> Result<Option<u32>, Memory>
+/// The sums of a measure by all attributes of a view.
+#[derive(Clone, Copy, Debug, PartialEq, Eq)]
+pub struct ViewSums {
+    /// The number of the view.
+    pub view: u32,
+    /// The number of the measure.
+    pub measure: u32,
+}
+
+/// The sums that a slice asks for, if it has the form `sum(MEASURE) by ATTRIBUTES`, and the attributes are those of a view in
+/// the view's order.
+pub fn asked(alloc: Global, schema: &Schema, text: &[u8]) -> Result<Option<ViewSums>, Memory>
     requires { IsSchema schema.now }
     ensures { IfOk result (λ found. found ≡ asked schema.now text.now) }
 {
-    match schema.views.get(0) {
-        Some(view) => asked_of(alloc, schema, view.as_slice(), text),
-        None => Ok(None),
+    for (number, view) in schema.views.as_slice().iter().enumerate() {
+        if let Some(measure) = asked_of(alloc, schema, view.as_slice(), text)? {
+            return Ok(Some(ViewSums {
+                view: number as u32,
+                measure,
+            }));
+        }
     }
+    Ok(None)
 }
 
-/// The same for this view.
+/// The number of the measure whose sums by this view's attributes the text asks for.
 fn asked_of(
     alloc: Global,
     schema: &Schema,

@@ -1,7 +1,7 @@
 //! The command `schema`.
 ghost use Rattle.std.specs.Prelude.{◌≡◌, IsTrue, OnOk, IfOk, IfErr, Ok, None};
 ghost use Rattle.cube_schema.specs.Lawful.{IsSchema};
-ghost use Rattle.leaf_store.specs.Opened.{IsEmpty};
+ghost use Rattle.forest_store.specs.Opened.{IsEmpty};
 ghost use Rattle.cube_shell.specs.Ends.{IsNoDamage, StopCause};
 ghost use Rattle.cube_shell.specs.Machine.{declare, declared};
 ghost use Rattle.cube_shell.specs.Session.{Between, IsAnswer, IsFit, IsRunning, Stands};
@@ -11,7 +11,6 @@ use crate::answered::{Answered, plain};
 use crate::state::State;
 use crate::stop::Stop;
 use cube_schema::Schema;
-use leaf_store::is_built;
 use script_lang::Block;
 use site_core::Site;
 use std::alloc::Global;
@@ -77,7 +76,7 @@ fn declare_first<T: Site>(alloc: Global, block: Block, site: &mut T) -> Result<A
     }
 }
 
-/// Declares a schema that was read, where one leaf can serve it.
+/// Declares a schema that was read.
 fn declare_schema<T: Site>(alloc: Global, schema: Schema, site: &mut T) -> Result<Answered, Stop>
     requires lawful { IsSchema schema }
     requires empty { IsTrue T.tells → IsEmpty (T.disk site.old) }
@@ -93,10 +92,7 @@ fn declare_schema<T: Site>(alloc: Global, schema: Schema, site: &mut T) -> Resul
     ensures disk_faults { OnOk result (T.disk_faults site.new ≡ T.disk_faults site.old) }
     ensures told_faults { T.told_faults site.new ≡ T.told_faults site.old }
 {
-    if !is_built(&schema) {
-        return plain(alloc, State::Empty, "refused unbuilt");
-    }
-    match leaf_store::declare(alloc, site, schema) {
+    match forest_store::declare(alloc, site, schema) {
         Ok(store) => plain(alloc, State::Idle(store), "declared"),
         Err(stop) => Err(Stop::from(stop)),
     }

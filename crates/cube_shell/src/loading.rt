@@ -3,7 +3,7 @@ ghost use Rattle.std.specs.Prelude.{◌≡◌, IsTrue, OnOk, IfOk, IfErr, Ok, So
 ghost use Rattle.std.specs.List.{All};
 ghost use Rattle.cube_schema.specs.Agreeing.{Agrees};
 ghost use Rattle.cube_schema.specs.Kinds.{name_at};
-ghost use Rattle.leaf_store.specs.Opened.{IsOpened};
+ghost use Rattle.forest_store.specs.Opened.{IsOpened};
 ghost use Rattle.cube_shell.specs.Ends.{IsNoDamage, StopCause};
 ghost use Rattle.cube_shell.specs.Machine.{accepted, load};
 ghost use Rattle.cube_shell.specs.Session.{Belongs, Between, IsAnswer, IsFit, IsRunning, Stands};
@@ -17,7 +17,8 @@ use crate::stop::Stop;
 use cube_schema::Schema;
 use fact_csv::read_batch;
 use fact_model::FactList;
-use leaf_store::{Loaded, Refusal, Store};
+use forest_root::Store;
+use forest_store::{Loaded, Refusal};
 use script_lang::Block;
 use site_core::Site;
 use std::alloc::Global;
@@ -60,7 +61,7 @@ fn load_block<T: Site>(
     block: Block,
     site: &mut T,
 ) -> Result<Answered, Stop>
-    requires fit { IsTrue T.tells → IsOpened store.live (T.disk site.old) }
+    requires fit { IsTrue T.tells → IsOpened store.forest.body (T.disk site.old) }
 
     ensures answer { IsTrue T.tells → (warehouse : Warehouse) → Belongs store (T.disk site.old) warehouse
         → IfOk result (IsAnswer (T.disk site.new) (load (Some warehouse) block)) }
@@ -79,7 +80,7 @@ fn load_block<T: Site>(
     let Block::Whole(text) = block else {
         return plain(alloc, State::Idle(store), "refused block");
     };
-    match read_batch(alloc, &store.schema, text.as_bytes()) {
+    match read_batch(alloc, &store.forest.schema, text.as_bytes()) {
         Ok(batch) => take_in(alloc, store, &batch, site),
         Err(refusal) => {
             let reply = reply_text::refused_batch(alloc, refusal)?;
@@ -98,8 +99,8 @@ fn take_in<T: Site>(
     batch: &FactList,
     site: &mut T,
 ) -> Result<Answered, Stop>
-    requires agree { All (Agrees store.schema) batch.now }
-    requires fit { IsTrue T.tells → IsOpened store.live (T.disk site.old) }
+    requires agree { All (Agrees store.forest.schema) batch.now }
+    requires fit { IsTrue T.tells → IsOpened store.forest.body (T.disk site.old) }
 
     ensures answer { IsTrue T.tells → (warehouse : Warehouse) → Belongs store (T.disk site.old) warehouse
         → IfOk result (IsAnswer (T.disk site.new) (accepted warehouse batch.now)) }
@@ -118,7 +119,7 @@ fn take_in<T: Site>(
     if batch.as_slice().is_empty() {
         return acknowledge(alloc, store);
     }
-    match store.load(alloc, site, batch) {
+    match forest_store::load(store, alloc, site, batch) {
         Ok(Loaded::Committed(store)) => acknowledge(alloc, store),
         Ok(Loaded::Refused(store, refusal)) => refuse(alloc, store, refusal),
         Err(stop) => Err(Stop::from(stop)),
@@ -128,10 +129,10 @@ fn take_in<T: Site>(
 /// Acknowledges a batch that was taken in.
 fn acknowledge(alloc: Global, store: Store) -> Result<Answered, Stop>
     ensures state { IfOk result (λ done. done.state ≡ State.Idle store) }
-    ensures reply { IfOk result (λ done. done.reply.items ≡ committed_text store.live.facts) }
+    ensures reply { IfOk result (λ done. done.reply.items ≡ committed_text store.forest.body.facts) }
     ensures memory { IfErr result (λ stop. stop ≡ Stop.Memory) }
 {
-    let reply = reply_text::committed(alloc, store.live.facts)?;
+    let reply = reply_text::committed(alloc, store.forest.body.facts)?;
     Ok(Answered {
         state: State::Idle(store),
         reply,
@@ -141,18 +142,17 @@ fn acknowledge(alloc: Global, store: Store) -> Result<Answered, Stop>
 /// Refuses a batch by the first limit that it would pass.
 fn refuse(alloc: Global, store: Store, refusal: Refusal) -> Result<Answered, Stop>
     ensures state { IfOk result (λ done. done.state ≡ State.Idle store) }
-    ensures reply { IfOk result (λ done. done.reply.items ≡ refusal_text store.schema refusal) }
+    ensures reply { IfOk result (λ done. done.reply.items ≡ refusal_text store.forest.schema refusal) }
     ensures memory { IfErr result (λ stop. stop ≡ Stop.Memory) }
 {
     let reply = match refusal {
         Refusal::Facts => reply_text::plain(alloc, "refused facts")?,
         Refusal::Names(attr) => {
-            reply_text::refused_names(alloc, attr_name(&store.schema, attr))?
+            reply_text::refused_names(alloc, attr_name(&store.forest.schema, attr))?
         }
         Refusal::Mass(measure) => {
-            reply_text::refused_mass(alloc, measure_name(&store.schema, measure))?
+            reply_text::refused_mass(alloc, measure_name(&store.forest.schema, measure))?
         }
-        Refusal::Points => reply_text::plain(alloc, "refused unbuilt")?,
     };
     Ok(Answered {
         state: State::Idle(store),

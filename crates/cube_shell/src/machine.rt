@@ -66,7 +66,7 @@ fn status(alloc: Global, state: State) -> Result<Answered, Stop>
         State::Stopped => Err(Stop::Memory),
         State::Empty => plain(alloc, State::Empty, "no schema"),
         State::Idle(store) => {
-            let reply = reply_text::facts(alloc, store.live.facts)?;
+            let reply = reply_text::facts(alloc, store.forest.body.facts)?;
             Ok(Answered {
                 state: State::Idle(store),
                 reply,

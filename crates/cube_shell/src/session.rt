@@ -2,8 +2,8 @@
 ghost use Rattle.std.specs.Prelude.{◌≡◌, ◌++◌, IsTrue, IsErrOf, OnOk, IfOk, IfErr};
 ghost use Rattle.site_core.specs.Calls.{Rests};
 ghost use Rattle.site_core.specs.Moments.{LeavesOnly};
-ghost use Rattle.leaf_store.specs.Breaks.{BreaksAt};
-ghost use Rattle.leaf_store.specs.Opening.{Place};
+ghost use Rattle.forest_store.specs.Breaks.{BreaksAt};
+ghost use Rattle.forest_store.specs.Opening.{Place};
 ghost use Rattle.cube_shell.specs.Damage.{StopsAt};
 ghost use Rattle.cube_shell.specs.Ends.{IsNoDamage, StopCause};
 ghost use Rattle.cube_shell.specs.Headline.{Meanwhile};
@@ -49,7 +49,7 @@ impl Session {
         ensures disk_faults { OnOk result (T.disk_faults site.new ≡ T.disk_faults site.old) }
         ensures told_faults { T.told_faults site.new ≡ T.told_faults site.old }
     {
-        match leaf_store::open(alloc, site) {
+        match forest_store::open(alloc, site) {
             Ok(Some(store)) => Ok(Session {
                 alloc,
                 state: State::Idle(store),

@@ -1,16 +1,16 @@
 //! The command `slice`.
 ghost use Rattle.std.specs.Prelude.{◌≡◌, ◌<◌, IsTrue, OnOk, IfOk, IfErr, Some, length};
-ghost use Rattle.leaf_store.specs.Opened.{IsOpened};
+ghost use Rattle.forest_store.specs.Opened.{IsOpened};
 ghost use Rattle.cube_shell.specs.Ends.{IsNoDamage, StopCause};
 ghost use Rattle.cube_shell.specs.Machine.{answered, slice};
 ghost use Rattle.cube_shell.specs.Session.{Belongs, Between, IsAnswer, IsFit, IsRunning, Stands};
 ghost use Rattle.cube_shell.specs.World.{Warehouse, World};
 
 use crate::answered::{Answered, plain};
-use crate::asked::asked;
+use crate::asked::{ViewSums, asked};
 use crate::state::State;
 use crate::stop::Stop;
-use leaf_store::Store;
+use forest_root::Store;
 use site_core::Site;
 use std::alloc::Global;
 use view_rows::sums_by_view;
@@ -46,9 +46,9 @@ pub fn slice<T: Site>(
     }
 }
 
-/// Answers a slice that asks for sums by the view, and refuses any other.
+/// Answers a slice that asks for sums by all attributes of a view, and refuses any other.
 fn answer<T: Site>(alloc: Global, store: Store, text: &[u8], site: &mut T) -> Result<Answered, Stop>
-    requires fit { IsTrue T.tells → IsOpened store.live (T.disk site.old) }
+    requires fit { IsTrue T.tells → IsOpened store.forest.body (T.disk site.old) }
 
     ensures answer { IsTrue T.tells → (warehouse : Warehouse) → Belongs store (T.disk site.old) warehouse
         → IfOk result (IsAnswer (T.disk site.new) (slice (Some warehouse) text.now)) }
@@ -64,21 +64,27 @@ fn answer<T: Site>(alloc: Global, store: Store, text: &[u8], site: &mut T) -> Re
     ensures disk_faults { OnOk result (T.disk_faults site.new ≡ T.disk_faults site.old) }
     ensures told_faults { T.told_faults site.new ≡ T.told_faults site.old }
 {
-    match asked(alloc, &store.schema, text)? {
-        Some(measure) => sums(alloc, store, measure, site),
+    match asked(alloc, &store.forest.schema, text)? {
+        Some(wanted) => sums(alloc, store, wanted, site),
         None => plain(alloc, State::Idle(store), "refused unbuilt"),
     }
 }
 
-/// Answers with the sums of a measure by the view, from the view's points.
-fn sums<T: Site>(alloc: Global, store: Store, measure: u32, site: &mut T) -> Result<Answered, Stop>
-    requires measure { measure < 4 }
-    requires fit { IsTrue T.tells → IsOpened store.live (T.disk site.old) }
+/// Answers with the sums of a measure by a view's attributes, from the view's points.
+fn sums<T: Site>(
+    alloc: Global,
+    store: Store,
+    wanted: ViewSums,
+    site: &mut T,
+) -> Result<Answered, Stop>
+    requires view { wanted.view < length store.forest.schema.views }
+    requires measure { wanted.measure < 4 }
+    requires fit { IsTrue T.tells → IsOpened store.forest.body (T.disk site.old) }
 
     ensures answer { IsTrue T.tells → (warehouse : Warehouse) → Belongs store (T.disk site.old) warehouse
-        → IfOk result (IsAnswer (T.disk site.new) (answered warehouse (Some measure))) }
+        → IfOk result (IsAnswer (T.disk site.new) (answered warehouse (Some wanted))) }
     ensures any_moment { IsTrue T.tells → (warehouse : Warehouse) → Belongs store (T.disk site.old) warehouse
-        → Between (T.disk site.old) (T.disk site.new) (Some warehouse) (answered warehouse (Some measure)).0 }
+        → Between (T.disk site.old) (T.disk site.new) (Some warehouse) (answered warehouse (Some wanted)).0 }
     ensures undamaged { IsTrue T.tells → (warehouse : Warehouse) → Belongs store (T.disk site.old) warehouse
         → IfErr result IsNoDamage }
 
@@ -89,13 +95,14 @@ fn sums<T: Site>(alloc: Global, store: Store, measure: u32, site: &mut T) -> Res
     ensures disk_faults { OnOk result (T.disk_faults site.new ≡ T.disk_faults site.old) }
     ensures told_faults { T.told_faults site.new ≡ T.told_faults site.old }
 {
-    let points = store.points(alloc, site)?;
+    let points = forest_store::points(alloc, site, &store, wanted.view)?;
+    let view = &store.forest.schema.views.as_slice()[wanted.view as usize];
     let rows = sums_by_view(
         alloc,
-        &store.names,
-        store.view(),
+        &store.dicts,
+        view.as_slice(),
         points.as_slice(),
-        measure,
+        wanted.measure,
     )?;
     let reply = reply_text::answer(alloc, &rows)?;
     Ok(Answered {

@@ -1,6 +1,6 @@
 //! What a session has between two commands.
 
-use leaf_store::Store;
+use forest_root::Store;
 
 /// What a session has.
 #[derive(Drop)]

@@ -1,7 +1,7 @@
 //! Why a session stops.
 
 use fact_model::Memory;
-use leaf_store::StoreStop;
+use forest_store::StoreStop;
 
 /// Why a session stopped.
 #[derive(Clone, Copy, Debug, PartialEq, Eq)]

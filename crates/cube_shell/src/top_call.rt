@@ -2,8 +2,8 @@
 ghost use Rattle.std.specs.Prelude.{◌≡◌, ◌≢◌, ◌≤◌, ◌+◌, ◌^◌, ◌↔◌, [], IsTrue, OnOk, IfErr, IsErrOf, length};
 ghost use Rattle.site_core.specs.Causes.{Rose};
 ghost use Rattle.site_core.specs.Moments.{LeavesOnly};
-ghost use Rattle.leaf_store.specs.Breaks.{BreaksAt};
-ghost use Rattle.leaf_store.specs.Opening.{Place};
+ghost use Rattle.forest_store.specs.Breaks.{BreaksAt};
+ghost use Rattle.forest_store.specs.Opening.{Place};
 ghost use Rattle.script_lang.specs.Script.{commands};
 ghost use Rattle.cube_shell.specs.Damage.{EndsAt};
 ghost use Rattle.cube_shell.specs.Ends.{EndCause, StatusCause, IsDoneOrMemory, IsUndamaged, faults};

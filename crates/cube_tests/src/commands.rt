@@ -79,17 +79,6 @@ fn schema_refusals(rt: HostRuntime) -> Result<(), Fail> {
 }
 
 #[test]
-fn schema_unbuilt(rt: HostRuntime) -> Result<(), Fail> {
-    for script in [
-        "schema\nattr n number\nattr p text\nmeasure m\nview n\nview p\nend\nstatus\n",
-        "schema\nattr n number\nmeasure m\nview n\nview\nend\nstatus\n",
-    ] {
-        tells(&rt, rt.alloc(), script, "refused unbuilt\nno schema\n")?;
-    }
-    Ok(())
-}
-
-#[test]
 fn quoted_numbers(rt: HostRuntime) -> Result<(), Fail> {
     tells_behind(
         &rt,
@@ -221,32 +210,25 @@ fn a_command_that_changes_nothing_calls_no_file(rt: HostRuntime) -> Result<(), F
 const ROWS: &str = "9,1,10,100\n1,2,20,200\n1,3,30,300\n10,1,40,400\n1,2,5,-7\n";
 
 #[test]
-fn a_slice_has_one_row_for_each_point_by_its_values(rt: HostRuntime) -> Result<(), Fail> {
+fn a_slice_has_one_row_for_each_point_of_its_view_by_its_values(
+    rt: HostRuntime,
+) -> Result<(), Fail> {
     let alloc = rt.alloc();
-    for (view, slice, told) in [
+    let attributes = "attr x number\nattr y number\nmeasure m\nmeasure mm\n";
+    let schema = format!(in alloc; "{attributes}view x,y\nview y\nview\nview y,x\nview x\n")?;
+    for (slice, told) in [
         (
-            "view x,y",
             "sum(mm) by x,y",
             "1,2,193\n1,3,300\n9,1,100\n10,1,400\nrows 4\n",
         ),
-        (
-            "view x,y",
-            "sum(m) by x,y",
-            "1,2,25\n1,3,30\n9,1,10\n10,1,40\nrows 4\n",
-        ),
-        (
-            "view y,x",
-            "sum(m) by y,x",
-            "1,9,10\n1,10,40\n2,1,25\n3,1,30\nrows 4\n",
-        ),
-        ("view y", "sum(mm) by y", "1,500\n2,193\n3,300\nrows 3\n"),
-        ("view x", "sum(m) by x", "1,55\n9,10\n10,40\nrows 3\n"),
-        ("view", "sum(m) by ", "refused unbuilt\n"),
-        ("view", "sum(m)", "refused unbuilt\n"),
+        ("sum(m) by x,y", "1,2,25\n1,3,30\n9,1,10\n10,1,40\nrows 4\n"),
+        ("sum(m) by y,x", "1,9,10\n1,10,40\n2,1,25\n3,1,30\nrows 4\n"),
+        ("sum(mm) by y", "1,500\n2,193\n3,300\nrows 3\n"),
+        ("sum(m) by x", "1,55\n9,10\n10,40\nrows 3\n"),
+        // No slice asks for the view of no attributes.
+        ("sum(m) by ", "refused unbuilt\n"),
+        ("sum(m)", "refused unbuilt\n"),
     ] {
-        let schema = format!(in alloc;
-            "attr x number\nattr y number\nmeasure m\nmeasure mm\n{view}\n"
-        )?;
         let script = format!(in alloc; "load\n{ROWS}end\nslice {slice}\n")?;
         let told = format!(in alloc; "committed 5\n{told}")?;
         tells_behind(&rt, alloc, schema.as_str(), script.as_str(), told.as_str())?;
@@ -257,14 +239,16 @@ fn a_slice_has_one_row_for_each_point_by_its_values(rt: HostRuntime) -> Result<(
 #[test]
 fn a_slice_of_another_form_is_refused(rt: HostRuntime) -> Result<(), Fail> {
     let alloc = rt.alloc();
-    let schema = "attr x number\nattr y number\nmeasure m\nmeasure mm\nview x,y\n";
+    let schema = "attr x number\nattr y number\nmeasure m\nmeasure mm\nview\nview x,y\nview y\n";
     for slice in [
         "",
         "count",
         "count by x,y",
         "sum(m)",
+        "sum(m) by ",
         "sum(m) by x",
         "sum(m) by y,x",
+        "sum(m) by y,x,y",
         "sum(m) by x,y,x",
         "sum(m) by x, y",
         "sum(m) by x,y ",

@@ -1,5 +1,8 @@
 //! Files that were made by hand, and the places where they are damaged.
-use crate::bytes::{DUMPED_NAMES, dumped_leaf, dumped_root};
+use crate::bytes::{DUMPED_NAMES, dumped_leaf, dumped_root, root_of};
+use crate::commands::tells_behind;
+use crate::forest::{BATCH_A, state_a};
+use crate::images::put;
 use crate::runs::run_over;
 use cube_shell::{Status, run};
 use fact_model::Text;
@@ -30,6 +33,8 @@ fn changed(alloc: Global, change: Change<'_>) -> Result<MemorySite, Fail> {
 
 const LONGER: &str = "attr a number\nmeasure m\nview a\nmore";
 
+const TWO_VIEWS: &str = "attr a number\nmeasure m\nview a\nview\n";
+
 #[test]
 fn files_without_damage_open(rt: HostRuntime) -> Result<(), Fail> {
     let alloc = rt.alloc();
@@ -52,7 +57,7 @@ fn files_without_damage_open(rt: HostRuntime) -> Result<(), Fail> {
 }
 
 /// Changes that are damage, each with its place: a file, and an offset in it.
-const DAMAGE: [(Change<'static>, u32, u64); 20] = [
+const DAMAGE: [(Change<'static>, u32, u64); 21] = [
     // A raised slot's body does not decode: by its format, its slot, its generation.
     ((&[(1033, 2)], DUMPED_NAMES, [0, 4096]), 0, 1024),
     ((&[(1047, 2)], DUMPED_NAMES, [0, 4096]), 0, 1024),
@@ -68,16 +73,8 @@ const DAMAGE: [(Change<'static>, u32, u64); 20] = [
     ((&[], "attr a number\nmeasure m\nview  a", [0, 4096]), 1, 0),
     ((&[], "attr a number\r\nmeasure m\nview a", [0, 4096]), 1, 0),
     ((&[], "\nattr a number\nmeasure m\nview a", [0, 4096]), 1, 0),
-    // The schema has two views.
-    (
-        (
-            &[(1035, 2), (1039, 36), (1055, 36)],
-            "attr a number\nmeasure m\nview a\nview\n",
-            [0, 4096],
-        ),
-        1,
-        0,
-    ),
+    // The schema has two views, and the body one.
+    ((&[(1039, 36), (1055, 36)], TWO_VIEWS, [0, 4096]), 0, 1024),
     // The body has another number of views, a mass past the measures, or names.
     ((&[(1035, 2)], DUMPED_NAMES, [0, 4096]), 0, 1024),
     ((&[(1095, 1)], DUMPED_NAMES, [0, 0]), 0, 1024),
@@ -85,6 +82,16 @@ const DAMAGE: [(Change<'static>, u32, u64); 20] = [
     // The side is too short.
     ((&[], DUMPED_NAMES, [4096, 4095]), 3, 4095),
     ((&[], DUMPED_NAMES, [4096, 0]), 3, 0),
+    // Two views with points have three pages.
+    (
+        (
+            &[(1035, 2), (1039, 36), (1055, 36), (1143, 1)],
+            TWO_VIEWS,
+            [0, 4096],
+        ),
+        3,
+        4096,
+    ),
     // Generation 2 is live, with the facts of generation 1.
     (
         (
@@ -187,40 +194,72 @@ fn damaged_names_are_named_by_their_first_faulty_entry(rt: HostRuntime) -> Resul
     Ok(())
 }
 
+/// The facts of state A by two trees: pages 0 to 2 by the year, by both, and over them, and page 3 by the part.
+fn of_two_trees(rt: &impl Abort, alloc: Global) -> Result<MemorySite, Fail> {
+    let schema =
+        "attr part text\nattr year number\nmeasure qty\nview part,year\nview year\nview part\n";
+    tells_behind(rt, alloc, schema, BATCH_A, "committed 3\n")
+}
+
 #[test]
-fn a_damaged_leaf_is_named_when_it_is_read(rt: HostRuntime) -> Result<(), Fail> {
+fn a_damaged_page_is_named_when_its_tree_is_read(rt: HostRuntime) -> Result<(), Fail> {
     let alloc = rt.alloc();
-    for script in [
-        "status\nslice sum(m) by a\nstatus\n",
-        "status\nload\n1,1\nend\nstatus\n",
+    let site = of_two_trees(&rt, alloc)?;
+    let by_part = ("part", "bolt,9\nnut,-2\nrows 2\n");
+    let by_year = ("year", "1997,3\n1998,4\nrows 2\n");
+    for (file, place, byte, (whole, rows), damaged, page) in [
+        // A leaf of no points, a zero for a part, and a page that is its own child.
+        (3, 3, 0, by_part, "year", 0u64),
+        (3, 4107, 0, by_part, "part,year", 1),
+        (3, 8223, 2, by_part, "year", 2),
+        // Bytes behind the points; and the body counts a point fewer.
+        (3, 16383, 1, by_year, "part", 3),
+        (0, 1151, 1, by_year, "part", 3),
     ] {
-        // The body counts one point, and the leaf has two.
-        let mut site = changed(alloc, (&[(1135, 1)], DUMPED_NAMES, [0, 4096]))?;
-        let ended = run_over(alloc, &mut site, script.as_bytes())?;
-        let wanted = Status::Damaged { file: 3, offset: 0 };
-        assert_eq!(rt; ended, wanted, "{script:?}");
-        assert_eq!(rt; site.told(), b"facts 3\n".as_slice(), "{script:?}");
+        let ask = format!(in alloc;
+            "slice sum(qty) by {whole}\nslice sum(qty) by {damaged}\nstatus\n"
+        )?;
+        let load = "load\nnut,1998,1\nend\nstatus\n";
+        for (script, told) in [(ask.as_str(), rows), (load, "")] {
+            let mut later = MemorySite::from_files(alloc, site.image(alloc, 1)?)?;
+            assert_eq!(rt; put(&rt, &mut later, file, place, &[byte]), Ok(()));
+            let ended = run_over(alloc, &mut later, script.as_bytes())?;
+            let offset = page.saturating_mul(4096);
+            let wanted = Status::Damaged { file: 3, offset };
+            assert_eq!(rt; ended, wanted, "byte {place} of file {file}, {script:?}");
+            assert_eq!(rt; later.told(), told.as_bytes(), "byte {place}, {script:?}");
+        }
     }
+    Ok(())
+}
+
+#[test]
+fn short_side(rt: HostRuntime) -> Result<(), Fail> {
+    let alloc = rt.alloc();
+    let site = state_a(&rt, alloc)?;
+    let files = [
+        Text::from_bytes(alloc, site.file(0))?,
+        Text::from_bytes(alloc, site.file(1))?,
+        Text::from_bytes(alloc, site.file(2))?,
+        Text::from_bytes(alloc, site.file(3).get(..10_000).unwrap_or(&[]))?,
+    ];
+    let mut cut = MemorySite::from_files(alloc, files)?;
+    let ended = run_over(alloc, &mut cut, b"status\n")?;
+    let wanted = Status::Damaged {
+        file: 3,
+        offset: 10_000,
+    };
+    assert_eq!(rt; ended, wanted);
+    assert_eq!(rt; cut.told(), b"".as_slice());
     Ok(())
 }
 
 #[test]
 fn facts_limit(rt: HostRuntime) -> Result<(), Fail> {
     let alloc = rt.alloc();
-    let mut root = [0; 2050];
-    root[1024..1032].copy_from_slice(b"CUBETREE");
-    for (place, byte) in [
-        (1033usize, 1u8),
-        (1035, 1),
-        (1039, 29),
-        (1047, 1),
-        (1055, 29),
-        (1058, 1),
-        (1135, 1),
-        (2049, 1),
-    ] {
-        root[place % 2050] = byte;
-    }
+    // 2^40 facts.
+    let mut root = root_of(1, [29, 29], 0, [0, 0], [1, 0, 0]);
+    root[1058] = 1;
     let mut leaf = [0; 4096];
     leaf[..8].copy_from_slice(&[1, 0, 0, 1, 0, 0, 0, 0]);
     leaf[8..16].copy_from_slice(&[0, 0, 1, 0, 0, 0, 0, 0]);

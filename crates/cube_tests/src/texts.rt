@@ -1,5 +1,6 @@
 //! Whole runs over texts: the names that the files keep of them, their limits, and the rows of slices by them.
 use crate::commands::tells_behind;
+use crate::forest::SCHEMA_A;
 use crate::images::put;
 use crate::runs::run_over;
 use cube_shell::Status;
@@ -17,7 +18,7 @@ fn names_are(rt: &impl Abort, site: &MemorySite, slot: usize, names: &[u8]) {
 }
 
 /// A second run over the files that a first one left tells this.
-fn tells_again(
+pub fn tells_again(
     rt: &impl Abort,
     alloc: Global,
     site: &MemorySite,
@@ -68,6 +69,22 @@ fn names_second_run(rt: HostRuntime) -> Result<(), Fail> {
 }
 
 #[test]
+fn mass_limit(rt: HostRuntime) -> Result<(), Fail> {
+    let site = tells_behind(
+        &rt,
+        rt.alloc(),
+        SCHEMA_A,
+        "load\na,1,170141183460469231731687303715884105727\nend\nload\nz,1,-1\nend\nload\ny,1,0\nend\nstatus\n",
+        "committed 1\nrefused mass qty\ncommitted 2\nfacts 2\n",
+    )?;
+    let names = b"attr part text max 1000000\nattr year number\nmeasure qty\n\
+view part,year\nview year\nview\n\x00\x01a\x00\x01y"
+        .as_slice();
+    names_are(&rt, &site, 0, names);
+    Ok(())
+}
+
+#[test]
 fn a_batch_is_refused_by_its_first_full_attribute_before_its_mass(
     rt: HostRuntime,
 ) -> Result<(), Fail> {
@@ -100,27 +117,12 @@ fn a_batch_is_refused_by_its_first_full_attribute_before_its_mass(
     Ok(())
 }
 
-/// Rows of 68 texts; one leaf has no room for another one beside them.
-fn rows_of_68_texts(alloc: Global) -> Result<String, Fail> {
-    let mut rows = String::new(alloc);
-    for number in 0..68 {
-        let row = format!(in alloc; "t{number},y,1\n")?;
-        rows.push_str(row.as_str())?;
-    }
-    Ok(rows)
-}
-
 #[test]
 fn a_refused_batch_leaves_no_names(rt: HostRuntime) -> Result<(), Fail> {
     let alloc = rt.alloc();
     let schema = "attr p text max 70\nattr q text max 3\nmeasure m\nview p\n";
     let mass = "b,y,170141183460469231731687303715884105727\nc,z,1\n";
-    let points = rows_of_68_texts(alloc)?;
-    for (rows, refusal) in [
-        (mass, "mass m"),
-        ("b,y,1\nd,z,1\ne,w,1\n", "names q"),
-        (points.as_str(), "unbuilt"),
-    ] {
+    for (rows, refusal) in [(mass, "mass m"), ("b,y,1\nd,z,1\ne,w,1\n", "names q")] {
         let script = format!(in alloc;
             "load\na,x,0\nend\nload\n{rows}end\nload\nc,z,2\nb,x,3\nc,x,4\nend\nslice sum(m) by p\n"
         )?;

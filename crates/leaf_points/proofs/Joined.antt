@@ -1,4 +1,4 @@
--- Two lists of entries, merged: what holds of each and is kept where cells join holds of the merge, which is as long and in order.
+-- Two lists of entries, merged: what holds of each and is kept where cells join holds of the merge, which is in order.
 use Rattle.std.proofs.Common.{◌≡◌, ℕ, zero, suc, ◌+◌, ◌<◌, ◌≤◌, ◌-◌, true, List, [], ◌∷◌, ◌++◌, map, filter, length, take, drop, replicate, get_or, ℤ, ◌+ℤ◌, ◌≤ℤ◌, refl, sym, ◌∙◌, ap, subst, inl, inr, arith}
 use Rattle.std.specs.Prelude.{nat_lt, FitsSigned, not, max}
 use Rattle.std.specs.Int.{w128, int_min, int_max}
@@ -69,26 +69,6 @@ module _ (P : PlacedCell → Type 0) (kept : (e d : PlacedCell) → P e → P d 
   each-merged [] [] p h fit = tt
   each-merged [] (d ∷ ds) p h fit = (h.0, each-merged [] ds p h.1 fit.1)
   each-merged (e ∷ es) ds p h fit = each-one e es p.0 (λ ds h fit. each-merged es ds p.1 h fit) ds h fit
-
--- ---- how long the merge is
-
--- no shorter than the second list, and no longer than both
-abbrev IsBetween : ℕ → ℕ → ℕ → Type 0
-IsBetween n m long = (m ≤ long) × (long ≤ n + m)
-
-long-one : (e : PlacedCell) (es : List PlacedCell) → ((ds : List PlacedCell) → IsBetween (length es) (length ds) (length (merge_points es ds)))
-    → (ds : List PlacedCell) → IsBetween (length (e ∷ es)) (length ds) (length (merge_points (e ∷ es) ds))
-long-one e es rest [] = let h = rest [] in (omega (arith, h.0, h.1), omega (arith, h.0, h.1))
-long-one e es rest (d ∷ ds) = elim (cases_Ordering (point_cmp e.0 d.0)) [
-  | inl r ↦ let h = rest (d ∷ ds) in subst (λ (l : List PlacedCell). IsBetween (length (e ∷ es)) (length (d ∷ ds)) (length l)) (sym (together-less join e d es ds r)) (omega (arith, h.0, h.1), omega (arith, h.0, h.1))
-  | inr (inl r) ↦ let h = rest ds in subst (λ (l : List PlacedCell). IsBetween (length (e ∷ es)) (length (d ∷ ds)) (length l)) (sym (together-equal join e d es ds r)) (omega (arith, h.0, h.1), omega (arith, h.0, h.1))
-  | inr (inr r) ↦ let h = long-one e es rest ds in subst (λ (l : List PlacedCell). IsBetween (length (e ∷ es)) (length (d ∷ ds)) (length l)) (sym (together-greater join e d es ds r)) (omega (arith, h.0, h.1), omega (arith, h.0, h.1))
-]
-
-long-merged : (es ds : List PlacedCell) → IsBetween (length es) (length ds) (length (merge_points es ds))
-long-merged [] [] = (omega arith, omega arith)
-long-merged [] (d ∷ ds) = let h = long-merged [] ds in (omega (arith, h.0, h.1), omega (arith, h.0, h.1))
-long-merged (e ∷ es) ds = long-one e es (λ ds. long-merged es ds) ds
 
 -- ---- its order
 
@@ -183,10 +163,6 @@ fits-joined shape e d four h k fit =
 
 -- ---- of entries
 
--- an entry of a leaf, of this arity
-abbrev pub IsHeld : Shape → ℕ → Entry → Type 0
-IsHeld shape arity e = (e.point.arity ≡ arity) × FitsLeaf shape e
-
 -- the entries of both lists, merged
 abbrev pub merged_entries : List Entry → List Entry → List Entry
 merged_entries old new = map entry_of (merge_points (map pair_of old) (map pair_of new))
@@ -220,47 +196,24 @@ module _ (shape : Shape) (Q : ℕ → Type 0) (four : shape.measures ≤ 4) wher
       (each-merged Pairs (λ e d p q fits. (p.0, fits-joined shape e d four p.1 q.1 fits)) (map pair_of old) (map pair_of new)
       (pairs old (every-from_All (IsHeldWith shape Q) old h)) (pairs new (every-from_All (IsHeldWith shape Q) new k)) fit))
 
--- so where all are of one arity, a leaf may hold each entry of the merge
-pub merged-held : (shape : Shape) (arity : ℕ) → shape.measures ≤ 4 → (old new : List Entry) → All (IsHeld shape arity) old → All (IsHeld shape arity) new → AllJoin old new → All (IsHeld shape arity) (merged_entries old new)
-merged-held shape arity four = merged-kept shape (λ n. n ≡ arity) four
-
 -- the merge of two lists in order is in order
 pub merged-ascends : (old new : List Entry) → ascend entry_before old ≡ true → ascend entry_before new ≡ true → ascend entry_before (merged_entries old new) ≡ true
 merged-ascends old new h k = ascend-entries (merge_points (map pair_of old) (map pair_of new))
     (ascends-together point_cmp point-total point-only join (map pair_of old) (map pair_of new) (ascends-from old h) (ascends-from new k))
 
--- the merge has no fewer entries than the second list
-pub merged-some : (old new : List Entry) → length new ≤ length (merged_entries old new)
-merged-some old new = omega (arith, (long-merged (map pair_of old) (map pair_of new)).0, length-map new pair_of, length-map (merge_points (map pair_of old) (map pair_of new)) entry_of)
-
--- and no more than both
-pub merged-few : (old new : List Entry) → length (merged_entries old new) ≤ length old + length new
-merged-few old new = omega (arith, (long-merged (map pair_of old) (map pair_of new)).1, length-map old pair_of, length-map new pair_of, length-map (merge_points (map pair_of old) (map pair_of new)) entry_of)
-
 -- ---- how many points there are
 
-placed-long : {K : Type 0} (R : K → K → Ordering) (k : K) (js : List K) → (0 < length (placed R k js)) × (length (placed R k js) ≤ length js + 1)
-placed-long R k [] = (omega arith, omega arith)
-placed-long R k (j ∷ js) = elim (R k j) as (λ r. (0 < length (by_order r (k ∷ (j ∷ js)) (j ∷ js) (j ∷ placed R k js))) × (length (by_order r (k ∷ (j ∷ js)) (j ∷ js) (j ∷ placed R k js)) ≤ length (j ∷ js) + 1))
-    [ Less ↦ (omega arith, omega arith) | Equal ↦ (omega arith, omega arith) | Greater ↦ (omega arith, omega (arith, (placed-long R k js).1)) ]
+placed-few : {K : Type 0} (R : K → K → Ordering) (k : K) (js : List K) → length (placed R k js) ≤ length js + 1
+placed-few R k [] = omega arith
+placed-few R k (j ∷ js) = elim (R k j) as (λ r. length (by_order r (k ∷ (j ∷ js)) (j ∷ js) (j ∷ placed R k js)) ≤ length (j ∷ js) + 1)
+    [ Less ↦ omega arith | Equal ↦ omega arith | Greater ↦ omega (arith, placed-few R k js) ]
 
 distinct-few : {K : Type 0} (R : K → K → Ordering) (ks : List K) → length (distinct R ks) ≤ length ks
 distinct-few R [] = omega arith
-distinct-few R (k ∷ ks) = omega (arith, (placed-long R k (distinct R ks)).1, distinct-few R ks)
-
-distinct-some : {K : Type 0} (R : K → K → Ordering) (ks : List K) → 0 < length ks → 0 < length (distinct R ks)
-distinct-some R [] some = some
-distinct-some R (k ∷ ks) some = (placed-long R k (distinct R ks)).0
+distinct-few R (k ∷ ks) = omega (arith, placed-few R k (distinct R ks), distinct-few R ks)
 
 -- there are no more points than facts
 pub points-few : (names : Names) (n : ℕ) (view : View) (facts : List Fact) → length (points_by names n view facts) ≤ length facts
 points-few names n view facts =
     let keys : List (List ℕ) = map (place_of names view) facts in
     omega (arith, length-map {B = PlacedCell} (distinct point_cmp keys) (λ k. (k, cell_of n (filter (λ x. is point_cmp k (place_of names view x)) facts))), distinct-few point_cmp keys, length-map facts (place_of names view))
-
--- and some, where there is a fact
-pub points-some : (names : Names) (n : ℕ) (view : View) (facts : List Fact) → 0 < length facts → 0 < length (points_by names n view facts)
-points-some names n view facts some =
-    let keys : List (List ℕ) = map (place_of names view) facts in
-    let there : 0 < length keys = omega (arith, some, length-map facts (place_of names view)) in
-    omega (arith, length-map {B = PlacedCell} (distinct point_cmp keys) (λ k. (k, cell_of n (filter (λ x. is point_cmp k (place_of names view x)) facts))), distinct-some point_cmp keys there)

@@ -1,5 +1,5 @@
--- The points of a view are the entries of a leaf.
-use Rattle.std.proofs.Common.{◌≡◌, ◌≤◌, ◌<◌, ◌^◌, ℕ, true, List, [], ◌∷◌, map, length, filter, refl, sym, ap, ◌∙◌, subst, arith}
+-- A leaf may hold each point of a view.
+use Rattle.std.proofs.Common.{◌≡◌, ◌≤◌, ◌<◌, ◌^◌, ℕ, true, List, [], ◌∷◌, map, length, filter, refl, sym, ap, subst, arith}
 use Rattle.std.specs.Prelude.{nat_lt}
 use Rattle.std.specs.Ordering.{is_lt}
 use Rattle.std.specs.List.{All, AllByRecursion}
@@ -21,12 +21,8 @@ use Rattle.view_points.proofs.Arities.{arity-of, each-arity}
 use Rattle.view_points.proofs.Cells.{one_cell}
 use Rattle.view_points.proofs.Entries.{point-entry}
 use Rattle.view_points.proofs.Members.{every-both, every-map, every-filter, every-from_All, All-from_every}
-use Rattle.view_points.proofs.Points.{points-ascend}
-use Rattle.page_fmt.specs.Pages.{room, entry_size}
 use Rattle.page_fmt.specs.Taking.{entry_before, ascend}
-use Rattle.page_fmt.specs.Lawful.{IsLeaf}
-use Rattle.page_fmt.specs.Writing.{FitsLeaf, AreEntries, leaf_arity}
-use Rattle.page_fmt.proofs.Entries.{leaf-of}
+use Rattle.page_fmt.specs.Writing.{FitsLeaf}
 use Rattle.leaf_points.specs.Storable.{HasNarrowCodes, AreStorable}
 use Rattle.leaf_points.proofs.Cells.{IsCellOf, cells-of, each-point, fewer}
 use Rattle.leaf_points.proofs.Parts.{part-fits, part-lawful, part-none, four-used, four-unused, four-lawful}
@@ -69,10 +65,6 @@ module _ (shape : Shape) (names : Names) (view : View) (facts : List Fact) where
   abbrev pub view_entries : List Entry
   view_entries = map entry_of (points_by names n view facts)
 
-  -- each point comes before the next
-  pub entries-ascend : ascend entry_before view_entries ≡ true
-  entries-ascend = ascend-entries (points_by names n view facts) (points-ascend names n view facts)
-
   of-entries : (P : Entry → Type 0) (es : List PlacedCell) → AllByRecursion (λ e. P (entry_of e)) es → AllByRecursion P (map entry_of es)
   of-entries P [] h = tt
   of-entries P (e ∷ es) h = (h.0, of-entries P es h.1)
@@ -102,27 +94,7 @@ module _ (shape : Shape) (names : Names) (view : View) (facts : List Fact) where
         (entry-fits shape (length view) e.0 ys few four h.0.0 some (omega (arith, fewer h.1.0 facts, storable.few)) (λ m l. omega (arith, mass-filter h.1.0 m facts, storable.masses m l))
         (every-filter (λ (x : Fact). length x.measures ≤ n) h.1.0 facts (every-from_All (λ (x : Fact). length x.measures ≤ n) facts storable.numbers)))
 
-    -- a leaf can hold each of them
+    -- a leaf may hold each of them
     pub entries-fit : All (FitsLeaf shape) view_entries
     entries-fit = All-from_every (FitsLeaf shape) view_entries (of-entries (FitsLeaf shape) (points_by names n view facts)
         (every-map (λ e. Good e × IsCellOf n facts e.1) (λ e. FitsLeaf shape (entry_of e)) fits-one (points_by names n view facts) (every-both Good (λ e. IsCellOf n facts e.1) (points_by names n view facts) good (cells-of names n view facts))))
-
-    first-arity : (es : List Entry) → All (λ (e : Entry). e.point.arity ≡ length view) es → 0 < length es → leaf_arity es ≡ length view
-    first-arity [] h some = absurd (omega (arith, some))
-    first-arity (e ∷ es) h some = h 0 e (omega arith)
-
-    -- one leaf can hold them all, where it has room
-    pub are-entries : length view ≤ shape.dims → 0 < length view_entries → length view_entries ≤ room (entry_size (length view) n) → AreEntries shape view_entries
-    are-entries dims some room-left =
-        let arity = first-arity view_entries (entries-arity storable.coded) some in
-        record {
-          arity_fits = subst (λ (a : ℕ). a ≤ shape.dims) (sym arity) dims;
-          few = subst (λ (a : ℕ). length view_entries ≤ room (entry_size a n)) (sym arity) room-left;
-          arities = λ k d l. entries-arity storable.coded k d l ∙ sym arity;
-          order = entries-ascend;
-          good = entries-fit;
-        }
-
-    -- they are then the entries of a lawful leaf
-    pub is-leaf : length view ≤ shape.dims → 0 < length view_entries → length view_entries ≤ room (entry_size (length view) n) → IsLeaf shape (length view) view_entries
-    is-leaf dims some room-left = subst (λ (a : ℕ). IsLeaf shape a view_entries) (first-arity view_entries (entries-arity storable.coded) some) (leaf-of shape view_entries some (are-entries dims some room-left))

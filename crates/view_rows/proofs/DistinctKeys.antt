@@ -1,10 +1,10 @@
 -- Keys that differ: as many are kept as there are, and no neighbours are joined.
-use Rattle.std.proofs.Common.{◌≡◌, suc, false, Bool, cond, List, [], ◌∷◌, map, length, refl, ◌∙◌, ap, true≢false}
+use Rattle.std.proofs.Common.{◌≡◌, false, Bool, cond, List, [], ◌∷◌, map, refl, ◌∙◌, ap}
 use Rattle.std.proofs.lemmas.Map.Keys.{IsDistinct-head, IsDistinct-tail}
 use Rattle.std.specs.declared.cmp.Ordering.{Ordering}
 use Rattle.std.specs.declared.cmp.Ordering.TheVariants.{Less, Equal, Greater}
 use Rattle.std.specs.List.{AllByRecursion, IsDistinct}
-use Rattle.std.specs.Ordering.{eq_by_cmp, is_eq}
+use Rattle.std.specs.Ordering.{eq_by_cmp}
 use Rattle.fact_model.specs.Distinct.{by_order, placed, distinct}
 use Rattle.fact_model.specs.Groups.{having, groups}
 use Rattle.view_points.proofs.Sorts.{onto, squeezed}
@@ -33,25 +33,6 @@ module _ {K : Type 0} (R : K → K → Ordering) where
       with_cells : (ks : List K) → AllByRecursion P ks → AllByRecursion (λ (e : K × C). P e.0) (map (λ k. (k, cell (having R key k xs))) ks)
       with_cells [] all = tt
       with_cells (k ∷ ks) all = (all.0, with_cells ks all.1)
-
-  -- ---- how many
-
-  length-placed : (k : K) (ks : List K) → AllByRecursion (λ j. eq_by_cmp R k j ≡ false) ks → length (placed R k ks) ≡ suc (length ks)
-  length-placed k [] other = refl
-  length-placed k (j ∷ js) other = by (R k j) (length-placed k js other.1) other.0
-    where
-      by : (r : Ordering) → length (placed R k js) ≡ suc (length js) → is_eq r ≡ false
-          → length (by_order r (k ∷ (j ∷ js)) (j ∷ js) (j ∷ placed R k js)) ≡ suc (suc (length js))
-      by Less more h = refl
-      by Equal more h = absurd (true≢false h)
-      by Greater more h = ap suc more
-
-  -- keys that differ are all kept
-  pub length-distinct : (ks : List K) → IsDistinct (eq_by_cmp R) ks → length (distinct R ks) ≡ length ks
-  length-distinct [] differ = refl
-  length-distinct (k ∷ ks) differ =
-      length-placed k (distinct R ks) (every-distinct (λ j. eq_by_cmp R k j ≡ false) ks (IsDistinct-head (eq_by_cmp R) k ks differ))
-      ∙ ap suc (length-distinct ks (IsDistinct-tail (eq_by_cmp R) k ks differ))
 
   -- ---- neighbours
 

@@ -1,7 +1,6 @@
 -- The rows of the points of a view, sorted by key, are the rows of the facts.
 use Rattle.std.proofs.Common.{◌≡◌, ℕ, ◌<◌, true, List, [], ◌∷◌, map, length, filter, IsPermutation, refl, sym, ◌∙◌, ap, subst}
 use Rattle.std.proofs.lemmas.Cmp.{eq_by_cmp_equiv}
-use Rattle.std.proofs.lemmas.List.{length-map}
 use Rattle.std.proofs.lemmas.List.Sorted.{IsPermutation-map}
 use Rattle.std.proofs.lemmas.Map.Keys.{IsDistinct-IsPermutation}
 use Rattle.std.specs.List.{AllByRecursion, All, IsDistinct}
@@ -17,7 +16,7 @@ use Rattle.fact_model.specs.Cell.{cell_of, join, part_of}
 use Rattle.fact_model.specs.Distinct.{distinct}
 use Rattle.fact_model.specs.Fact.{key_of, numbers_at}
 use Rattle.fact_model.specs.Groups.{having, groups}
-use Rattle.fact_model.specs.Rows.{rows, keys_of, as_row, number_of, numbers_of}
+use Rattle.fact_model.specs.Rows.{rows, as_row, number_of, numbers_of}
 use Rattle.fact_model.specs.Value.{Key, key_cmp}
 use Rattle.fact_model.proofs.ValueOrder.{key_cmp-IsAntisymmetric}
 use Rattle.cube_schema.specs.declared.Kind.{Kind}
@@ -41,7 +40,7 @@ use Rattle.view_points.proofs.Sorts.{sorted-grouped}
 use Rattle.attr_dict.specs.Admitting.{Agrees}
 use Rattle.attr_dict.specs.Book.{Book, HoldsNamesOf}
 use Rattle.view_rows.specs.Sums.{sums_of, row_in, comes_before}
-use Rattle.view_rows.proofs.DistinctKeys.{every-group, length-distinct, squeezed-distinct}
+use Rattle.view_rows.proofs.DistinctKeys.{every-group, squeezed-distinct}
 use Rattle.view_rows.proofs.PlaceKeys.{place_key, key_place, fact-key, place-back, keys-distinct}
 use Rattle.view_rows.proofs.SortedRows.{moved-before, in-order}
 
@@ -134,16 +133,6 @@ module _ (kinds : List Kind) (n : ℕ) (view : View) (facts : List Fact)
       ∙ (grouped-same key_cmp join fact_key (key_of view) (one_cell n) facts fact-keys
       ∙ sym (groups-grouped key_cmp key-total key_cmp-IsAntisymmetric join join-comm join-assoc
       (key_of view) (one_cell n) (cell_of n) (cell-of-facts n) facts)))))
-
-  -- there are as many distinct keys as points
-  pub key-count : (measure : ℕ) → length (keys_of (sums_of view measure) facts) ≡ length (points n view facts)
-  key-count measure =
-      let with_points : Key → Key × Cell = λ k. (k, joined (having key_cmp key k the_points)) in
-      let with_facts : Key → Key × Cell = λ k. (k, cell_of n (facts_of k)) in
-      sym (length-map (keys_of (sums_of view measure) facts) with_facts)
-      ∙ (ap length (sym regrouped)
-      ∙ (length-map (distinct key_cmp (map key the_points)) with_points
-      ∙ (length-distinct key_cmp (map key the_points) distinct-keys ∙ length-map the_points key)))
 
   -- ---- their rows
 

@@ -1,14 +1,10 @@
-use Rattle.std.proofs.Common.{◌≡◌, true, sym, ◌∙◌}
-use Rattle.leaf_store.specs.Built.{is_built}
 use Rattle.cube_shell.proofs.Declarings.{declared_moments}
 use Rattle.cube_shell.proofs.declaring.declare_schema.Goals as goal
 
 pub returns-in-Ok-clause-any_moment : goal.returns-in-Ok-clause-any_moment
 returns-in-Ok-clause-any_moment g c = λ t.
-    let built : is_built c.args.schema ≡ true = sym c.is_built.ensures ∙ c.if-not-is_built.false in
-    declared_moments c.args.schema c.requires.lawful built _ _ (c.declare.ensures.any_moment t)
+    declared_moments c.args.schema c.requires.lawful _ _ (c.declare.ensures.any_moment t)
 
 pub returns-in-Err-clause-any_moment : goal.returns-in-Err-clause-any_moment
 returns-in-Err-clause-any_moment g c = λ t.
-    let built : is_built c.args.schema ≡ true = sym c.is_built.ensures ∙ c.if-not-is_built.false in
-    declared_moments c.args.schema c.requires.lawful built _ _ (c.declare.ensures.any_moment t)
+    declared_moments c.args.schema c.requires.lawful _ _ (c.declare.ensures.any_moment t)

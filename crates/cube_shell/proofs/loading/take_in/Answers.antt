@@ -16,7 +16,7 @@ returns-then-is_empty-clause-answer g c = λ t warehouse is.
     let none : c.args.batch.now ≡ [] = nothing_added c.args.batch.now zero in
     answers_as c.acknowledge.result disk (Some warehouse, committed_text (length warehouse.facts)) _
     (sym (none_accepted warehouse c.args.batch.now is.lawful.schema none is.lawful.accepted))
-    (answers c.acknowledge.result (Idle c.args.store) (committed_text c.args.store.live.facts) disk (Some warehouse, committed_text (length warehouse.facts))
+    (answers c.acknowledge.result (Idle c.args.store) (committed_text c.args.store.forest.body.facts) disk (Some warehouse, committed_text (length warehouse.facts))
     c.acknowledge.ensures.state c.acknowledge.ensures.reply (warehouse, refl, is) (ap committed_text is.stored.live.at.body_is.facts))
 
 pub returns-then-is_empty-clause-any_moment : goal.returns-then-is_empty-clause-any_moment
