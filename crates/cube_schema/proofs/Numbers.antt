@@ -14,7 +14,8 @@ use Rattle.cube_schema.specs.Kinds.{no_attr, name_at}
 use Rattle.cube_schema.specs.Reading.{is_attr, is_named, number_of, are_distinct}
 use Rattle.cube_schema.proofs.Apart.{distinct-to}
 
-found-below : {X : Type 0} (p : X → Bool) (xs : List X) → list_any p xs ≡ true → position_or_len p xs < length xs
+-- a test that some item passes has its first place within the list
+pub found-below : {X : Type 0} (p : X → Bool) (xs : List X) → list_any p xs ≡ true → position_or_len p xs < length xs
 found-below p [] h = absurd (true≢false (sym h))
 found-below p (x ∷ xs) h =
     elim (p x) as (λ b. (b || list_any p xs) ≡ true → cond (not b) (1 + position_or_len p xs) 0 < length (x ∷ xs)) [

@@ -1,0 +1,13 @@
+pub mod Few
+pub mod PartSteps
+pub mod Quotes
+pub mod CondSteps
+pub mod Answered
+pub mod Agreed
+pub mod Passing
+pub mod Decimals
+pub mod ValueTexts
+pub mod ItemTexts
+pub mod SliceTexts
+pub mod ToldItems
+pub mod Told

@@ -1,0 +1,34 @@
+-- What reading answers: a value, or the first rule that is broken.
+use Rattle.std.specs.Prelude.{◌≡◌, ◌≢◌, Bool, List, [], ◌∷◌, ◌++◌, if◌then◌else◌, Option, Some, None, Result, Ok, Err}
+use Rattle.slice_lang.specs.Parts.{Part}
+use Rattle.slice_lang.specs.declared.refusal.SliceRefusal.{SliceRefusal}
+use Rattle.slice_lang.specs.declared.refusal.SliceRefusal.TheVariants as refused
+
+abbrev pub Reading : Type 0 → Type 0
+Reading A = Result A SliceRefusal
+
+-- what follows a value, where there is one
+infixl 10 ◌>>=◌
+abbrev pub ◌>>=◌ : {A B : Type 0} → Reading A → (A → Reading B) → Reading B
+(Ok x) >>= next = next x
+(Err refusal) >>= next = Err refusal
+
+-- the value where every rule holds, and otherwise the first that is broken
+abbrev pub judged : {A : Type 0} → A → List (Bool × SliceRefusal) → Reading A
+judged x [] = Ok x
+judged x (rule ∷ rules) = if rule.0 then judged x rules else Err rule.1
+
+-- the value, where there is one
+abbrev pub or_refused : {A : Type 0} → SliceRefusal → Option A → Reading A
+or_refused refusal None = Err refusal
+or_refused refusal (Some x) = Ok x
+
+-- what the parts say one after the other behind these items, where each may look at those before it
+abbrev pub gathered : {A : Type 0} → (List A → Part → Reading A) → List A → List Part → Reading (List A)
+gathered read items [] = Ok items
+gathered read items (part ∷ more) = read items part >>= (λ item. gathered read (items ++ item ∷ []) more)
+
+-- the answer is this one, unless memory was short
+abbrev pub Answers : {A : Type 0} → Reading A → Reading A → Type 0
+Answers (Ok x) want = want ≡ Ok x
+Answers (Err refusal) want = refusal ≢ refused.Memory → want ≡ Err refusal
