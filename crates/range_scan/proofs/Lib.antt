@@ -1,0 +1,9 @@
+pub mod Boxes
+pub mod Downward
+pub mod Lists
+pub mod Packed
+pub mod Standing
+pub mod Tests
+pub mod Trees
+pub mod Underway
+pub mod Visiting

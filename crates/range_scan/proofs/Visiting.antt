@@ -1,0 +1,58 @@
+-- What the bytes of a page that was read say of it.
+use Rattle.std.proofs.Common.{◌≡◌, ◌≤◌, ◌++◌, ℕ, List, filter, reverse, Ok, sym, ap, ◌∙◌, subst, append-nil}
+use Rattle.std.specs.Prelude.{IsOk, is_ok}
+use Rattle.std.specs.List.{All}
+use Rattle.std.proofs.lemmas.List.Elements.{All-nil}
+use Rattle.cube_point.specs.declared.bounds.Region.{Region}
+use Rattle.cube_point.specs.declared.point.Entry.{Entry}
+use Rattle.packing.specs.Tree.{Leaf, Inner}
+use Rattle.page_fmt.specs.declared.page.Child.{Child}
+use Rattle.page_fmt.specs.declared.page.Head.{Head}
+use Rattle.page_fmt.specs.declared.page.Node.TheVariants as nodes
+use Rattle.page_fmt.specs.declared.page.Place.{Place}
+use Rattle.page_fmt.specs.Taking.{children, entries, taken}
+use Rattle.tree_pack.specs.Pages.{PointPage}
+use Rattle.tree_scan.specs.Steps.{IsPageOf}
+use Rattle.range_scan.specs.Meeting.{is_inside}
+use Rattle.range_scan.specs.Searching.{IsSound, children_in}
+use Rattle.range_scan.specs.Steps.{IsVisited}
+use Rattle.range_scan.specs.Visits.{below, held, held_if, hits, met, page_of}
+
+module _ (tree : Place) (bytes : List ℕ) (number : ℕ) (page : List ℕ) (is : IsPageOf bytes number page) (head : Head) (accepted : Ok head ≡ taken tree.shape number page) where
+  page-is : page_of tree.shape bytes number ≡ held tree.shape page head.node
+  unfolding page_of
+  page-is = (λ i. held_if tree.shape (sym is.bytes_are i) (taken tree.shape number (sym is.bytes_are i))) ∙ ap (held_if tree.shape page) (sym accepted)
+
+  is-lawful : IsOk (taken tree.shape number page)
+  is-lawful = sym (ap is_ok accepted)
+
+  sound : All (λ (c : Child). tree.first ≤ c.page) (children_in (page_of tree.shape bytes number)) → IsSound tree bytes number
+  sound all = record { whole = is.whole; lawful = subst (λ (p : List ℕ). IsOk (taken tree.shape number p)) is.bytes_are is-lawful; within = all }
+
+  module _ (node : head.node ≡ nodes.Leaf) where
+    leaf-is : page_of tree.shape bytes number ≡ Leaf (entries tree.shape.measures page)
+    leaf-is = page-is ∙ ap (held tree.shape page) node
+
+    pub leaf-visited : (region : Region) (found more : List Entry) (ahead : List ℕ) → more ≡ found ++ filter (is_inside region) (entries tree.shape.measures page)
+        → IsVisited tree region bytes number found more ahead ahead
+    leaf-visited region found more ahead finds = record {
+      sound = sound (subst (λ (p : PointPage). All (λ (c : Child). tree.first ≤ c.page) (children_in p)) (sym leaf-is) (All-nil (λ (c : Child). tree.first ≤ c.page)));
+      finds = finds ∙ ap (λ p. found ++ hits region p) (sym leaf-is);
+      goes_on = ap (λ p. below region p ++ reverse ahead) (sym leaf-is);
+    }
+
+  module _ (node : head.node ≡ nodes.Inner) where
+    inner-is : page_of tree.shape bytes number ≡ Inner (children page)
+    inner-is = page-is ∙ ap (held tree.shape page) node
+
+    pub inner-visited : (region : Region) (found : List Entry) (ahead next : List ℕ) → All (λ (c : Child). tree.first ≤ c.page) (children page) → reverse next ≡ met region (children page) ++ reverse ahead
+        → IsVisited tree region bytes number found found ahead next
+    inner-visited region found ahead next all goes_on = record {
+      sound = sound (subst (λ (p : PointPage). All (λ (c : Child). tree.first ≤ c.page) (children_in p)) (sym inner-is) all);
+      finds = sym (append-nil found) ∙ ap (λ p. found ++ hits region p) (sym inner-is);
+      goes_on = goes_on ∙ ap (λ p. below region p ++ reverse ahead) (sym inner-is);
+    }
+
+    -- a child before the tree's first page is a fault
+    pub inner-unsound : (All (λ (c : Child). tree.first ≤ c.page) (children page) → ⊥) → IsSound tree bytes number → ⊥
+    inner-unsound before is_sound = before (subst (λ (p : PointPage). All (λ (c : Child). tree.first ≤ c.page) (children_in p)) inner-is is_sound.within)

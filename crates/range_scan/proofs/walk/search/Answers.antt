@@ -1,0 +1,9 @@
+use Rattle.std.proofs.Common.{arith}
+use Rattle.range_scan.proofs.Packed.{packed-searched}
+use Rattle.range_scan.proofs.walk.search.Goals as goal
+
+pub returns-clause-points : goal.returns-clause-points
+returns-clause-points g c = λ tells points holds. (packed-searched c.args.tree.now c.requires.shape (omega (arith, c.requires.few)) c.args.region.now ((g.T.Site.disk c.args.site.now).files c.args.tree.now.file) points holds c.walk.result (c.walk.ensures.searched tells)).0
+
+pub returns-clause-undamaged : goal.returns-clause-undamaged
+returns-clause-undamaged g c = λ tells points holds. (packed-searched c.args.tree.now c.requires.shape (omega (arith, c.requires.few)) c.args.region.now ((g.T.Site.disk c.args.site.now).files c.args.tree.now.file) points holds c.walk.result (c.walk.ensures.searched tells)).1

@@ -1,0 +1,24 @@
+use Rattle.std.proofs.Common.{rules, ◌≡◌, sym, ◌∙◌}
+use Rattle.std.proofs.lemmas.Bool.{true≢false}
+use Rattle.page_fmt.specs.declared.page.Node.TheVariants as nodes
+use Rattle.range_scan.proofs.Visiting.{inner-unsound, inner-visited, leaf-visited}
+use Rattle.range_scan.proofs.walk.visit.Goals as goal
+
+pub returns-then-not-branch-clause-stop : goal.returns-then-not-branch-clause-stop
+returns-then-not-branch-clause-stop g c = λ tells.
+    let node : c.in-Ok-take_page.head.node ≡ nodes.Inner = search rules in
+    inner-unsound c.args.query.now.tree.now ((g.T.Site.disk c.args.site.now).files c.args.query.now.tree.now.file) c.args.number c.in-Ok.page.now (c.in-Ok.ensures.page tells) c.in-Ok-take_page.head c.in-Ok-take_page.ensures.exact node
+    (λ all. true≢false (sym (c.in_ok-take_children.ensures.within.1 all) ∙ c.if-not-branch.true))
+
+pub returns-in_ok-take_points-clause-visited : goal.returns-in_ok-take_points-clause-visited
+returns-in_ok-take_points-clause-visited g c = λ tells.
+    let node : c.in-Ok-take_page.head.node ≡ nodes.Leaf = search rules in
+    leaf-visited c.args.query.now.tree.now ((g.T.Site.disk c.args.site.now).files c.args.query.now.tree.now.file) c.args.number c.in-Ok.page.now (c.in-Ok.ensures.page tells) c.in-Ok-take_page.head c.in-Ok-take_page.ensures.exact node
+    c.args.query.now.region.now c.args.walk.now.found.items c.take_points.new.found.items c.args.walk.now.ahead.items c.in_ok-take_points.ensures.finds
+
+pub returns-else-not-branch-clause-visited : goal.returns-else-not-branch-clause-visited
+returns-else-not-branch-clause-visited g c = λ tells.
+    let node : c.in-Ok-take_page.head.node ≡ nodes.Inner = search rules in
+    inner-visited c.args.query.now.tree.now ((g.T.Site.disk c.args.site.now).files c.args.query.now.tree.now.file) c.args.number c.in-Ok.page.now (c.in-Ok.ensures.page tells) c.in-Ok-take_page.head c.in-Ok-take_page.ensures.exact node
+    c.args.query.now.region.now c.args.walk.now.found.items c.args.walk.now.ahead.items c.take_children.new.ahead.items
+    (c.in_ok-take_children.ensures.within.0 c.if-not-branch.false) (c.in_ok-take_children.ensures.goes_on c.if-not-branch.false)

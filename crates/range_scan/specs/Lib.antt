@@ -1,0 +1,5 @@
+pub mod Meeting
+pub mod Packed
+pub mod Searching
+pub mod Steps
+pub mod Visits

@@ -1,0 +1,62 @@
+-- What a search of a tree answers, whatever the file holds.
+use Rattle.std.specs.Prelude.{◌≡◌, ℕ, ◌+◌, ◌*◌, ◌<◌, ◌≤◌, List, [], ◌∷◌, ◌++◌, length, Result, Ok, Err, IsOk}
+use Rattle.std.specs.List.{All}
+use Rattle.cube_point.specs.Boxes.{IsInside}
+use Rattle.cube_point.specs.declared.bounds.Region.{Region}
+use Rattle.cube_point.specs.declared.point.Entry.{Entry}
+use Rattle.cube_point.specs.declared.point.Shape.{Shape}
+use Rattle.packing.specs.Tree.{Leaf, Inner}
+use Rattle.page_fmt.specs.declared.page.Child.{Child}
+use Rattle.page_fmt.specs.declared.page.Place.{Place}
+use Rattle.page_fmt.specs.declared.page.TheConstants.{PAGE}
+use Rattle.page_fmt.specs.Taking.{taken}
+use Rattle.page_fmt.specs.Writing.{FitsLeaf}
+use Rattle.tree_pack.specs.Pages.{PointPage}
+use Rattle.tree_scan.specs.Scanning.{page_at}
+use Rattle.range_scan.specs.Visits.{found_in, page_of, visits}
+use Rattle.range_scan.specs.declared.walk.SearchStop.{SearchStop}
+use Rattle.range_scan.specs.declared.walk.SearchStop.TheVariants as stops
+
+-- the children of an inner page; a leaf has none
+abbrev pub children_in : PointPage → List Child
+children_in (Leaf es) = []
+children_in (Inner cs) = cs
+
+-- the page is there and lawful, and no child stands before the tree's first page
+pub record IsSound (tree : Place) (bytes : List ℕ) (number : ℕ) : Type 0 where
+  pub whole : PAGE * (number + 1) ≤ length bytes
+  pub lawful : IsOk (taken tree.shape number (page_at bytes number))
+  pub within : All (λ (c : Child). tree.first ≤ c.page) (children_in (page_of tree.shape bytes number))
+
+-- each page that the search goes to is sound, and they are no more than the tree has; their points in the region are found
+pub record IsAnswer (tree : Place) (region : Region) (bytes : List ℕ) (found : List Entry) : Type 0 where
+  pub sound : All (IsSound tree bytes) (visits tree region bytes)
+  pub few : length (visits tree region bytes) ≤ tree.pages
+  pub points : found ≡ found_in tree region bytes (visits tree region bytes)
+
+-- of the pages that the search goes to, this is the first that is not sound, or the first that is one more than the tree has
+pub record IsFirstBad (tree : Place) (region : Region) (bytes : List ℕ) (number : ℕ) : Type 0 where
+  pub before : List ℕ
+  pub after : List ℕ
+  pub split : visits tree region bytes ≡ before ++ number ∷ after
+  pub sound : All (IsSound tree bytes) before
+  pub few : length before ≤ tree.pages
+  pub bad : length before < tree.pages → IsSound tree bytes number → ⊥
+
+-- the point lies in the region, and is one that a leaf may hold
+pub record IsHit (shape : Shape) (region : Region) (e : Entry) : Type 0 where
+  pub inside : IsInside e.point region
+  pub good : FitsLeaf shape e
+
+-- the points found, or the first page that is bad
+abbrev pub IsSearched : Place → Region → List ℕ → Result (List Entry) SearchStop → Type 0
+IsSearched tree region bytes (Ok found) = IsAnswer tree region bytes found
+IsSearched tree region bytes (Err (stops.Damaged page)) = IsFirstBad tree region bytes page
+IsSearched tree region bytes (Err stops.Disk) = Unit {0}
+IsSearched tree region bytes (Err stops.Memory) = Unit {0}
+
+-- damage that is told is one of these pages
+abbrev pub NamesPage : ℕ → ℕ → SearchStop → Type 0
+NamesPage first count (stops.Damaged page) = (first ≤ page) × (page < first + count)
+NamesPage first count stops.Disk = Unit {0}
+NamesPage first count stops.Memory = Unit {0}

@@ -1,0 +1,79 @@
+//! What a search takes from one page.
+
+ghost use Rattle.std.specs.Prelude.{◌≡◌, ◌↔◌, ◌<◌, ◌≤◌, ◌+◌, ◌++◌, IsTrue, OnOk, IfOk, filter, length, reverse};
+ghost use Rattle.std.specs.List.{All};
+ghost use Rattle.page_fmt.specs.declared.page.Child.{Child};
+ghost use Rattle.page_fmt.specs.Lawful.{HasChildren, HasEntries};
+ghost use Rattle.page_fmt.specs.Taking.{children, entries, page_count};
+ghost use Rattle.page_fmt.specs.Writing.{FitsLeaf};
+ghost use Rattle.range_scan.specs.Meeting.{is_inside};
+ghost use Rattle.range_scan.specs.Searching.{IsHit};
+ghost use Rattle.range_scan.specs.Steps.{AreAhead};
+ghost use Rattle.range_scan.specs.Visits.{met};
+
+use crate::walk::Query;
+use cube_point::{Entry, inside, meets};
+use fact_model::Memory;
+use page_fmt::{inner_entry, leaf_entry};
+
+/// The bytes of a page.
+const PAGE: usize = 4096;
+
+/// Puts the points of a leaf that lie in the region behind the others.
+pub(crate) fn take_points(
+    page: &[u8; PAGE],
+    query: &Query<'_>,
+    count: u16,
+    found: &mut Vec<Entry>,
+) -> Result<(), Memory>
+    requires page { HasEntries query.now.tree.now.shape page.now }
+    requires said { count ≡ page_count page.now }
+    requires count { count ≡ length (entries query.now.tree.now.shape.measures page.now) }
+    requires good { All (FitsLeaf query.now.tree.now.shape) (entries query.now.tree.now.shape.measures page.now) }
+    requires hits { All (IsHit query.now.tree.now.shape query.now.region.now) found.old.items }
+
+    ensures finds { OnOk result (found.new.items
+        ≡ found.old.items ++ filter (is_inside query.now.region.now) (entries query.now.tree.now.shape.measures page.now)) }
+    ensures hits { OnOk result (All (IsHit query.now.tree.now.shape query.now.region.now) found.new.items) }
+{
+    for index in 0..count as usize {
+        let entry = leaf_entry(page, &query.tree.shape, index);
+        if inside(&entry.point, query.region) {
+            found.push(entry)?;
+        }
+    }
+    Ok(())
+}
+
+/// Puts the children of an inner page whose boxes meet the region behind the others, the first child last, since the last
+/// page ahead is visited next. False, where a child stands before the tree's first page.
+pub(crate) fn take_children(
+    page: &[u8; PAGE],
+    query: &Query<'_>,
+    count: u16,
+    ahead: &mut Vec<u64>,
+) -> Result<bool, Memory>
+    requires page { HasChildren query.now.tree.now.shape page.now }
+    requires said { count ≡ page_count page.now }
+    requires count { count ≡ length (children page.now) }
+    requires below { All (λ (c : Child). c.page < query.now.tree.now.first + query.now.tree.now.pages) (children page.now) }
+    requires ahead { AreAhead query.now.tree.now ahead.old.items }
+
+    ensures within { IfOk result (λ taken. IsTrue taken
+        ↔ All (λ (c : Child). query.now.tree.now.first ≤ c.page) (children page.now)) }
+    ensures goes_on { IfOk result (λ taken. IsTrue taken
+        → reverse ahead.new.items ≡ met query.now.region.now (children page.now) ++ reverse ahead.old.items) }
+    ensures ahead { OnOk result (AreAhead query.now.tree.now ahead.new.items) }
+{
+    let count = count as usize;
+    for passed in 0..count {
+        let child = inner_entry(page, &query.tree.shape, count - 1 - passed);
+        if child.page < query.tree.first {
+            return Ok(false);
+        }
+        if meets(&child.bounds, query.region) {
+            ahead.push(child.page)?;
+        }
+    }
+    Ok(true)
+}

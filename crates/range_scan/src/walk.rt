@@ -1,0 +1,203 @@
+//! The search: from the top page down to each child whose box meets the region, from left to right.
+
+ghost use Rattle.std.specs.Prelude.{◌≡◌, ◌<◌, ◌≤◌, ◌+◌, ◌^◌, IsTrue, IfOk, IfErr, OnOk, List, filter, length};
+ghost use Rattle.std.specs.List.{All};
+ghost use Rattle.site_core.specs.Calls.{Rests};
+ghost use Rattle.forest_root.specs.Causes.{HasCauseWhere};
+ghost use Rattle.cube_point.specs.declared.point.Entry as entries;
+ghost use Rattle.page_fmt.specs.Writing.{IsShape};
+ghost use Rattle.range_scan.specs.Meeting.{is_inside};
+ghost use Rattle.range_scan.specs.Packed.{HoldsTree, IsUndamaged};
+ghost use Rattle.range_scan.specs.Searching.{IsHit, IsSearched, NamesPage};
+ghost use Rattle.range_scan.specs.Steps.{AreAhead, ExplainsStop, IsVisited};
+ghost use Rattle.range_scan.specs.Visits.{top_page, visits};
+
+use crate::page::{take_children, take_points};
+use cube_point::{Entry, EntryList, Region};
+use fact_model::{ListOf, Memory};
+use page_cache::{CacheStop, Pages};
+use page_fmt::{Node, Place, take_page};
+use site_core::Site;
+use std::alloc::Global;
+
+/// Why the points of a region could not be found.
+#[derive(Clone, Copy, Debug, PartialEq, Eq)]
+pub enum SearchStop {
+    /// A call on the file failed.
+    Disk,
+    /// The page with this number is short or not lawful, has a child before the tree's first page, or is one more than the
+    /// tree has.
+    Damaged {
+        /// The number of the page in its file.
+        page: u64,
+    },
+    /// Want of memory.
+    Memory,
+}
+
+/// What is searched for, and where.
+#[derive(Clone, Copy)]
+pub(crate) struct Query<'a> {
+    pub(crate) tree: &'a Place,
+    pub(crate) region: &'a Region,
+}
+
+/// How far a search has come.
+#[derive(Drop)]
+struct Progress {
+    found: Vec<Entry>,
+    // The pages that are still to be visited, the next one last.
+    ahead: Vec<u64>,
+}
+
+/// The points of a tree inside a region, in the order of its leaves, which in a packed tree is point order. It reads the top
+/// page, and each page whose box and all boxes above it meet the region. Nothing is changed, also after an error.
+///
+/// `Damaged` names the first of these pages that is short or not lawful, or has a child before the tree's first page; or the
+/// first that is one more than the tree has.
+pub fn search<T: Site>(
+    alloc: Global,
+    site: &mut T,
+    pages: &mut Pages,
+    tree: &Place,
+    region: &Region,
+) -> Result<EntryList, SearchStop>
+    requires file { tree.now.file < 4 }
+    requires shape { IsShape tree.now.shape }
+    requires few { tree.now.first + tree.now.pages ≤ 2 ^ 50 }
+
+    ensures searched { IsTrue T.tells
+        → IsSearched tree.now region.now ((T.disk site.old).files tree.now.file) result }
+    ensures visits { IsTrue T.tells
+        → T.reads site.new ≤ T.reads site.old + length (visits tree.now region.now ((T.disk site.old).files tree.now.file)) }
+
+    // A packed tree.
+    ensures points { IsTrue T.tells → (points : List entries.Entry)
+        → HoldsTree tree.now ((T.disk site.old).files tree.now.file) points
+        → IfOk result (λ found. found ≡ filter (is_inside region.now) points) }
+    ensures undamaged { IsTrue T.tells → (points : List entries.Entry)
+        → HoldsTree tree.now ((T.disk site.old).files tree.now.file) points → IfErr result IsUndamaged }
+
+    // Whatever the file holds.
+    ensures hits { IfOk result (All (IsHit tree.now.shape region.now)) }
+    ensures page { IfErr result (NamesPage tree.now.first tree.now.pages) }
+    ensures cache { pages.new ≡ pages.old }
+    ensures disk { IsTrue T.tells → Rests (T.disk site.old) (T.disk site.new) }
+    ensures cause { HasCauseWhere SearchStop.Disk (T.disk_faults site.old) (T.disk_faults site.new) result }
+    ensures told_faults { T.told_faults site.new ≡ T.told_faults site.old }
+    ensures reads { T.reads site.new ≤ T.reads site.old + tree.now.pages }
+    ensures writes { T.writes site.new ≡ T.writes site.old }
+{
+    walk(alloc, site, pages, &Query { tree, region })
+}
+
+/// Visits the pages of the search one after another.
+fn walk<T: Site>(
+    alloc: Global,
+    site: &mut T,
+    pages: &mut Pages,
+    query: &Query<'_>,
+) -> Result<EntryList, SearchStop>
+    requires file { query.now.tree.now.file < 4 }
+    requires shape { IsShape query.now.tree.now.shape }
+    requires few { query.now.tree.now.first + query.now.tree.now.pages ≤ 2 ^ 50 }
+
+    ensures searched { IsTrue T.tells → IsSearched query.now.tree.now query.now.region.now
+        ((T.disk site.old).files query.now.tree.now.file) result }
+    ensures visits { IsTrue T.tells → T.reads site.new ≤ T.reads site.old
+        + length (visits query.now.tree.now query.now.region.now ((T.disk site.old).files query.now.tree.now.file)) }
+    ensures hits { IfOk result (All (IsHit query.now.tree.now.shape query.now.region.now)) }
+    ensures page { IfErr result (NamesPage query.now.tree.now.first query.now.tree.now.pages) }
+    ensures cache { pages.new ≡ pages.old }
+    ensures disk { IsTrue T.tells → Rests (T.disk site.old) (T.disk site.new) }
+    ensures cause { HasCauseWhere SearchStop.Disk (T.disk_faults site.old) (T.disk_faults site.new) result }
+    ensures told_faults { T.told_faults site.new ≡ T.told_faults site.old }
+    ensures reads { T.reads site.new ≤ T.reads site.old + query.now.tree.now.pages }
+    ensures writes { T.writes site.new ≡ T.writes site.old }
+{
+    let mut walk = Progress {
+        found: Vec::new(alloc),
+        ahead: top_page(alloc, query.tree)?,
+    };
+    // A packed tree has no more ways than pages.
+    for _ in 0..query.tree.pages {
+        match walk.ahead.pop() {
+            None => return Ok(ListOf::from_vec(walk.found)),
+            Some(number) => visit(site, pages, query, number, &mut walk)?,
+        }
+    }
+    match walk.ahead.pop() {
+        None => Ok(ListOf::from_vec(walk.found)),
+        Some(page) => Err(SearchStop::Damaged { page }),
+    }
+}
+
+/// The top page alone, where the tree has pages.
+fn top_page(alloc: Global, tree: &Place) -> Result<Vec<u64>, Memory>
+    requires { tree.now.first + tree.now.pages ≤ 2 ^ 50 }
+    ensures { IfOk result (λ ahead. ahead.items ≡ top_page tree.now.first tree.now.pages) }
+{
+    let mut ahead = Vec::new(alloc);
+    if tree.pages > 0 {
+        ahead.push(tree.first + (tree.pages - 1))?;
+    }
+    Ok(ahead)
+}
+
+/// Takes the points or the children of the page with this number.
+fn visit<T: Site>(
+    site: &mut T,
+    pages: &mut Pages,
+    query: &Query<'_>,
+    number: u64,
+    walk: &mut Progress,
+) -> Result<(), SearchStop>
+    requires file { query.now.tree.now.file < 4 }
+    requires shape { IsShape query.now.tree.now.shape }
+    requires few { query.now.tree.now.first + query.now.tree.now.pages ≤ 2 ^ 50 }
+    requires from { query.now.tree.now.first ≤ number }
+    requires within { number < query.now.tree.now.first + query.now.tree.now.pages }
+    requires ahead { AreAhead query.now.tree.now walk.old.ahead.items }
+    requires hits { All (IsHit query.now.tree.now.shape query.now.region.now) walk.old.found.items }
+
+    ensures visited { IsTrue T.tells → OnOk result (IsVisited query.now.tree.now query.now.region.now
+        ((T.disk site.old).files query.now.tree.now.file) number
+        walk.old.found.items walk.new.found.items walk.old.ahead.items walk.new.ahead.items) }
+    ensures stop { IsTrue T.tells
+        → IfErr result (ExplainsStop query.now.tree.now ((T.disk site.old).files query.now.tree.now.file) number) }
+    ensures ahead { OnOk result (AreAhead query.now.tree.now walk.new.ahead.items) }
+    ensures hits { OnOk result (All (IsHit query.now.tree.now.shape query.now.region.now) walk.new.found.items) }
+    ensures names { IfErr result (NamesPage number 1) }
+    ensures cache { pages.new ≡ pages.old }
+    ensures disk { IsTrue T.tells → Rests (T.disk site.old) (T.disk site.new) }
+    ensures cause { HasCauseWhere SearchStop.Disk (T.disk_faults site.old) (T.disk_faults site.new) result }
+    ensures told_faults { T.told_faults site.new ≡ T.told_faults site.old }
+    ensures reads { T.reads site.new ≤ T.reads site.old + 1 }
+    ensures writes { T.writes site.new ≡ T.writes site.old }
+{
+    let page = match pages.page(site, query.tree.file, number) {
+        Ok(page) => page,
+        Err(CacheStop::Disk) => return Err(SearchStop::Disk),
+        Err(CacheStop::Short) => return Err(SearchStop::Damaged { page: number }),
+        Err(CacheStop::Memory) => return Err(SearchStop::Memory),
+    };
+    let Ok(head) = take_page(page, &query.tree.shape, number) else {
+        return Err(SearchStop::Damaged { page: number });
+    };
+    if head.node == Node::Leaf {
+        take_points(page, query, head.count, &mut walk.found)?;
+    } else if !take_children(page, query, head.count, &mut walk.ahead)? {
+        return Err(SearchStop::Damaged { page: number });
+    }
+    Ok(())
+}
+
+impl From<Memory> for SearchStop {
+    ghost use Rattle.range_scan.specs.declared.walk.SearchStop.TheVariants as stops;
+
+    ghost from_gives = { λ _ stop. stop ≡ stops.Memory };
+
+    fn from(_memory: Memory) -> SearchStop {
+        SearchStop::Memory
+    }
+}
