@@ -26,20 +26,21 @@ use Rattle.attr_dict.specs.Book.{value_for}
 
 -- ---- a value comes back from its code
 
-code-is : (ts : List Text) (v : Value) → HasCode ts v → code_in ts v ≡ Some (coord ts v)
+pub code-is : (ts : List Text) (v : Value) → HasCode ts v → code_in ts v ≡ Some (coord ts v)
 code-is ts v has = by (code_in ts v) has
   where
     by : (o : Option ℕ) → is_some o ≡ true → o ≡ Some (unwrap_or o 0)
     by None h = absurd (true≢false (sym h))
     by (Some c) h = refl
 
+pub value-told : (k : Kind) (ts : List Text) (v : Value) → IsOfKind k v → HasCode ts v → value_for k ts (coord ts v) ≡ Some v
+value-told (kind.Word max) ts (Word t) of has = value-of-code ts (Word t) (coord ts (Word t)) (code-is ts (Word t) has)
+value-told (kind.Word max) ts (Number n) of has = absurd of
+value-told kind.Number ts (Word t) of has = absurd of
+value-told kind.Number ts (Number n) of has = ap (λ (b : Bool). if b then Some (Number n) else None) (le-leb (suc n) (suc number_limit) (omega (arith, of)))
+
 value-back : (k : Kind) (ts : List Text) (v : Value) → IsOfKind k v → HasCode ts v → unwrap_or (value_for k ts (coord ts v)) (Number 0) ≡ v
-value-back (kind.Word max) ts (Word t) of has =
-    ap (λ o. unwrap_or o (Number 0)) (value-of-code ts (Word t) (coord ts (Word t)) (code-is ts (Word t) has))
-value-back (kind.Word max) ts (Number n) of has = absurd of
-value-back kind.Number ts (Word t) of has = absurd of
-value-back kind.Number ts (Number n) of has =
-    ap (λ (b : Bool). unwrap_or (if b then Some (Number n) else None) (Number 0)) (le-leb (suc n) (suc number_limit) (omega (arith, of)))
+value-back k ts v of has = ap (λ o. unwrap_or o (Number 0)) (value-told k ts v of has)
 
 module _ (kinds : List Kind) (names : Names) where
   -- ---- the key of a fact's place

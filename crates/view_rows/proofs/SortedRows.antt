@@ -43,7 +43,7 @@ turned Less = refl
 turned Equal = refl
 turned Greater = refl
 
-no-later : (j k : Key) → is_lt (key_cmp k j) ≡ false → is_gt (key_cmp j k) ≡ false
+pub no-later : (j k : Key) → is_lt (key_cmp k j) ≡ false → is_gt (key_cmp j k) ≡ false
 no-later j k h = ap is_gt (key-total.antisymm j k) ∙ (turned (key_cmp k j) ∙ h)
 
 -- entries whose rows are sorted are in order

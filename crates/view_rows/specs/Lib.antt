@@ -1,1 +1,3 @@
+pub mod Grouped
+pub mod Regions
 pub mod Sums

@@ -1,6 +1,15 @@
-//! The rows of a slice by all attributes of a view, from the points of the view.
+//! The rows of slices from the points of a view, and the region in which these points lie.
 #![tactic(auto)]
 
+mod grouped;
+mod joining;
+mod keys;
+mod regions;
+mod rows;
+mod stop;
 mod sums;
 
+pub use grouped::rows_by;
+pub use regions::region;
+pub use stop::RowsStop;
 pub use sums::sums_by_view;

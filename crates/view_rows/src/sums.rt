@@ -88,7 +88,7 @@ fn key_of(alloc: Global, names: &Dicts, view: &[u32], at: &[u64; 8]) -> Result<V
 }
 
 /// The value that a coordinate of an attribute stands for, with a text copied; the number 0 where there is none.
-fn value_of(alloc: Global, names: &Dicts, attr: u32, code: u64) -> Result<Value, Memory>
+pub(crate) fn value_of(alloc: Global, names: &Dicts, attr: u32, code: u64) -> Result<Value, Memory>
     requires { attr < length names.now.kinds }
     ensures { IfOk result (λ value. value ≡ value_at_code names.now attr code) }
 {

@@ -1,0 +1,109 @@
+-- The rows of a slice from the points of a view, whatever points these are.
+use Rattle.std.specs.Prelude.{◌≡◌, ℕ, Bool, true, false, List, [], ◌∷◌, map, filter, length, is_some}
+use Rattle.std.specs.List.{All, list_all}
+use Rattle.std.specs.Ordering.{is_eq, is_lt}
+use Rattle.fact_model.specs.declared.cell.Cell.{Cell}
+use Rattle.fact_model.specs.declared.fact.Fact.{Fact}
+use Rattle.fact_model.specs.declared.slice.Row.{Row}
+use Rattle.fact_model.specs.declared.slice.Slice.{Slice}
+use Rattle.fact_model.specs.Cell.{FitCells, join}
+use Rattle.fact_model.specs.Groups.{groups, having}
+use Rattle.fact_model.specs.Value.{Key, key_cmp}
+use Rattle.cube_point.specs.declared.point.Entry.{Entry}
+use Rattle.view_points.specs.Agree.{AgreesSlice, Covers, IsCoded, is_text}
+use Rattle.view_points.specs.Answer.{coordinate, inside, joined, region, row_from}
+use Rattle.view_points.specs.Entries.{entry_of, pair_of}
+use Rattle.view_points.specs.Points.{PlacedCell, View, points_by}
+use Rattle.attr_dict.specs.Admitting.{Agrees}
+use Rattle.attr_dict.specs.Book.{Book, names_at, value_of}
+use Rattle.view_rows.specs.Regions.{is_word}
+use Rattle.view_rows.specs.Sums.{value_at_code}
+
+module _ (b : Book) (view : View) (group : List ℕ) where
+  -- the values of the grouped attributes at a place
+  abbrev pub group_key : List ℕ → Key
+  group_key place = map (λ a. value_at_code b a (coordinate view place a)) group
+
+  -- the same of a point
+  abbrev pub key_of_entry : Entry → Key
+  key_of_entry e = group_key e.point.at
+
+  -- a point by its key
+  abbrev pub keyed : Entry → Key × Cell
+  keyed e = (key_of_entry e, e.cell)
+
+  -- the coordinate of each grouped attribute stands for a value
+  abbrev pub has_values : Entry → Bool
+  has_values e = list_all (λ a. is_some (value_of b a (coordinate view e.point.at a))) group
+
+  -- the cells of the points of a key, in their order
+  abbrev pub cells_of : Key → List Entry → List Cell
+  cells_of k es = map (λ (e : Entry). e.cell) (having key_cmp key_of_entry k es)
+
+  -- an entry for each key, ascending: the key, and the joined cell of its points
+  abbrev pub by_key : List Entry → List (Key × Cell)
+  by_key es = groups key_cmp (λ (e : PlacedCell). group_key e.0) joined (map pair_of es)
+
+  -- the key of the first point comes before that of the second
+  abbrev pub is_before : Entry → Entry → Bool
+  is_before d e = is_lt (key_cmp (key_of_entry d) (key_of_entry e))
+
+-- two cells have as many measures, and their counts and sums add up within their types
+pub record Joins (c d : Cell) : Type 0 where
+  pub measures : c.measures ≡ d.measures
+  pub fit : FitCells c d
+
+-- each cell joins with the join of those before it
+abbrev pub AllJoinTo : Cell → List Cell → Type 0
+AllJoinTo c [] = Unit {0}
+AllJoinTo c (d ∷ cells) = Joins c d × AllJoinTo (join c d) cells
+
+abbrev pub AllJoin : List Cell → Type 0
+AllJoin [] = Unit {0}
+AllJoin (c ∷ cells) = AllJoinTo c cells
+
+-- each grouped coordinate stands for a value, and the cells of each key join
+pub record AreSound (b : Book) (view : View) (group : List ℕ) (es : List Entry) : Type 0 where
+  pub values : list_all (has_values b view group) es ≡ true
+  pub cells : (k : Key) → AllJoin (cells_of b view group k es)
+
+-- ---- on the way there
+
+-- the first point with the cells of both
+abbrev pub both : Entry → Entry → Entry
+both e d = record { point = e.point; cell = join e.cell d.cell }
+
+-- where neighbours have one key, each cell joins with the join of those before it
+abbrev pub NeighboursJoinTo : Key × Cell → List (Key × Cell) → Type 0
+NeighboursJoinTo e [] = Unit {0}
+NeighboursJoinTo e (d ∷ ds) =
+    (is_eq (key_cmp e.0 d.0) ≡ true → Joins e.1 d.1 × NeighboursJoinTo (e.0, join e.1 d.1) ds) × (is_eq (key_cmp e.0 d.0) ≡ false → NeighboursJoinTo d ds)
+
+abbrev pub NeighboursJoin : List (Key × Cell) → Type 0
+NeighboursJoin [] = Unit {0}
+NeighboursJoin (e ∷ es) = NeighboursJoinTo e es
+
+-- ----
+
+-- a row for each key, ascending, with the columns of the joined cell
+abbrev pub rows_from : Book → View → Slice → List Entry → List Row
+rows_from b view s es = map (row_from s.columns) (by_key b view s.group es)
+
+-- the row has a value of the right kind for each grouped attribute, and a number for each column
+pub record HasForm (b : Book) (s : Slice) (row : Row) : Type 0 where
+  pub kinds : map is_text row.key ≡ map (is_word b) s.group
+  pub numbers : length row.numbers ≡ length s.columns
+
+-- ---- points of facts
+
+-- the points of facts in the view that lie inside the region of the slice, by these names
+abbrev pub points_inside : Book → ℕ → View → Slice → List Fact → List Entry
+points_inside b measures view s facts =
+    map entry_of (filter (λ (e : PlacedCell). inside (region (names_at b) s.conds view) e.0) (points_by (names_at b) measures view facts))
+
+-- the slice and the facts agree with the kinds, the names know all values of the facts, and the view covers the slice
+pub record Answers (b : Book) (view : View) (s : Slice) (facts : List Fact) : Type 0 where
+  pub slice : AgreesSlice (is_word b) s
+  pub covers : Covers view s
+  pub agree : All (Agrees b.kinds) facts
+  pub known : All (IsCoded (names_at b)) facts
