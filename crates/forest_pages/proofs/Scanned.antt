@@ -143,13 +143,19 @@ module _ (schema : Schema) (lawful : IsSchema schema) (facts : List Fact) (stora
     count : length (map content_of pages) ≡ pages_of schema counts (tree schema lawful t)
     count = length-map pages content_of ∙ pages-told schema lawful facts storable t (first t) lt
 
-    -- the tree's pages stand at its place
+    -- the tree's bytes stand at its place
+    pub tree-there : (bytes : List ℕ) → take (length (forest schema facts)) bytes ≡ forest schema facts
+        → take (4096 * pages_of schema counts (tree schema lawful t)) (drop (4096 * first t) bytes) ≡ mid
+    tree-there bytes stands =
+        let long : length mid ≡ 4096 * pages_of schema counts (tree schema lawful t) = (tree-long schema lawful facts storable t lt).1 (first t) (take-within t) in
+        (λ i. take (sym long i) (drop (sym (front-long t) i) bytes))
+        ∙ part-of bytes (forest schema facts) (trees_bytes schema facts 0 (take t trees)) mid rest stands split
+
+    -- and so do its pages
     pub tree-stands : (bytes : List ℕ) → take (length (forest schema facts)) bytes ≡ forest schema facts → HasPages (shape_of schema (tree schema lawful t)) bytes (first t) (map content_of pages)
     tree-stands bytes stands =
-        let long : length mid ≡ 4096 * length (map content_of pages) = (tree-long schema lawful facts storable t lt).1 (first t) (take-within t) ∙ ap (λ n. 4096 * n) (sym count) in
-        (λ i. take (sym long i) (drop (sym (front-long t) i) bytes))
-        ∙ (part-of bytes (forest schema facts) (trees_bytes schema facts 0 (take t trees)) mid rest stands split
-        ∙ sym (contents-bytes (shape_of schema (tree schema lawful t)) pages))
+        ap (λ n. take (4096 * n) (drop (4096 * first t) bytes)) count
+        ∙ (tree-there bytes stands ∙ sym (contents-bytes (shape_of schema (tree schema lawful t)) pages))
 
     scanned : (bytes : List ℕ) → take (length (forest schema facts)) bytes ≡ forest schema facts
         → AreGood (shape_of schema (tree schema lawful t)) bytes (first t) (length (map content_of pages))

@@ -1,0 +1,4 @@
+pub mod Agreed
+pub mod Found
+pub mod Holding
+pub mod Told

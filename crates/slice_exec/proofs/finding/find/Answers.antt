@@ -1,0 +1,94 @@
+use Rattle.std.proofs.Common.{◌<◌, ◌≤◌, ◌+◌, ◌^◌, ◌∙◌, List, filter, subst, sym}
+use Rattle.std.specs.List.{All}
+use Rattle.fact_model.specs.declared.slice.Cond.{Cond}
+use Rattle.page_fmt.specs.declared.page.Place.{Place}
+use Rattle.page_fmt.specs.Writing.{IsShape}
+use Rattle.select_map.specs.Selection.{tree_of}
+use Rattle.view_points.specs.Agree.{AgreesCond}
+use Rattle.forest_pages.specs.Forest.{tree_entries}
+use Rattle.forest_store.proofs.Places.{place-few, place-file, place-shape}
+use Rattle.forest_store.proofs.ViewReads.{in-tree}
+use Rattle.range_scan.specs.Meeting.{is_inside}
+use Rattle.range_scan.specs.Packed.{HoldsTree}
+use Rattle.view_rows.specs.Regions.{is_word}
+use Rattle.slice_exec.specs.Answers.{IsNoDamage, NamesSide}
+use Rattle.slice_exec.proofs.Agreed.{slice-agrees}
+use Rattle.slice_exec.proofs.Found.{agree-is, found-points, region-is}
+use Rattle.slice_exec.proofs.Holding.{holds-tree}
+use Rattle.slice_exec.proofs.Told.{side-told, undamaged-told, view-taken}
+use Rattle.slice_exec.proofs.finding.find.Goals as goal
+
+pub place-tree-requires : goal.place-tree-requires
+place-tree-requires g c =
+    let forest = c.args.store.now.forest in
+    let low = c.requires.covering.0 in
+    in-tree forest c.args.view low c.tree_of.result (c.tree_of.ensures.number forest.schema forest.lawful forest.mapped low)
+
+pub region-region-requires-clause-kinds : goal.region-region-requires-clause-kinds
+region-region-requires-clause-kinds g c =
+    let store = c.args.store.now in
+    subst (λ (conds : List Cond). All (AgreesCond (is_word store.dicts)) conds) (sym c.as_slice-2.ensures)
+    (slice-agrees store.forest.schema store.forest.lawful store.dicts store.kinds c.args.slice.now c.requires.agrees).conds
+
+pub search-requires-clause-file : goal.search-requires-clause-file
+search-requires-clause-file g c =
+    let forest = c.args.store.now.forest in
+    let low = c.requires.covering.0 in
+    let lt = in-tree forest c.args.view low c.tree_of.result (c.tree_of.ensures.number forest.schema forest.lawful forest.mapped low) in
+    subst (λ (p : Place). p.file < 4) (sym c.place-tree.ensures) (place-file forest c.tree_of.result lt)
+
+pub search-requires-clause-shape : goal.search-requires-clause-shape
+search-requires-clause-shape g c =
+    let forest = c.args.store.now.forest in
+    let low = c.requires.covering.0 in
+    let lt = in-tree forest c.args.view low c.tree_of.result (c.tree_of.ensures.number forest.schema forest.lawful forest.mapped low) in
+    subst (λ (p : Place). IsShape p.shape) (sym c.place-tree.ensures) (place-shape forest c.tree_of.result lt)
+
+pub search-requires-clause-few : goal.search-requires-clause-few
+search-requires-clause-few g c =
+    let forest = c.args.store.now.forest in
+    let low = c.requires.covering.0 in
+    let lt = in-tree forest c.args.view low c.tree_of.result (c.tree_of.ensures.number forest.schema forest.lawful forest.mapped low) in
+    subst (λ (p : Place). p.first + p.pages ≤ 2 ^ 50) (sym c.place-tree.ensures) (place-few forest c.tree_of.result lt)
+
+pub stop_at-requires-clause-few : goal.stop_at-requires-clause-few
+stop_at-requires-clause-few g c =
+    let forest = c.args.store.now.forest in
+    let low = c.requires.covering.0 in
+    let lt = in-tree forest c.args.view low c.tree_of.result (c.tree_of.ensures.number forest.schema forest.lawful forest.mapped low) in
+    subst (λ (p : Place). p.first + p.pages ≤ 2 ^ 50) (sym c.place-tree.ensures) (place-few forest c.tree_of.result lt)
+
+pub returns-in-Ok-clause-points : goal.returns-in-Ok-clause-points
+returns-in-Ok-clause-points g c = λ t accepted stored.
+    let store = c.args.store.now in
+    let forest = store.forest in
+    let files = (g.T.Site.disk c.args.site.now).files in
+    let low = c.requires.covering.0 in
+    let number = c.tree_of.ensures.number forest.schema forest.lawful forest.mapped low in
+    let lt = in-tree forest c.args.view low c.tree_of.result number in
+    let holds = subst (λ (p : Place). HoldsTree p (files p.file) (tree_entries forest.schema accepted (tree_of forest.mapping c.tree_of.result))) (sym c.place-tree.ensures)
+    (holds-tree forest c.tree_of.result lt accepted stored.accepted files stored.live) in
+    let attrs = view-taken forest.schema.views c.as_slice.result.now c.args.view c.index-as_slice-view.result c.as_slice-attrs.result.now low c.as_slice.ensures c.index-as_slice-view.is c.as_slice-attrs.ensures in
+    let region = region-is store c.args.view low c.args.slice.now accepted stored.accepted stored.names c.region-region.result c.as_slice-attrs.result.now c.as_slice-2.result.now attrs c.as_slice-2.ensures c.region-region.ensures.intervals in
+    let agree = agree-is store c.args.view low c.args.slice.now accepted stored.accepted stored.names c.region-region.result c.as_slice-attrs.result.now c.as_slice-2.result.now attrs c.as_slice-2.ensures c.region-region.ensures.intervals
+    c.region-region.ensures.inside in
+    let found = c.in-Ok.ensures.points t (tree_entries forest.schema accepted (tree_of forest.mapping c.tree_of.result)) holds in
+    found-points store c.args.view low c.args.slice.now accepted stored.accepted stored.names agree c.in-Ok.points
+    (found ∙ (λ i. filter (is_inside (region i)) (tree_entries forest.schema accepted (tree_of forest.mapping (number i)))))
+
+pub returns-in-Err-clause-undamaged : goal.returns-in-Err-clause-undamaged
+returns-in-Err-clause-undamaged g c = λ t accepted stored.
+    let store = c.args.store.now in
+    let forest = store.forest in
+    let files = (g.T.Site.disk c.args.site.now).files in
+    let low = c.requires.covering.0 in
+    let lt = in-tree forest c.args.view low c.tree_of.result (c.tree_of.ensures.number forest.schema forest.lawful forest.mapped low) in
+    let holds = subst (λ (p : Place). HoldsTree p (files p.file) (tree_entries forest.schema accepted (tree_of forest.mapping c.tree_of.result))) (sym c.place-tree.ensures)
+    (holds-tree forest c.tree_of.result lt accepted stored.accepted files stored.live) in
+    subst IsNoDamage (sym c.stop_at.ensures)
+    (undamaged-told c.place-tree.result c.in-Err.stop (c.in-Err.ensures.undamaged t (tree_entries forest.schema accepted (tree_of forest.mapping c.tree_of.result)) holds))
+
+pub returns-in-Err-clause-place : goal.returns-in-Err-clause-place
+returns-in-Err-clause-place g c =
+    let forest = c.args.store.now.forest in
+    subst (NamesSide forest.body) (sym c.stop_at.ensures) (side-told forest c.tree_of.result c.place-tree.result c.in-Err.stop c.place-tree.ensures)

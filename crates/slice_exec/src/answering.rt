@@ -1,0 +1,111 @@
+//! The rows of a slice, from the view that it is answered from.
+ghost use Rattle.std.specs.Prelude.{◌≡◌, ◌≤◌, ◌+◌, ◌%◌, ◌↔◌, ℕ, IsTrue, IfOk, IfErr, List, length};
+ghost use Rattle.std.specs.List.{All};
+ghost use Rattle.std.specs.Result.{IsErrOf};
+ghost use Rattle.site_core.specs.Calls.{Rests};
+ghost use Rattle.fact_model.specs.declared.fact.Fact as facts;
+ghost use Rattle.fact_model.specs.Rows.{rows};
+ghost use Rattle.forest_root.specs.Causes.{HasCauseWhere};
+ghost use Rattle.forest_store.specs.Stored.{IsStoreOf};
+ghost use Rattle.slice_lang.specs.Agreeing.{SliceAgrees};
+ghost use Rattle.view_route.specs.Routes.{IsCovering, IsRoute};
+ghost use Rattle.view_rows.specs.Grouped.{HasForm};
+ghost use Rattle.slice_exec.specs.Answers.{IsNoDamage, IsUncovered, NamesSide, visits_of};
+
+use crate::finding::find;
+use crate::stop::AnswerStop;
+use fact_model::{Rows, Slice};
+use forest_root::{Forest, Store};
+use page_cache::Pages;
+use site_core::Site;
+use std::alloc::Global;
+use view_route::route;
+use view_rows::{RowsStop, rows_by};
+
+/// The number of the first side file.
+const SIDES: u32 = 2;
+
+/// The rows of a slice: one for each group of the accepted facts that meet its conditions, ascending by key. They are made from the
+/// points of a covering view with fewest points, and of its tree only those pages are read whose boxes meet the conditions. Nothing is
+/// changed, also after an error.
+///
+/// `NotCovered` comes exactly where no view has all grouped and bound attributes. `Damaged` names a page of the live side, or its
+/// offset 0 where a point has a coordinate without a value or cells do not join.
+pub fn answer<T: Site>(
+    alloc: Global,
+    site: &mut T,
+    pages: &mut Pages,
+    store: &Store,
+    slice: &Slice,
+) -> Result<Rows, AnswerStop>
+    requires agrees { SliceAgrees store.now.forest.schema slice.now }
+
+    ensures rows { IsTrue T.tells → (accepted : List facts.Fact) → IsStoreOf store.now accepted (T.disk site.old).files
+        → IfOk result (λ found. found ≡ rows accepted slice.now) }
+    ensures undamaged { IsTrue T.tells → (accepted : List facts.Fact) → IsStoreOf store.now accepted (T.disk site.old).files
+        → IfErr result IsNoDamage }
+    ensures uncovered { IsErrOf result AnswerStop.NotCovered ↔ IsUncovered store.now.forest.schema slice.now }
+    ensures visits { IsTrue T.tells → (view : ℕ) → IsRoute store.now.forest.schema.views store.now.forest.body.counts slice.now view
+        → T.reads site.new ≤ T.reads site.old + length (visits_of store.now slice.now view (T.disk site.old).files) }
+
+    // Whatever the files hold.
+    ensures form { IfOk result (All (HasForm store.now.dicts slice.now)) }
+    ensures place { IfErr result (NamesSide store.now.forest.body) }
+    ensures cache { pages.new ≡ pages.old }
+    ensures disk { IsTrue T.tells → Rests (T.disk site.old) (T.disk site.new) }
+    ensures cause { HasCauseWhere AnswerStop.Disk (T.disk_faults site.old) (T.disk_faults site.new) result }
+    ensures told_faults { T.told_faults site.new ≡ T.told_faults site.old }
+    ensures writes { T.writes site.new ≡ T.writes site.old }
+{
+    let forest = &store.forest;
+    match route(&forest.schema, &forest.body.counts, slice) {
+        Some(view) => answer_from(alloc, site, pages, store, slice, view),
+        None => Err(AnswerStop::NotCovered),
+    }
+}
+
+/// The rows of a slice, from the points of this view, which covers it.
+fn answer_from<T: Site>(
+    alloc: Global,
+    site: &mut T,
+    pages: &mut Pages,
+    store: &Store,
+    slice: &Slice,
+    view: u32,
+) -> Result<Rows, AnswerStop>
+    requires agrees { SliceAgrees store.now.forest.schema slice.now }
+    requires covering { IsCovering store.now.forest.schema.views slice.now view }
+
+    ensures rows { IsTrue T.tells → (accepted : List facts.Fact) → IsStoreOf store.now accepted (T.disk site.old).files
+        → IfOk result (λ found. found ≡ rows accepted slice.now) }
+    ensures undamaged { IsTrue T.tells → (accepted : List facts.Fact) → IsStoreOf store.now accepted (T.disk site.old).files
+        → IfErr result IsNoDamage }
+    ensures visits { IsTrue T.tells → T.reads site.new ≤ T.reads site.old + length (visits_of store.now slice.now view (T.disk site.old).files) }
+
+    ensures form { IfOk result (All (HasForm store.now.dicts slice.now)) }
+    ensures place { IfErr result (NamesSide store.now.forest.body) }
+    ensures covered { IsErrOf result AnswerStop.NotCovered → ⊥ }
+    ensures cache { pages.new ≡ pages.old }
+    ensures disk { IsTrue T.tells → Rests (T.disk site.old) (T.disk site.new) }
+    ensures cause { HasCauseWhere AnswerStop.Disk (T.disk_faults site.old) (T.disk_faults site.new) result }
+    ensures told_faults { T.told_faults site.new ≡ T.told_faults site.old }
+    ensures writes { T.writes site.new ≡ T.writes site.old }
+{
+    let points = find(alloc, site, pages, store, slice, view)?;
+    let attrs = store.forest.schema.views.as_slice()[view as usize].as_slice();
+    match rows_by(alloc, &store.dicts, attrs, slice, points.as_slice()) {
+        Ok(rows) => Ok(rows),
+        Err(RowsStop::Damaged) => Err(bad_side(&store.forest)),
+        Err(RowsStop::Memory) => Err(AnswerStop::Memory),
+    }
+}
+
+/// The live side is not what the warehouse writes, at no page that can be named.
+fn bad_side(forest: &Forest) -> AnswerStop
+    ensures { result ≡ AnswerStop.Damaged (2 + forest.now.body.generation % 2) 0 }
+{
+    AnswerStop::Damaged {
+        file: SIDES + (forest.body.generation % 2) as u32,
+        offset: 0,
+    }
+}

@@ -1,0 +1,60 @@
+//! The points of a view inside the region of a slice.
+ghost use Rattle.std.specs.Prelude.{◌≡◌, ◌≤◌, ◌+◌, IsTrue, IfOk, IfErr, [], List, get_or, length};
+ghost use Rattle.std.specs.Result.{IsErrOf};
+ghost use Rattle.site_core.specs.Calls.{Rests};
+ghost use Rattle.fact_model.specs.declared.fact.Fact as facts;
+ghost use Rattle.cube_schema.specs.Kinds.{measure_count};
+ghost use Rattle.forest_root.specs.Causes.{HasCauseWhere};
+ghost use Rattle.forest_store.specs.Stored.{IsStoreOf};
+ghost use Rattle.slice_lang.specs.Agreeing.{SliceAgrees};
+ghost use Rattle.view_rows.specs.Grouped.{points_inside};
+ghost use Rattle.view_route.specs.Routes.{IsCovering};
+ghost use Rattle.slice_exec.specs.Answers.{IsNoDamage, NamesSide, visits_of};
+
+use crate::stop::{AnswerStop, stop_at};
+use cube_point::EntryList;
+use fact_model::Slice;
+use forest_root::Store;
+use page_cache::Pages;
+use range_scan::search;
+use site_core::Site;
+use std::alloc::Global;
+use view_rows::region;
+
+/// The points of a view inside the region of a slice, in point order, from the pages that the search of its tree goes to.
+pub(crate) fn find<T: Site>(
+    alloc: Global,
+    site: &mut T,
+    pages: &mut Pages,
+    store: &Store,
+    slice: &Slice,
+    view: u32,
+) -> Result<EntryList, AnswerStop>
+    requires agrees { SliceAgrees store.now.forest.schema slice.now }
+    requires covering { IsCovering store.now.forest.schema.views slice.now view }
+
+    ensures points { IsTrue T.tells → (accepted : List facts.Fact) → IsStoreOf store.now accepted (T.disk site.old).files
+        → IfOk result (λ found. found ≡ points_inside store.now.dicts (measure_count store.now.forest.schema)
+        (get_or store.now.forest.schema.views view []) slice.now accepted) }
+    ensures undamaged { IsTrue T.tells → (accepted : List facts.Fact) → IsStoreOf store.now accepted (T.disk site.old).files
+        → IfErr result IsNoDamage }
+    ensures visits { IsTrue T.tells → T.reads site.new ≤ T.reads site.old + length (visits_of store.now slice.now view (T.disk site.old).files) }
+
+    // Whatever the files hold.
+    ensures place { IfErr result (NamesSide store.now.forest.body) }
+    ensures covered { IsErrOf result AnswerStop.NotCovered → ⊥ }
+    ensures cache { pages.new ≡ pages.old }
+    ensures disk { IsTrue T.tells → Rests (T.disk site.old) (T.disk site.new) }
+    ensures cause { HasCauseWhere AnswerStop.Disk (T.disk_faults site.old) (T.disk_faults site.new) result }
+    ensures told_faults { T.told_faults site.new ≡ T.told_faults site.old }
+    ensures writes { T.writes site.new ≡ T.writes site.old }
+{
+    let forest = &store.forest;
+    let attrs = forest.schema.views.as_slice()[view as usize].as_slice();
+    let tree = forest.place(forest.mapping.tree_of(view));
+    let region = region(&store.dicts, attrs, slice.conds.as_slice());
+    match search(alloc, site, pages, &tree, &region) {
+        Ok(points) => Ok(points),
+        Err(stop) => Err(stop_at(&tree, stop)),
+    }
+}

@@ -1,0 +1,9 @@
+//! The answer to a slice: its rows, from the pages that may hold points of it.
+#![tactic(auto)]
+
+mod answering;
+mod finding;
+mod stop;
+
+pub use answering::answer;
+pub use stop::AnswerStop;
