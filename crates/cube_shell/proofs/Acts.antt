@@ -10,18 +10,19 @@ use Rattle.fact_csv.specs.declared.refusal.RowRefusal.{RowRefusal}
 use Rattle.fact_csv.specs.declared.refusal.RowRefusal.TheVariants as rows
 use Rattle.fact_model.specs.declared.fact.Fact.{Fact}
 use Rattle.fact_model.specs.declared.slice.Row.{Row}
+use Rattle.fact_model.specs.declared.slice.Slice.{Slice}
 use Rattle.fact_model.specs.Rows.{rows as rows_of}
 use Rattle.csv_text.specs.Rows.{row_fields, rows_text}
 use Rattle.script_lang.specs.declared.command.Block.{Block}
 use Rattle.script_lang.specs.declared.command.Block.TheVariants.{Whole, Long}
 use Rattle.script_lang.specs.declared.command.Command.{Command}
 use Rattle.script_lang.specs.declared.command.Command.TheVariants as says
-use Rattle.cube_shell.specs.declared.asked.ViewSums.{ViewSums}
 use Rattle.cube_shell.specs.World.{World, Warehouse}
-use Rattle.reply_text.specs.Replies.{line, numbered, schema_text, batch_text, answer_text}
-use Rattle.view_rows.specs.Sums.{sums_of}
-use Rattle.cube_shell.specs.Slices.{asked}
-use Rattle.cube_shell.specs.Machine.{status_text, Answer, act, declared, declare, fact_limit, first_full, first_heavy, within_masses, within_names, loaded, load, answered, slice, replies_with}
+use Rattle.reply_text.specs.Replies.{line, numbered, schema_text, batch_text, slice_text, answer_text}
+use Rattle.slice_lang.specs.declared.refusal.SliceRefusal.{SliceRefusal}
+use Rattle.slice_lang.specs.declared.refusal.SliceRefusal.TheVariants as slices
+use Rattle.slice_lang.specs.Reading.{slice_of}
+use Rattle.cube_shell.specs.Machine.{status_text, Answer, act, declared, declare, fact_limit, first_full, first_heavy, within_masses, within_names, loaded, load, is_covered, rows_reply, slice, slice_reply, replies_with}
 use Rattle.cube_shell.specs.Headline.{size, makes_stage}
 
 -- ---- replies have a byte
@@ -90,13 +91,28 @@ load_some (Some warehouse) (Whole bytes) = loaded_some warehouse (batch_of wareh
 answer_some : (found : List Row) → 0 < length (answer_text found)
 answer_some found = behind (rows_text (map row_fields found)) _ (some_number (codes "rows ") (length found))
 
-answered_some : (warehouse : Warehouse) (found : Option ViewSums) → 0 < length (answered warehouse found).1
-answered_some warehouse None = some_line (codes "refused unbuilt")
-answered_some warehouse (Some wanted) = answer_some (rows_of warehouse.facts (sums_of (get_or warehouse.schema.views wanted.view []) wanted.measure))
+rows_some : (schema : Schema) (facts : List Fact) (s : Slice) → 0 < length (rows_reply schema facts s)
+rows_some schema facts s = by (is_covered schema s)
+  where
+    by : (b : Bool) → 0 < length (cond b (answer_text (rows_of facts s)) (line (codes "refused notcovered")))
+    by true = answer_some (rows_of facts s)
+    by false = some_line (codes "refused notcovered")
+
+refused_some : (refusal : SliceRefusal) → 0 < length (slice_text refusal)
+refused_some (slices.Syntax byte) = some_number (codes "refused syntax ") byte
+refused_some (slices.UnknownAttr byte) = some_number (codes "refused attribute ") byte
+refused_some (slices.UnknownMeasure byte) = some_number (codes "refused measure ") byte
+refused_some (slices.Repeated byte) = some_number (codes "refused repeated ") byte
+refused_some (slices.BadValue byte) = some_number (codes "refused value ") byte
+refused_some slices.Memory = some_line []
+
+slice_reply_some : (schema : Schema) (facts : List Fact) (read : Result Slice SliceRefusal) → 0 < length (slice_reply schema facts read)
+slice_reply_some schema facts (Err refusal) = refused_some refusal
+slice_reply_some schema facts (Ok s) = rows_some schema facts s
 
 slice_some : (world : World) (text : List ℕ) → 0 < length (slice world text).1
 slice_some None text = some_line (codes "refused no schema")
-slice_some (Some warehouse) text = answered_some warehouse (asked warehouse.schema text)
+slice_some (Some warehouse) text = slice_reply_some warehouse.schema warehouse.facts (slice_of warehouse.schema text)
 
 status_some : (world : World) → 0 < length (status_text world)
 status_some None = some_line (codes "no schema")
@@ -168,13 +184,9 @@ load_stage None block = λ h. refl
 load_stage (Some warehouse) Long = λ h. refl
 load_stage (Some warehouse) (Whole bytes) = loaded_stage warehouse (batch_of warehouse.schema bytes)
 
-answered_stage : (warehouse : Warehouse) (found : Option ViewSums) → StaysOrGrows (Some warehouse) (answered warehouse found)
-answered_stage warehouse None = λ h. refl
-answered_stage warehouse (Some wanted) = λ h. refl
-
 slice_stage : (world : World) (text : List ℕ) → StaysOrGrows world (slice world text)
 slice_stage None text = λ h. refl
-slice_stage (Some warehouse) text = answered_stage warehouse (asked warehouse.schema text)
+slice_stage (Some warehouse) text = λ h. refl
 
 pub no_stage : (world : World) (command : Command) → makes_stage world command ≡ false → (act world command).0 ≡ world
 unfolding act

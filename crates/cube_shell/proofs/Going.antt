@@ -2,8 +2,8 @@
 use Rattle.std.proofs.Common.{◌≡◌, inl, inr, ℕ, List, [], ◌∷◌, ◌++◌, length, take, refl, sym, ◌∙◌, ap, subst, append-nil, arith, Result, Ok, Err, OnOk}
 use Rattle.site_core.specs.Disk.{Files, Disk}
 use Rattle.site_core.specs.Moments.{LeavesOnly}
-use Rattle.site_core.proofs.Run.{started, joined, wider}
-use Rattle.site_core.specs.Calls.{TellsFront}
+use Rattle.site_core.proofs.Run.{each_moment, started, joined, wider}
+use Rattle.site_core.specs.Calls.{Rests, Stays, TellsFront}
 use Rattle.cube_shell.specs.declared.state.State.{State}
 use Rattle.script_lang.specs.declared.command.Command.{Command}
 use Rattle.cube_shell.specs.World.{World}
@@ -110,3 +110,10 @@ told_front old new w cs run now = elim (run.each new.told new.files now) [
   )
   | inr same ↦ (0, same.0 ∙ sym (append-nil old.told))
 ]
+
+-- opening, and then a run of commands
+pub opened_moments : (old mid new : Disk) (w : World) (cs : List Command) → Rests old mid → OnlyNow old → LeavesOnly mid new (AfterStop w cs mid.told)
+    → LeavesOnly old new (AfterRun w cs old)
+opened_moments old mid new w cs rests only run = joined old mid new (AfterRun w cs old)
+    (each_moment Stays old mid (AfterRun w cs old) (λ told files left. inr (only told files left)) (λ told files same after. inr (same, subst old.may_leave (sym after.2) after.1)) rests)
+    (wider mid new (AfterStop w cs mid.told) (AfterRun w cs old) (λ told files a. inl (subst (λ (l : List ℕ). AfterStop w cs l told files) rests.told a)) run)

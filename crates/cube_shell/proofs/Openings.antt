@@ -10,10 +10,11 @@ use Rattle.forest_store.specs.declared.stop.StoreStop.{StoreStop}
 use Rattle.forest_store.specs.declared.stop.StoreStop.TheVariants as stops
 use Rattle.forest_store.specs.Held.{AreAccepted, KeepsFacts}
 use Rattle.forest_store.specs.Opened.{IsWarehouse, MayBeOpened, NamesPlace}
+use Rattle.forest_store.specs.Opened as stores
 use Rattle.forest_store.specs.Opening.{Place}
 use Rattle.cube_shell.specs.declared.stop.Stop.{Stop}
 use Rattle.cube_shell.specs.Damage.{StopsAt}
-use Rattle.cube_shell.specs.Ends.{stop_of}
+use Rattle.cube_shell.specs.Ends.{IsNoDamage, stop_of}
 use Rattle.cube_shell.specs.Keeps.{Keeps}
 use Rattle.cube_shell.specs.Session.{Belongs}
 use Rattle.cube_shell.specs.World.{World, Warehouse}
@@ -45,3 +46,16 @@ named place stops.Memory is = tt
 
 pub stops_at : (place : Place) (stop : StoreStop) (answer : Stop) → answer ≡ stop_of stop → NamesPlace place stop × Unit {0} → StopsAt place answer × Unit {0}
 stops_at place stop answer same is = (subst (StopsAt place) (sym same) (named place stop is.0), tt)
+
+-- where the files keep a world, no damage is told
+clean : (stop : StoreStop) → stores.IsNoDamage stop → IsNoDamage (stop_of stop)
+clean stops.Disk is = tt
+clean (stops.Damaged file offset) is = is
+clean stops.Memory is = tt
+
+pub undamaged : (stop : StoreStop) (answer : Stop) (files : Files) (world : World) → answer ≡ stop_of stop → Keeps files world
+    → (NoneRaised (files 0) → stores.IsNoDamage stop)
+    → ((schema : Schema) (facts : List Fact) → IsSchema schema → AreAccepted schema facts → KeepsFacts schema facts files → stores.IsNoDamage stop) → IsNoDamage answer
+undamaged stop answer files None same keeps none given = subst IsNoDamage (sym same) (clean stop (none keeps))
+undamaged stop answer files (Some warehouse) same keeps none given =
+    subst IsNoDamage (sym same) (clean stop (given warehouse.schema warehouse.facts keeps.lawful.schema keeps.lawful.accepted keeps.kept))

@@ -1,3 +1,4 @@
+pub mod Costs
 pub mod Damage
 pub mod Ends
 pub mod Headline
@@ -6,5 +7,5 @@ pub mod Machine
 pub mod Pulls
 pub mod Refusals
 pub mod Session
-pub mod Slices
+pub mod Sliced
 pub mod World

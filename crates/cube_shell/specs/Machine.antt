@@ -1,5 +1,6 @@
 -- The plain machine: the reply to each command, and what is known behind it.
-use Rattle.std.specs.Prelude.{ℕ, suc, cond, List, [], ◌∷◌, ◌++◌, codes, get_or, length, nat_le, Option, Some, None, Result, Ok, Err}
+use Rattle.std.specs.Prelude.{ℕ, suc, Bool, cond, List, [], ◌∷◌, ◌++◌, codes, length, nat_le, Option, Some, None, Result, Ok, Err}
+use Rattle.std.specs.List.{list_any}
 use Rattle.cube_schema.specs.declared.schema.Attr.{Attr}
 use Rattle.cube_schema.specs.declared.schema.Schema.{Schema}
 use Rattle.cube_schema.specs.declared.schema.SchemaRefusal.{SchemaRefusal}
@@ -9,17 +10,18 @@ use Rattle.view_points.specs.Codes.{names_of}
 use Rattle.fact_csv.specs.Batch.{batch_of}
 use Rattle.fact_csv.specs.declared.refusal.RowRefusal.{RowRefusal}
 use Rattle.fact_model.specs.declared.fact.Fact.{Fact}
+use Rattle.fact_model.specs.declared.slice.Slice.{Slice}
 use Rattle.fact_model.specs.Fact.{mass, mass_limit}
 use Rattle.fact_model.specs.Rows.{rows}
 use Rattle.script_lang.specs.declared.command.Block.{Block}
 use Rattle.script_lang.specs.declared.command.Block.TheVariants.{Whole, Long}
 use Rattle.script_lang.specs.declared.command.Command.{Command}
 use Rattle.script_lang.specs.declared.command.Command.TheVariants as says
-use Rattle.cube_shell.specs.declared.asked.ViewSums.{ViewSums}
 use Rattle.cube_shell.specs.World.{World, Warehouse}
-use Rattle.reply_text.specs.Replies.{line, committed_text, facts_text, schema_text, batch_text, full_text, mass_text, answer_text}
-use Rattle.view_rows.specs.Sums.{sums_of}
-use Rattle.cube_shell.specs.Slices.{asked}
+use Rattle.reply_text.specs.Replies.{line, committed_text, facts_text, schema_text, batch_text, full_text, mass_text, slice_text, answer_text}
+use Rattle.slice_lang.specs.declared.refusal.SliceRefusal.{SliceRefusal}
+use Rattle.slice_lang.specs.Reading.{slice_of}
+use Rattle.view_route.specs.Routes.{covers}
 
 -- what is known behind a command, and the reply
 abbrev pub Answer : Type 0
@@ -87,15 +89,22 @@ load (Some warehouse) (Whole bytes) = loaded warehouse (batch_of warehouse.schem
 
 -- ---- slice
 
--- the sums of a measure by a view's attributes
-abbrev pub answered : Warehouse → Option ViewSums → Answer
-answered warehouse None = (Some warehouse, line (codes "refused unbuilt"))
-answered warehouse (Some wanted) =
-    (Some warehouse, answer_text (rows warehouse.facts (sums_of (get_or warehouse.schema.views wanted.view []) wanted.measure)))
+-- some view has all grouped and bound attributes of the slice
+abbrev pub is_covered : Schema → Slice → Bool
+is_covered schema s = list_any (λ view. covers view s) schema.views
+
+-- the rows of the facts, or the refusal where no view covers the slice
+abbrev pub rows_reply : Schema → List Fact → Slice → List ℕ
+rows_reply schema facts s = cond (is_covered schema s) (answer_text (rows facts s)) (line (codes "refused notcovered"))
+
+-- the reply to a slice that was read, or to a text that is none
+abbrev pub slice_reply : Schema → List Fact → Result Slice SliceRefusal → List ℕ
+slice_reply schema facts (Err refusal) = slice_text refusal
+slice_reply schema facts (Ok s) = rows_reply schema facts s
 
 abbrev pub slice : World → List ℕ → Answer
 slice None text = (None, line (codes "refused no schema"))
-slice (Some warehouse) text = answered warehouse (asked warehouse.schema text)
+slice (Some warehouse) text = (Some warehouse, slice_reply warehouse.schema warehouse.facts (slice_of warehouse.schema text))
 
 -- ---- status
 

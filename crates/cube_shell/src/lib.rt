@@ -2,7 +2,6 @@
 #![tactic(auto)]
 
 mod answered;
-mod asked;
 mod declaring;
 mod loading;
 mod machine;

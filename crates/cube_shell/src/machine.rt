@@ -1,5 +1,7 @@
 //! Commands are carried out over the files, up to their replies, which are not told yet.
-ghost use Rattle.std.specs.Prelude.{◌≡◌, IsTrue, OnOk, IfOk, IfErr};
+ghost use Rattle.std.specs.Prelude.{◌≡◌, ◌≤◌, ◌+◌, ℕ, List, IsTrue, OnOk, IfOk, IfErr};
+ghost use Rattle.script_lang.specs.declared.command.Command.TheVariants as says;
+ghost use Rattle.cube_shell.specs.Costs.{Costs};
 ghost use Rattle.cube_shell.specs.Ends.{IsNoDamage, StopCause};
 ghost use Rattle.cube_shell.specs.Machine.{act};
 ghost use Rattle.cube_shell.specs.Session.{Between, IsAnswer, IsFit, IsRunning, Stands, state_text};
@@ -11,6 +13,7 @@ use crate::loading::load;
 use crate::slices::slice;
 use crate::state::State;
 use crate::stop::Stop;
+use page_cache::Pages;
 use script_lang::Command;
 use site_core::Site;
 use std::alloc::Global;
@@ -18,6 +21,7 @@ use std::alloc::Global;
 /// Carries out a command. A stop at any moment leaves what was known before it or is known behind it, and so does an error.
 pub fn act<T: Site>(
     alloc: Global,
+    pages: &mut Pages,
     state: State,
     command: Command,
     site: &mut T,
@@ -31,6 +35,8 @@ pub fn act<T: Site>(
         → Between (T.disk site.old) (T.disk site.new) world (act world command).0 }
     ensures undamaged { IsTrue T.tells → (world : World) → Stands state (T.disk site.old) world
         → IfErr result IsNoDamage }
+    ensures cost { IsTrue T.tells → (world : World) (text : List ℕ) (pages : ℕ) → Stands state (T.disk site.old) world
+        → command ≡ says.Slice text → Costs world text pages → T.reads site.new ≤ T.reads site.old + pages }
 
     ensures running { IfOk result (λ done. IsRunning done.state) }
     ensures fit { IsTrue T.tells → IfOk result (λ done. IsFit done.state (T.disk site.new)) }
@@ -42,7 +48,7 @@ pub fn act<T: Site>(
     match command {
         Command::Schema(block) => declare(alloc, state, block, site),
         Command::Load(block) => load(alloc, state, block, site),
-        Command::Slice(text) => slice(alloc, state, text.as_bytes(), site),
+        Command::Slice(text) => slice(alloc, pages, state, text.as_bytes(), site),
         Command::Status => status(alloc, state),
         Command::LongLine => plain(alloc, state, "refused long line"),
         Command::OpenBlock => plain(alloc, state, "refused open block"),

@@ -1,9 +1,11 @@
 //! A session: the files are opened, and each command is carried out and its reply emitted.
-ghost use Rattle.std.specs.Prelude.{◌≡◌, ◌++◌, IsTrue, IsErrOf, OnOk, IfOk, IfErr};
+ghost use Rattle.std.specs.Prelude.{◌≡◌, ◌≤◌, ◌+◌, ◌++◌, ℕ, List, IsTrue, IsErrOf, OnOk, IfOk, IfErr};
 ghost use Rattle.site_core.specs.Calls.{Rests};
 ghost use Rattle.site_core.specs.Moments.{LeavesOnly};
 ghost use Rattle.forest_store.specs.Breaks.{BreaksAt};
 ghost use Rattle.forest_store.specs.Opening.{Place};
+ghost use Rattle.script_lang.specs.declared.command.Command.TheVariants as says;
+ghost use Rattle.cube_shell.specs.Costs.{Costs};
 ghost use Rattle.cube_shell.specs.Damage.{StopsAt};
 ghost use Rattle.cube_shell.specs.Ends.{IsNoDamage, StopCause};
 ghost use Rattle.cube_shell.specs.Headline.{Meanwhile};
@@ -16,15 +18,20 @@ use crate::answered::Answered;
 use crate::machine::act;
 use crate::state::State;
 use crate::stop::Stop;
+use page_cache::Pages;
 use script_lang::Command;
 use site_core::{Fault, Site};
 use std::alloc::Global;
 use std::mem;
 
+/// The most pages that are kept between slices.
+const KEPT_PAGES: u32 = 64;
+
 /// The warehouse between two commands of a script.
 #[derive(Drop)]
 pub struct Session {
     alloc: Global,
+    pages: Pages,
     /// What it has.
     pub state: State,
 }
@@ -49,13 +56,16 @@ impl Session {
         ensures disk_faults { OnOk result (T.disk_faults site.new ≡ T.disk_faults site.old) }
         ensures told_faults { T.told_faults site.new ≡ T.told_faults site.old }
     {
+        let pages = Pages::new(alloc, KEPT_PAGES)?;
         match forest_store::open(alloc, site) {
             Ok(Some(store)) => Ok(Session {
                 alloc,
+                pages,
                 state: State::Idle(store),
             }),
             Ok(None) => Ok(Session {
                 alloc,
+                pages,
                 state: State::Empty,
             }),
             Err(stop) => Err(Stop::from(stop)),
@@ -75,6 +85,8 @@ impl Session {
             → LeavesOnly (T.disk site.old) (T.disk site.new) (Meanwhile world command (T.disk site.old).told) }
         ensures undamaged { IsTrue T.tells → (world : World) → Stands self.old.state (T.disk site.old) world
             → IfErr result IsNoDamage }
+        ensures cost { IsTrue T.tells → (world : World) (text : List ℕ) (pages : ℕ) → Stands self.old.state (T.disk site.old) world
+            → command ≡ says.Slice text → Costs world text pages → T.reads site.new ≤ T.reads site.old + pages }
 
         ensures running { OnOk result (IsRunning self.new.state) }
         ensures fit { IsTrue T.tells → OnOk result (IsFit self.new.state (T.disk site.new)) }
@@ -83,7 +95,7 @@ impl Session {
         ensures told_faults { OnOk result (T.told_faults site.new ≡ T.told_faults site.old) }
     {
         let state = mem::replace(&mut self.state, State::Stopped);
-        let Answered { state, reply } = act(self.alloc, state, command, site)?;
+        let Answered { state, reply } = act(self.alloc, &mut self.pages, state, command, site)?;
         match site.emit(&reply) {
             Ok(()) => {
                 self.state = state;

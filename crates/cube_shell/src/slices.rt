@@ -1,23 +1,33 @@
 //! The command `slice`.
-ghost use Rattle.std.specs.Prelude.{◌≡◌, ◌<◌, IsTrue, OnOk, IfOk, IfErr, Some, length};
-ghost use Rattle.forest_store.specs.Opened.{IsOpened};
+ghost use Rattle.std.specs.Prelude.{◌≡◌, ◌≤◌, ◌+◌, ℕ, IsTrue, List, Ok, OnOk, IfOk, IfErr};
+ghost use Rattle.site_core.specs.Calls.{Rests};
+ghost use Rattle.fact_model.specs.declared.fact.Fact as facts;
+ghost use Rattle.forest_store.specs.Stored.{IsStoreOf};
+ghost use Rattle.slice_lang.specs.Agreeing.{SliceAgrees};
+ghost use Rattle.slice_lang.specs.Reading.{slice_of};
+ghost use Rattle.cube_shell.specs.Costs.{Costs, MayRead};
 ghost use Rattle.cube_shell.specs.Ends.{IsNoDamage, StopCause};
-ghost use Rattle.cube_shell.specs.Machine.{answered, slice};
-ghost use Rattle.cube_shell.specs.Session.{Belongs, Between, IsAnswer, IsFit, IsRunning, Stands};
-ghost use Rattle.cube_shell.specs.World.{Warehouse, World};
+ghost use Rattle.cube_shell.specs.Machine.{rows_reply, slice, slice_reply};
+ghost use Rattle.cube_shell.specs.Session.{Between, IsAnswer, IsFit, IsRunning, Stands};
+ghost use Rattle.cube_shell.specs.Sliced.{AreRows};
+ghost use Rattle.cube_shell.specs.World.{World};
 
 use crate::answered::{Answered, plain};
-use crate::asked::{ViewSums, asked};
 use crate::state::State;
 use crate::stop::Stop;
+use fact_model::{Rows, Slice};
 use forest_root::Store;
+use page_cache::Pages;
+use reply_text::refused_slice;
 use site_core::Site;
+use slice_exec::AnswerStop;
+use slice_lang::read_slice;
 use std::alloc::Global;
-use view_rows::sums_by_view;
 
 /// Answers a slice, or refuses it.
 pub fn slice<T: Site>(
     alloc: Global,
+    pages: &mut Pages,
     state: State,
     text: &[u8],
     site: &mut T,
@@ -31,6 +41,8 @@ pub fn slice<T: Site>(
         → Between (T.disk site.old) (T.disk site.new) world (slice world text.now).0 }
     ensures undamaged { IsTrue T.tells → (world : World) → Stands state (T.disk site.old) world
         → IfErr result IsNoDamage }
+    ensures cost { IsTrue T.tells → (world : World) (pages : ℕ) → Stands state (T.disk site.old) world → Costs world text.now pages
+        → T.reads site.new ≤ T.reads site.old + pages }
 
     ensures running { IfOk result (λ done. IsRunning done.state) }
     ensures fit { IsTrue T.tells → IfOk result (λ done. IsFit done.state (T.disk site.new)) }
@@ -42,71 +54,99 @@ pub fn slice<T: Site>(
     match state {
         State::Stopped => Err(Stop::Memory),
         State::Empty => plain(alloc, State::Empty, "refused no schema"),
-        State::Idle(store) => answer(alloc, store, text, site),
+        State::Idle(store) => {
+            let reply = reply_to(alloc, pages, &store, text, site)?;
+            Ok(Answered {
+                state: State::Idle(store),
+                reply,
+            })
+        }
     }
 }
 
-/// Answers a slice that asks for sums by all attributes of a view, and refuses any other.
-fn answer<T: Site>(alloc: Global, store: Store, text: &[u8], site: &mut T) -> Result<Answered, Stop>
-    requires fit { IsTrue T.tells → IsOpened store.forest.body (T.disk site.old) }
-
-    ensures answer { IsTrue T.tells → (warehouse : Warehouse) → Belongs store (T.disk site.old) warehouse
-        → IfOk result (IsAnswer (T.disk site.new) (slice (Some warehouse) text.now)) }
-    ensures any_moment { IsTrue T.tells → (warehouse : Warehouse) → Belongs store (T.disk site.old) warehouse
-        → Between (T.disk site.old) (T.disk site.new) (Some warehouse) (slice (Some warehouse) text.now).0 }
-    ensures undamaged { IsTrue T.tells → (warehouse : Warehouse) → Belongs store (T.disk site.old) warehouse
-        → IfErr result IsNoDamage }
-
-    ensures running { IfOk result (λ done. IsRunning done.state) }
-    ensures fit { IsTrue T.tells → IfOk result (λ done. IsFit done.state (T.disk site.new)) }
-    ensures told { IsTrue T.tells → (T.disk site.new).told ≡ (T.disk site.old).told }
-    ensures cause { IfErr result (StopCause (T.disk_faults site.old) (T.disk_faults site.new) (T.told_faults site.old) (T.told_faults site.new)) }
-    ensures disk_faults { OnOk result (T.disk_faults site.new ≡ T.disk_faults site.old) }
-    ensures told_faults { T.told_faults site.new ≡ T.told_faults site.old }
-{
-    match asked(alloc, &store.forest.schema, text)? {
-        Some(wanted) => sums(alloc, store, wanted, site),
-        None => plain(alloc, State::Idle(store), "refused unbuilt"),
-    }
-}
-
-/// Answers with the sums of a measure by a view's attributes, from the view's points.
-fn sums<T: Site>(
+/// The reply to the text of a slice: its rows, or the first rule that the text breaks.
+fn reply_to<T: Site>(
     alloc: Global,
-    store: Store,
-    wanted: ViewSums,
+    pages: &mut Pages,
+    store: &Store,
+    text: &[u8],
     site: &mut T,
-) -> Result<Answered, Stop>
-    requires view { wanted.view < length store.forest.schema.views }
-    requires measure { wanted.measure < 4 }
-    requires fit { IsTrue T.tells → IsOpened store.forest.body (T.disk site.old) }
-
-    ensures answer { IsTrue T.tells → (warehouse : Warehouse) → Belongs store (T.disk site.old) warehouse
-        → IfOk result (IsAnswer (T.disk site.new) (answered warehouse (Some wanted))) }
-    ensures any_moment { IsTrue T.tells → (warehouse : Warehouse) → Belongs store (T.disk site.old) warehouse
-        → Between (T.disk site.old) (T.disk site.new) (Some warehouse) (answered warehouse (Some wanted)).0 }
-    ensures undamaged { IsTrue T.tells → (warehouse : Warehouse) → Belongs store (T.disk site.old) warehouse
+) -> Result<Vec<u8>, Stop>
+    ensures reply { IsTrue T.tells → (accepted : List facts.Fact) → IsStoreOf store.now accepted (T.disk site.old).files
+        → IfOk result (λ reply. reply.items ≡ slice_reply store.now.forest.schema accepted (slice_of store.now.forest.schema text.now)) }
+    ensures undamaged { IsTrue T.tells → (accepted : List facts.Fact) → IsStoreOf store.now accepted (T.disk site.old).files
         → IfErr result IsNoDamage }
+    ensures cost { IsTrue T.tells → (accepted : List facts.Fact) (pages : ℕ) → IsStoreOf store.now accepted (T.disk site.old).files
+        → MayRead store.now.forest.schema accepted (slice_of store.now.forest.schema text.now) pages
+        → T.reads site.new ≤ T.reads site.old + pages }
 
-    ensures running { IfOk result (λ done. IsRunning done.state) }
-    ensures fit { IsTrue T.tells → IfOk result (λ done. IsFit done.state (T.disk site.new)) }
-    ensures told { IsTrue T.tells → (T.disk site.new).told ≡ (T.disk site.old).told }
+    ensures disk { IsTrue T.tells → Rests (T.disk site.old) (T.disk site.new) }
     ensures cause { IfErr result (StopCause (T.disk_faults site.old) (T.disk_faults site.new) (T.told_faults site.old) (T.told_faults site.new)) }
     ensures disk_faults { OnOk result (T.disk_faults site.new ≡ T.disk_faults site.old) }
     ensures told_faults { T.told_faults site.new ≡ T.told_faults site.old }
 {
-    let points = forest_store::points(alloc, site, &store, wanted.view)?;
-    let view = &store.forest.schema.views.as_slice()[wanted.view as usize];
-    let rows = sums_by_view(
-        alloc,
-        &store.dicts,
-        view.as_slice(),
-        points.as_slice(),
-        wanted.measure,
-    )?;
-    let reply = reply_text::answer(alloc, &rows)?;
-    Ok(Answered {
-        state: State::Idle(store),
-        reply,
-    })
+    match read_slice(alloc, &store.forest.schema, text) {
+        Ok(slice) => rows_text(alloc, pages, store, &slice, site),
+        Err(refusal) => Ok(refused_slice(alloc, refusal)?),
+    }
+}
+
+/// The rows of a slice as text, or its refusal where no view covers it.
+fn rows_text<T: Site>(
+    alloc: Global,
+    pages: &mut Pages,
+    store: &Store,
+    slice: &Slice,
+    site: &mut T,
+) -> Result<Vec<u8>, Stop>
+    requires agrees { SliceAgrees store.now.forest.schema slice.now }
+
+    ensures reply { IsTrue T.tells → (accepted : List facts.Fact) → IsStoreOf store.now accepted (T.disk site.old).files
+        → IfOk result (λ reply. reply.items ≡ rows_reply store.now.forest.schema accepted slice.now) }
+    ensures undamaged { IsTrue T.tells → (accepted : List facts.Fact) → IsStoreOf store.now accepted (T.disk site.old).files
+        → IfErr result IsNoDamage }
+    ensures cost { IsTrue T.tells → (accepted : List facts.Fact) (pages : ℕ) → IsStoreOf store.now accepted (T.disk site.old).files
+        → MayRead store.now.forest.schema accepted (Ok slice.now) pages → T.reads site.new ≤ T.reads site.old + pages }
+
+    ensures disk { IsTrue T.tells → Rests (T.disk site.old) (T.disk site.new) }
+    ensures cause { IfErr result (StopCause (T.disk_faults site.old) (T.disk_faults site.new) (T.told_faults site.old) (T.told_faults site.new)) }
+    ensures disk_faults { OnOk result (T.disk_faults site.new ≡ T.disk_faults site.old) }
+    ensures told_faults { T.told_faults site.new ≡ T.told_faults site.old }
+{
+    let reply = match rows_of(alloc, pages, store, slice, site)? {
+        Some(rows) => reply_text::answer(alloc, &rows)?,
+        None => reply_text::plain(alloc, "refused notcovered")?,
+    };
+    Ok(reply)
+}
+
+/// The rows of a slice, if some view covers it.
+fn rows_of<T: Site>(
+    alloc: Global,
+    pages: &mut Pages,
+    store: &Store,
+    slice: &Slice,
+    site: &mut T,
+) -> Result<Option<Rows>, Stop>
+    requires agrees { SliceAgrees store.now.forest.schema slice.now }
+
+    ensures rows { IsTrue T.tells → (accepted : List facts.Fact) → IsStoreOf store.now accepted (T.disk site.old).files
+        → IfOk result (AreRows store.now.forest.schema accepted slice.now) }
+    ensures undamaged { IsTrue T.tells → (accepted : List facts.Fact) → IsStoreOf store.now accepted (T.disk site.old).files
+        → IfErr result IsNoDamage }
+    ensures cost { IsTrue T.tells → (accepted : List facts.Fact) (pages : ℕ) → IsStoreOf store.now accepted (T.disk site.old).files
+        → MayRead store.now.forest.schema accepted (Ok slice.now) pages → T.reads site.new ≤ T.reads site.old + pages }
+
+    ensures disk { IsTrue T.tells → Rests (T.disk site.old) (T.disk site.new) }
+    ensures cause { IfErr result (StopCause (T.disk_faults site.old) (T.disk_faults site.new) (T.told_faults site.old) (T.told_faults site.new)) }
+    ensures disk_faults { OnOk result (T.disk_faults site.new ≡ T.disk_faults site.old) }
+    ensures told_faults { T.told_faults site.new ≡ T.told_faults site.old }
+{
+    match slice_exec::answer(alloc, site, pages, store, slice) {
+        Ok(rows) => Ok(Some(rows)),
+        Err(AnswerStop::NotCovered) => Ok(None),
+        Err(AnswerStop::Disk) => Err(Stop::Disk),
+        Err(AnswerStop::Damaged { file, offset }) => Err(Stop::Damaged { file, offset }),
+        Err(AnswerStop::Memory) => Err(Stop::Memory),
+    }
 }

@@ -157,7 +157,7 @@ fn behind_a_schema_a_script_tells_this(rt: HostRuntime) -> Result<(), Fail> {
             "load\r\n3,5\r\n\r\n1,-2\r\nend\r\nslice sum(m) by a\r\n",
             "committed 2\n1,-2\n3,5\nrows 2\n",
         ),
-        ("slice sum(m) by a\r\r\n", "refused unbuilt\n"),
+        ("slice sum(m) by a\r\r\n", "refused syntax 12\n"),
         (
             "load\n1,1\nend\nload\n1,1\n",
             "committed 1\nrefused open block\n",
@@ -188,7 +188,8 @@ fn a_command_that_changes_nothing_calls_no_file(rt: HostRuntime) -> Result<(), F
         ("schema\nend\n", "refused declared\n"),
         ("status\n", "facts 0\n"),
         ("slice sum(m) by a\n", "rows 0\n"),
-        ("slice count\n", "refused unbuilt\n"),
+        ("slice count\n", "rows 0\n"),
+        ("slice count by b\n", "refused attribute 10\n"),
     ] {
         let mut site = MemorySite::new(alloc);
         let script = format!(in alloc; "schema\n{DUMPED_NAMES}end\n{script}")?;
@@ -225,9 +226,7 @@ fn a_slice_has_one_row_for_each_point_of_its_view_by_its_values(
         ("sum(m) by y,x", "1,9,10\n1,10,40\n2,1,25\n3,1,30\nrows 4\n"),
         ("sum(mm) by y", "1,500\n2,193\n3,300\nrows 3\n"),
         ("sum(m) by x", "1,55\n9,10\n10,40\nrows 3\n"),
-        // No slice asks for the view of no attributes.
-        ("sum(m) by ", "refused unbuilt\n"),
-        ("sum(m)", "refused unbuilt\n"),
+        ("sum(m)", "105\nrows 1\n"),
     ] {
         let script = format!(in alloc; "load\n{ROWS}end\nslice {slice}\n")?;
         let told = format!(in alloc; "committed 5\n{told}")?;
@@ -237,33 +236,25 @@ fn a_slice_has_one_row_for_each_point_of_its_view_by_its_values(
 }
 
 #[test]
-fn a_slice_of_another_form_is_refused(rt: HostRuntime) -> Result<(), Fail> {
+fn a_text_that_is_no_slice_is_refused(rt: HostRuntime) -> Result<(), Fail> {
     let alloc = rt.alloc();
-    let schema = "attr x number\nattr y number\nmeasure m\nmeasure mm\nview\nview x,y\nview y\n";
-    for slice in [
-        "",
-        "count",
-        "count by x,y",
-        "sum(m)",
-        "sum(m) by ",
-        "sum(m) by x",
-        "sum(m) by y,x",
-        "sum(m) by y,x,y",
-        "sum(m) by x,y,x",
-        "sum(m) by x, y",
-        "sum(m) by x,y ",
-        " sum(m) by x,y",
-        "sum(m)  by x,y",
-        "sum( m) by x,y",
-        "sum(M) by x,y",
-        "sum(mmm) by x,y",
-        "sum() by x,y",
-        "sum(x) by x,y",
-        "sum(m),sum(mm) by x,y",
-        "sum(m) by x,y where x=1",
+    let schema = "attr x number\nattr y number\nmeasure m\nmeasure mm\nview y\n";
+    for (slice, refusal) in [
+        ("", "syntax 1"),
+        ("count by", "syntax 6"),
+        ("sum(m) by ", "syntax 11"),
+        ("sum(M) by y", "syntax 5"),
+        ("sum(mmm) by y", "measure 5"),
+        ("count by x,z", "attribute 12"),
+        ("count by y,y", "repeated 12"),
+        ("count where y=bolt", "value 15"),
+        ("count where y=1 and y=2", "repeated 21"),
+        ("count by x", "notcovered"),
+        ("sum(m),sum(mm) where x=1", "notcovered"),
     ] {
         let script = format!(in alloc; "slice {slice}\n")?;
-        tells_behind(&rt, alloc, schema, script.as_str(), "refused unbuilt\n")?;
+        let told = format!(in alloc; "refused {refusal}\n")?;
+        tells_behind(&rt, alloc, schema, script.as_str(), told.as_str())?;
     }
     Ok(())
 }

@@ -207,14 +207,13 @@ fn a_damaged_page_is_named_when_its_tree_is_read(rt: HostRuntime) -> Result<(), 
     let site = of_two_trees(&rt, alloc)?;
     let by_part = ("part", "bolt,9\nnut,-2\nrows 2\n");
     let by_year = ("year", "1997,3\n1998,4\nrows 2\n");
-    for (file, place, byte, (whole, rows), damaged, page) in [
+    for (place, byte, (whole, rows), damaged, page) in [
         // A leaf of no points, a zero for a part, and a page that is its own child.
-        (3, 3, 0, by_part, "year", 0u64),
-        (3, 4107, 0, by_part, "part,year", 1),
-        (3, 8223, 2, by_part, "year", 2),
-        // Bytes behind the points; and the body counts a point fewer.
-        (3, 16383, 1, by_year, "part", 3),
-        (0, 1151, 1, by_year, "part", 3),
+        (3, 0, by_part, "year", 0u64),
+        (4107, 0, by_part, "part,year", 1),
+        (8223, 2, by_part, "year", 2),
+        // Bytes behind the points.
+        (16383, 1, by_year, "part", 3),
     ] {
         let ask = format!(in alloc;
             "slice sum(qty) by {whole}\nslice sum(qty) by {damaged}\nstatus\n"
@@ -222,14 +221,56 @@ fn a_damaged_page_is_named_when_its_tree_is_read(rt: HostRuntime) -> Result<(), 
         let load = "load\nnut,1998,1\nend\nstatus\n";
         for (script, told) in [(ask.as_str(), rows), (load, "")] {
             let mut later = MemorySite::from_files(alloc, site.image(alloc, 1)?)?;
-            assert_eq!(rt; put(&rt, &mut later, file, place, &[byte]), Ok(()));
+            assert_eq!(rt; put(&rt, &mut later, 3, place, &[byte]), Ok(()));
             let ended = run_over(alloc, &mut later, script.as_bytes())?;
             let offset = page.saturating_mul(4096);
             let wanted = Status::Damaged { file: 3, offset };
-            assert_eq!(rt; ended, wanted, "byte {place} of file {file}, {script:?}");
+            assert_eq!(rt; ended, wanted, "byte {place}, {script:?}");
             assert_eq!(rt; later.told(), told.as_bytes(), "byte {place}, {script:?}");
         }
     }
+    Ok(())
+}
+
+#[test]
+fn a_body_that_counts_a_point_fewer_is_named_by_a_load(rt: HostRuntime) -> Result<(), Fail> {
+    let alloc = rt.alloc();
+    let site = of_two_trees(&rt, alloc)?;
+    // A slice reads what it meets, and a load every page.
+    let damaged = Status::Damaged {
+        file: 3,
+        offset: 12_288,
+    };
+    for (script, wanted, told) in [
+        (
+            "slice sum(qty) by part\n",
+            Status::Done,
+            "bolt,9\nnut,-2\nrows 2\n",
+        ),
+        ("load\nnut,1998,1\nend\nstatus\n", damaged, ""),
+    ] {
+        let mut later = MemorySite::from_files(alloc, site.image(alloc, 1)?)?;
+        assert_eq!(rt; put(&rt, &mut later, 0, 1151, &[1]), Ok(()));
+        let ended = run_over(alloc, &mut later, script.as_bytes())?;
+        assert_eq!(rt; ended, wanted, "{script:?}");
+        assert_eq!(rt; later.told(), told.as_bytes(), "{script:?}");
+    }
+    Ok(())
+}
+
+#[test]
+fn child_is_the_page_itself(rt: HostRuntime) -> Result<(), Fail> {
+    let alloc = rt.alloc();
+    let site = state_a(&rt, alloc)?;
+    let mut later = MemorySite::from_files(alloc, site.image(alloc, 1)?)?;
+    assert_eq!(rt; put(&rt, &mut later, 3, 12_319, &[3]), Ok(()));
+    let ended = run_over(alloc, &mut later, b"slice count by year\n")?;
+    let wanted = Status::Damaged {
+        file: 3,
+        offset: 12_288,
+    };
+    assert_eq!(rt; ended, wanted);
+    assert_eq!(rt; later.told(), b"".as_slice());
     Ok(())
 }
 

@@ -106,14 +106,14 @@ fn by_part_and_year(rt: HostRuntime) -> Result<(), Fail> {
     let alloc = rt.alloc();
     let site = state_a(&rt, alloc)?;
     let told =
-        b"bolt,1997,5\nbolt,1998,4\nnut,1997,-2\nrows 3\n1997,3\n1998,4\nrows 2\nrefused unbuilt\n";
+        b"bolt,1997,5\nbolt,1998,4\nnut,1997,-2\nrows 3\n1997,3\n1998,4\nrows 2\n7\nrows 1\n";
     tells_again(&rt, alloc, &site, SLICES_A, told)?;
     let load = "load\nsaw,1998,10\nbolt,1997,2\nend\n";
     let later = tells_again(&rt, alloc, &site, load, b"committed 5\n")?;
     let told =
-        b"bolt,1997,7\nbolt,1998,4\nnut,1997,-2\nsaw,1998,10\nrows 4\n1997,5\n1998,14\nrows 2\nrefused unbuilt\n";
+        b"bolt,1997,7\nbolt,1998,4\nnut,1997,-2\nsaw,1998,10\nrows 4\n1997,5\n1998,14\nrows 2\n19\nrows 1\n";
     tells_again(&rt, alloc, &later, SLICES_A, told)?;
-    // No slice asks for the view of no attributes; its one point has all five facts.
+    // The one point of the view of no attributes has all five facts.
     let counts = later.file(0).get(104..128).unwrap_or(&[]);
     let wanted = b"\0\0\0\0\0\0\0\x04\0\0\0\0\0\0\0\x02\0\0\0\0\0\0\0\x01";
     assert_eq!(rt; counts, wanted.as_slice());

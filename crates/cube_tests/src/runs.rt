@@ -214,7 +214,7 @@ fn list_other_lines(rt: HostRuntime) -> Result<(), Fail> {
         SCHEMA,
         ("slice sum(m) by a\n", "rows 0\n"),
         ("\nfoo\n", "refused unknown\n"),
-        ("slice count\n", "refused unbuilt\n"),
+        ("slice count\n", "rows 0\n"),
     ];
     tells(&rt, rt.alloc(), &commands)
 }

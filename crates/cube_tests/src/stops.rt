@@ -119,25 +119,35 @@ fn leaves(
     Ok(())
 }
 
-#[test]
-fn a_stop_at_any_call_keeps_what_is_acknowledged(rt: HostRuntime) -> Result<(), Fail> {
-    let alloc = rt.alloc();
-    // The gates are raised by the calls 6, 19 and 37, and each is stable after the call that follows. Pages are written by the calls
-    // 12 to 15 and 30 to 33, and the entries behind them.
-    for (first, last, live, next) in [
-        (0u64, 6u64, 0usize, 0usize),
-        (7, 7, 0, 1),
-        (8, 19, 1, 1),
-        (20, 20, 1, 2),
-        (21, 37, 2, 2),
-        (38, 38, 2, 3),
-        (39, 40, 3, 3),
-    ] {
-        for calls in first..=last {
-            leaves(&rt, alloc, calls, live, next)?;
+/// Stops before each call from the first to the last leave the stages that are live or next.
+type Moments = (u64, u64, usize, usize);
+
+fn leave(rt: &impl Abort, alloc: Global, moments: &[Moments]) -> Result<(), Fail> {
+    for (first, last, live, next) in moments {
+        for calls in *first..=*last {
+            leaves(rt, alloc, calls, *live, *next)?;
         }
     }
     Ok(())
+}
+
+// The gates are raised by the calls 6, 19 and 37, and each is stable after the call that follows. Pages are written by the calls 12 to 15
+// and 30 to 33, and the entries behind them.
+
+#[test]
+fn a_stop_at_any_call_of_the_first_load_keeps_what_is_acknowledged(
+    rt: HostRuntime,
+) -> Result<(), Fail> {
+    let moments = [(0, 6, 0, 0), (7, 7, 0, 1), (8, 19, 1, 1), (20, 20, 1, 2)];
+    leave(&rt, rt.alloc(), &moments)
+}
+
+#[test]
+fn a_stop_at_any_call_of_the_second_load_keeps_what_is_acknowledged(
+    rt: HostRuntime,
+) -> Result<(), Fail> {
+    let moments = [(21, 37, 2, 2), (38, 38, 2, 3), (39, 40, 3, 3)];
+    leave(&rt, rt.alloc(), &moments)
 }
 
 const ANOTHER_NAME: &str =

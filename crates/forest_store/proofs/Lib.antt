@@ -1,7 +1,6 @@
 pub mod Added
 pub mod Committed
 pub mod Declared
-pub mod Filters
 pub mod NamesLong
 pub mod Named
 pub mod Openings

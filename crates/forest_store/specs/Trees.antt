@@ -1,4 +1,4 @@
--- The points of a tree and of a view, read from their pages.
+-- The points of a tree, read from its pages.
 use Rattle.std.specs.Prelude.{◌≡◌, ◌≢◌, ◌⊎◌, ℕ, ◌+◌, ◌*◌, ◌<◌, ◌≤◌, ◌==◌, true, List, [], filter, get_or, length, map}
 use Rattle.std.specs.List.{All, range_with_len}
 use Rattle.site_core.specs.Disk.{Files}
@@ -37,10 +37,6 @@ AreGoodIn place files = AreGood place.shape (files place.file) place.first place
 abbrev pub IsFirstBadIn : Place → Files → ℕ → Type 0
 IsFirstBadIn place files page = IsFirstBad place.shape (files place.file) place.first place.pages page
 
--- the entry's point has so many coordinates
-abbrev pub HasArity : ℕ → Entry → Type 0
-HasArity arity e = e.point.arity ≡ arity
-
 -- these are the points of a tree in these files: each of its pages is there and lawful, its points come after all before them, and there
 -- are as many of each arity as the body counts
 pub record IsTreeIn (forest : Forest) (files : Files) (t : ℕ) (es : List Entry) : Type 0 where
@@ -63,18 +59,6 @@ TellsDamage forest files t (stops.Damaged file offset) =
     (page : ℕ) × IsDamagedAt forest files t page × (file ≡ (place_of forest t).file) × (offset ≡ 4096 * page)
 TellsDamage forest files t stops.Disk = Unit {0}
 TellsDamage forest files t stops.Memory = Unit {0}
-
--- these are the points of a view in these files: those of its arity in its tree
-abbrev pub IsViewIn : Forest → Files → ℕ → List Entry → Type 0
-IsViewIn forest files view es =
-    (all : List Entry) × IsTreeIn forest files (tree_number forest.schema.views view) all
-    × (es ≡ filter (λ e. e.point.arity == length (get_or forest.schema.views view [])) all)
-
--- points of a view: in order, of its arity, and each as a leaf may hold it
-pub record AreViewPoints (schema : Schema) (view : View) (es : List Entry) : Type 0 where
-  pub order : ascend entry_before es ≡ true
-  pub arity : All (HasArity (length view)) es
-  pub good : All (FitsLeaf (record { dims = length view; measures = measure_count schema })) es
 
 -- points that a batch adds to a tree, of each arity at most so many
 pub record AreAdded (shape : Shape) (most : ℕ) (es : List Entry) : Type 0 where

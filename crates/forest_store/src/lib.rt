@@ -1,4 +1,4 @@
-//! The views of a warehouse on disk, in packed trees: opening, the points of a view, and the load of a batch.
+//! The views of a warehouse on disk, in packed trees: opening, the declaration of a schema, and the load of a batch.
 #![tactic(auto)]
 
 mod committing;
@@ -15,5 +15,4 @@ mod stop;
 pub use declaring::declare;
 pub use loading::{Loaded, Refusal, load};
 pub use opening::open;
-pub use reading::points;
 pub use stop::StoreStop;

@@ -25,12 +25,10 @@ use cube_point::{Entry, EntryList};
 use delta_agg::{DeltaList, MergeStop, merge_points};
 use fact_model::{ListOf, Memory};
 use forest_root::Forest;
+use page_fmt::PAGE;
 use site_core::Site;
 use std::alloc::Global;
 use tree_pack::Packer;
-
-/// The bytes of a page.
-const PAGE: u64 = 4096;
 
 /// The greatest number of a tree's first page.
 const MAX_FIRST: u64 = 1 << 50;
@@ -111,7 +109,7 @@ fn add_tree(
         ++ tree_bytes forest.now.schema all (length pages.old.items / 4096) (tree_of forest.now.mapping tree)) }
     ensures whole { OnOk result (length pages.new.items % 4096 ≡ length pages.old.items % 4096) }
 {
-    let first = pages.len() as u64 / PAGE;
+    let first = pages.len() as u64 / PAGE as u64;
     // No memory has room for so many pages.
     if first > MAX_FIRST {
         return Err(Memory);
@@ -168,7 +166,7 @@ fn bad_tree(forest: &Forest, tree: u32) -> StoreStop
     let place = forest.place(tree);
     StoreStop::Damaged {
         file: place.file,
-        offset: PAGE * place.first,
+        offset: PAGE as u64 * place.first,
     }
 }
 

@@ -20,6 +20,7 @@ use crate::stop::StoreStop;
 use attr_dict::{Dicts, NamesStop};
 use cube_schema::Schema;
 use forest_root::{Body, Forest, RootStop, Store, live};
+use page_fmt::PAGE;
 use select_map::select;
 use site_core::Site;
 use std::alloc::Global;
@@ -33,9 +34,6 @@ const SIDE: u32 = 2;
 
 /// The bytes of a body in the root file.
 const BODY_SIZE: u64 = 1024;
-
-/// The bytes of a page.
-const PAGE: usize = 4096;
 
 /// The slot of a body.
 pub fn slot(body: &Body) -> u32

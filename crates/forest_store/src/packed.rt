@@ -6,10 +6,8 @@ ghost use Rattle.tree_pack.specs.Pages.{Views, page_bytes, pages_of};
 
 use cube_point::{Entry, Shape};
 use fact_model::Memory;
+use page_fmt::PAGE;
 use tree_pack::Packer;
-
-/// The bytes of a page.
-const PAGE: usize = 4096;
 
 /// Puts the pages of the tree of these points behind `pages`. Its first page is to have this number.
 pub fn pack_tree(

@@ -1,83 +1,34 @@
-//! The points of a tree, and those of one of its views, are read from its pages.
-ghost use Rattle.std.specs.Prelude.{◌≡◌, ◌<◌, ◌≤◌, ◌+◌, ◌*◌, ◌^◌, ◌==◌, ℕ, IsTrue, IfOk, IfErr, [], List, filter, get_or, length, slice_index};
+//! The points of a tree are read from its pages.
+ghost use Rattle.std.specs.Prelude.{◌≡◌, ◌<◌, ◌≤◌, ◌+◌, ◌*◌, ◌^◌, IsTrue, IfOk, IfErr, List, length};
 ghost use Rattle.std.specs.List.{All};
 ghost use Rattle.site_core.specs.Calls.{Rests};
 ghost use Rattle.fact_model.specs.declared.fact.Fact as facts;
 ghost use Rattle.select_map.specs.Selection.{tree_of};
-ghost use Rattle.select_map.specs.Views.{tree_number};
 ghost use Rattle.tree_pack.specs.Pages.{count_of};
 ghost use Rattle.tree_scan.specs.Scanning.{ArePoints, NamesPage};
 ghost use Rattle.forest_root.specs.Causes.{HasCauseWhere};
 ghost use Rattle.forest_root.specs.Forest.{counts_of, place_of};
-ghost use Rattle.forest_pages.specs.Forest.{tree_entries, view_entries};
+ghost use Rattle.forest_pages.specs.Forest.{tree_entries};
 ghost use Rattle.forest_store.specs.Held.{AreAccepted, IsLive};
 ghost use Rattle.forest_store.specs.Opened.{IsNoDamage};
-ghost use Rattle.forest_store.specs.Trees.{AreViewPoints, HasArity, IsTreeIn, IsViewIn, NamesPageOf, TellsDamage, by_arity, stop_at as told_at};
+ghost use Rattle.forest_store.specs.Trees.{IsTreeIn, NamesPageOf, TellsDamage, by_arity, stop_at as told_at};
 
 use crate::stop::StoreStop;
 use cube_point::{Entry, EntryList};
 use fact_model::ListOf;
-use forest_root::{Forest, Store};
-use page_fmt::Place;
+use forest_root::Forest;
+use page_fmt::{PAGE, Place};
 use site_core::Site;
 use std::alloc::Global;
 use tree_scan::{ScanStop, read_tree};
 
-/// The bytes of a page.
-const PAGE: u64 = 4096;
-
 /// How many arities a view may have: 0 to 8.
 pub(crate) const ARITIES: usize = 9;
 
-/// The points of a view, in point order, read with at most one read for each page of its tree. Nothing is changed, also after an
-/// error.
+/// The points of a tree, in point order, read with at most one read for each of its pages. Nothing is changed, also after an error.
 ///
 /// `Damaged` names a page of the tree on the live side: the first that is short or not lawful, or has a point out of order; or the
 /// tree's first page, where it has not as many points of each arity as the body counts.
-pub fn points<T: Site>(
-    alloc: Global,
-    site: &mut T,
-    store: &Store,
-    view: u32,
-) -> Result<EntryList, StoreStop>
-    requires view { view < length store.now.forest.schema.views }
-
-    ensures points { IsTrue T.tells → (accepted : List facts.Fact) → AreAccepted store.now.forest.schema accepted
-        → IsLive store.now.forest.schema store.now.forest.body accepted (T.disk site.old).files
-        → IfOk result (λ points. points ≡ view_entries store.now.forest.schema accepted (get_or store.now.forest.schema.views view [])) }
-    ensures undamaged { IsTrue T.tells → (accepted : List facts.Fact) → AreAccepted store.now.forest.schema accepted
-        → IsLive store.now.forest.schema store.now.forest.body accepted (T.disk site.old).files → IfErr result IsNoDamage }
-
-    // Whatever the files hold: the points of the view in a tree that is whole, or the page at which it is damaged.
-    ensures whole { IsTrue T.tells → IfOk result (IsViewIn store.now.forest (T.disk site.old).files view) }
-    ensures damage { IsTrue T.tells
-        → IfErr result (TellsDamage store.now.forest (T.disk site.old).files (tree_number store.now.forest.schema.views view)) }
-    ensures place { IfErr result (NamesPageOf (place_of store.now.forest (tree_number store.now.forest.schema.views view))) }
-    ensures each { IfOk result (AreViewPoints store.now.forest.schema (get_or store.now.forest.schema.views view [])) }
-    ensures count { IfOk result (λ points. length points ≡ slice_index store.now.forest.body.counts view) }
-    ensures disk { IsTrue T.tells → Rests (T.disk site.old) (T.disk site.new) }
-    ensures cause { HasCauseWhere StoreStop.Disk (T.disk_faults site.old) (T.disk_faults site.new) result }
-    ensures told_faults { T.told_faults site.new ≡ T.told_faults site.old }
-    ensures reads { T.reads site.new ≤ T.reads site.old
-        + (place_of store.now.forest (tree_number store.now.forest.schema.views view)).pages }
-    ensures writes { T.writes site.new ≡ T.writes site.old }
-{
-    let forest = &store.forest;
-    let entries = tree_points(alloc, site, forest, forest.mapping.tree_of(view))?;
-    let attrs = &forest.schema.views.as_slice()[view as usize];
-    Ok(of_arity(entries, attrs.as_slice().len()))
-}
-
-/// The points of this arity. It takes no memory.
-fn of_arity(entries: EntryList, arity: usize) -> EntryList
-    ensures { result ≡ filter (λ e. e.point.arity == arity) entries }
-{
-    let mut entries = entries.into_vec();
-    entries.retain(|entry| entry.point.arity as usize == arity);
-    ListOf::from_vec(entries)
-}
-
-/// The points of a tree, in point order: as many of each arity as the body counts.
 pub(crate) fn tree_points<T: Site>(
     alloc: Global,
     site: &mut T,
@@ -151,6 +102,6 @@ fn bad_page(place: &Place, page: u64) -> StoreStop
 {
     StoreStop::Damaged {
         file: place.file,
-        offset: PAGE * page,
+        offset: PAGE as u64 * page,
     }
 }

@@ -9,13 +9,11 @@ ghost use Rattle.page_cache.specs.Giving.{ExplainsStop, Holds};
 
 use fact_model::Memory;
 use lru::LruCache;
+use page_fmt::PAGE;
 use site_core::{Fault, Site};
 use std::alloc::Global;
 use std::marker::Model;
 use std::num::NonZeroUsize;
-
-/// The bytes of a page.
-const PAGE: usize = 4096;
 
 /// Why a page is not given.
 #[derive(Clone, Copy, Debug, PartialEq, Eq)]

@@ -13,7 +13,7 @@ mod tree;
 
 pub use inner::put_inner;
 pub use leaf::put_leaf;
-pub use page::{BadPage, Child, Head, Node, Place};
+pub use page::{BadPage, Child, Head, Node, PAGE, Place};
 pub use read::{inner_entry, leaf_entry};
 pub use size::{inner_room, leaf_room};
 pub use take::take_page;

@@ -14,10 +14,7 @@ ghost use Rattle.range_scan.specs.Visits.{met};
 use crate::walk::Query;
 use cube_point::{Entry, inside, meets};
 use fact_model::Memory;
-use page_fmt::{inner_entry, leaf_entry};
-
-/// The bytes of a page.
-const PAGE: usize = 4096;
+use page_fmt::{PAGE, inner_entry, leaf_entry};
 
 /// Puts the points of a leaf that lie in the region behind the others.
 pub(crate) fn take_points(

@@ -6,6 +6,8 @@ use Rattle.cube_schema.specs.declared.schema.SchemaRefusal.TheVariants as schema
 use Rattle.fact_csv.specs.declared.refusal.RowRefusal.{RowRefusal}
 use Rattle.fact_csv.specs.declared.refusal.RowRefusal.TheVariants as rows
 use Rattle.fact_model.specs.declared.slice.Row.{Row}
+use Rattle.slice_lang.specs.declared.refusal.SliceRefusal.{SliceRefusal}
+use Rattle.slice_lang.specs.declared.refusal.SliceRefusal.TheVariants as slices
 
 -- a text with its line feed
 abbrev pub line : List ℕ → List ℕ
@@ -51,6 +53,15 @@ full_text name = codes "refused names " ++ line name
 -- the refusal of a batch by the mass of the measure of this name
 abbrev pub mass_text : List ℕ → List ℕ
 mass_text name = codes "refused mass " ++ line name
+
+-- the refusal of a slice; want of memory is none, and has no text
+abbrev pub slice_text : SliceRefusal → List ℕ
+slice_text (slices.Syntax byte) = numbered (codes "refused syntax ") byte
+slice_text (slices.UnknownAttr byte) = numbered (codes "refused attribute ") byte
+slice_text (slices.UnknownMeasure byte) = numbered (codes "refused measure ") byte
+slice_text (slices.Repeated byte) = numbered (codes "refused repeated ") byte
+slice_text (slices.BadValue byte) = numbered (codes "refused value ") byte
+slice_text slices.Memory = line []
 
 -- the rows, and then their number
 abbrev pub answer_text : List Row → List ℕ

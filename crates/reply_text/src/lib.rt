@@ -6,5 +6,5 @@ mod refusal;
 mod rows;
 
 pub use line::{committed, facts, plain};
-pub use refusal::{refused_batch, refused_mass, refused_names, refused_schema};
+pub use refusal::{refused_batch, refused_mass, refused_names, refused_schema, refused_slice};
 pub use rows::answer;

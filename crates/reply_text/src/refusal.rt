@@ -1,12 +1,13 @@
-//! Replies that refuse a schema or a batch.
+//! Replies that refuse a schema, a batch or a slice.
 ghost use Rattle.std.specs.Prelude.{◌≡◌, ◌≢◌, ◌++◌, IfOk, OnOk};
 ghost use Rattle.fact_csv.specs.declared.refusal.RowRefusal.TheVariants as rows;
-ghost use Rattle.reply_text.specs.Replies.{line, schema_text, batch_text, full_text, mass_text};
+ghost use Rattle.reply_text.specs.Replies.{line, schema_text, batch_text, full_text, mass_text, slice_text};
 
 use crate::line::{numbered, plain};
 use cube_schema::SchemaRefusal;
 use fact_csv::RowRefusal;
 use fact_model::Memory;
+use slice_lang::SliceRefusal;
 use std::alloc::Global;
 
 /// The refusal of a schema by the first rule that it breaks. Want of memory has no reply.
@@ -82,4 +83,19 @@ fn named(alloc: Global, text: &[u8], name: &[u8]) -> Result<Vec<u8>, Memory>
     reply.extend_from_slice(name)?;
     reply.push(b'\n')?;
     Ok(reply)
+}
+
+/// The refusal of a slice by the first rule that its text breaks. Want of memory has no reply.
+pub fn refused_slice(alloc: Global, refusal: SliceRefusal) -> Result<Vec<u8>, Memory>
+    ensures text { IfOk result (λ reply. reply.items ≡ slice_text refusal) }
+    ensures refused { OnOk result (refusal ≢ SliceRefusal.Memory) }
+{
+    match refusal {
+        SliceRefusal::Syntax(byte) => numbered(alloc, "refused syntax ", byte),
+        SliceRefusal::UnknownAttr(byte) => numbered(alloc, "refused attribute ", byte),
+        SliceRefusal::UnknownMeasure(byte) => numbered(alloc, "refused measure ", byte),
+        SliceRefusal::Repeated(byte) => numbered(alloc, "refused repeated ", byte),
+        SliceRefusal::BadValue(byte) => numbered(alloc, "refused value ", byte),
+        SliceRefusal::Memory => Err(Memory),
+    }
 }

@@ -11,6 +11,7 @@ use Rattle.fact_model.specs.declared.slice.Column.TheVariants.{Count, Sum, Min, 
 use Rattle.fact_model.specs.declared.slice.Cond.{Cond}
 use Rattle.fact_model.specs.declared.slice.Cond.TheVariants.{Equal, Between}
 use Rattle.fact_model.specs.declared.slice.Slice.{Slice}
+use Rattle.fact_model.specs.Slice.{attr_of}
 use Rattle.cube_schema.specs.Agreeing.{IsOfKind}
 use Rattle.cube_schema.specs.declared.schema.Attr.{Attr}
 use Rattle.cube_schema.specs.declared.schema.Kind.{Kind}
@@ -20,7 +21,6 @@ use Rattle.cube_schema.specs.Kinds.{is_word_kind, kind_at, measure_count, no_att
 use Rattle.cube_schema.specs.Lawful.{IsSchema}
 use Rattle.cube_schema.specs.Reading.{are_distinct}
 use Rattle.view_points.specs.Agree.{AgreesColumn, AgreesCond, AgreesSlice, IsCoded, Once}
-use Rattle.view_points.specs.Answer.{attr_of}
 use Rattle.view_points.specs.Points.{Names}
 use Rattle.view_points.proofs.Codes.{own-names}
 use Rattle.view_points.proofs.Members.{All-from_every, all-every, every-map}
@@ -31,7 +31,6 @@ use Rattle.forest_store.specs.Held.{AreAccepted}
 use Rattle.forest_store.proofs.Named.{agree_with}
 use Rattle.forest_store.proofs.Schemas.{few_measures}
 use Rattle.slice_lang.specs.Agreeing.{FitsKind, SliceAgrees, is_column}
-use Rattle.slice_lang.specs.Reading as lang
 use Rattle.view_route.specs.Routes.{IsCovering}
 use Rattle.view_route.proofs.Covering.{covering}
 use Rattle.view_rows.specs.Grouped.{Answers}
@@ -52,13 +51,9 @@ number-kind : (k : Kind) (n : ℕ) → IsOfKind k (Number n) → is_word_kind k 
 number-kind (kind.Word max) n is = absurd is
 number-kind kind.Number n is = refl
 
-same-attr : (c : Cond) → lang.attr_of c ≡ attr_of c
-same-attr (Equal a v) = refl
-same-attr (Between a low high) = refl
-
 -- ---- conditions
 
-apart : (a : ℕ) (conds : List Cond) → list_any (nat_eq a) (map lang.attr_of conds) ≡ false → AllByRecursion (λ d. (attr_of d == a) ≡ false) conds
+apart : (a : ℕ) (conds : List Cond) → list_any (nat_eq a) (map attr_of conds) ≡ false → AllByRecursion (λ d. (attr_of d == a) ≡ false) conds
 apart a [] none = tt
 apart a (Equal b v ∷ conds) none = (grind (arith, nat_tests), apart a conds (grind (arith, nat_tests)))
 apart a (Between b low high ∷ conds) none = (grind (arith, nat_tests), apart a conds (grind (arith, nat_tests)))
@@ -67,17 +62,17 @@ none-of : (b : Bool) → not b ≡ true → b ≡ false
 none-of false is = refl
 none-of true is = cc
 
-once : (conds : List Cond) → are_distinct nat_eq (map lang.attr_of conds) ≡ true → Once conds
+once : (conds : List Cond) → are_distinct nat_eq (map attr_of conds) ≡ true → Once conds
 once [] is = tt
 once (c ∷ conds) is =
-    let both = and_parts (not (list_any (nat_eq (lang.attr_of c)) (map lang.attr_of conds))) (are_distinct nat_eq (map lang.attr_of conds)) is in
-    (subst (λ a. AllByRecursion (λ d. (attr_of d == a) ≡ false) conds) (same-attr c) (apart (lang.attr_of c) conds (none-of _ both.0)), once conds both.1)
+    let both = and_parts (not (list_any (nat_eq (attr_of c)) (map attr_of conds))) (are_distinct nat_eq (map attr_of conds)) is in
+    (apart (attr_of c) conds (none-of _ both.0), once conds both.1)
 
 module _ (schema : Schema) (lawful : IsSchema schema) (b : Book) (kinds : b.kinds ≡ (no_names schema).kinds) where
   kind-same : (a : ℕ) → kind_at schema a ≡ books.kind_at b a
   kind-same a = sym (ap (λ (ks : List Kind). get_or ks a kind.Number) kinds ∙ kinds-at schema.attrs a)
 
-  cond-agrees : (c : Cond) → FitsKind (kind_at schema (lang.attr_of c)) c → AgreesCond (is_word b) c
+  cond-agrees : (c : Cond) → FitsKind (kind_at schema (attr_of c)) c → AgreesCond (is_word b) c
   cond-agrees (Equal a (Word text)) fits = word-kind (kind_at schema a) text fits ∙ ap is_word_kind (kind-same a)
   cond-agrees (Equal a (Number n)) fits = sym (number-kind (kind_at schema a) n fits) ∙ ap is_word_kind (kind-same a)
   cond-agrees (Between a low high) fits = ap is_word_kind (sym (kind-same a)) ∙ number-kind (kind_at schema a) low fits.0
@@ -90,7 +85,7 @@ module _ (schema : Schema) (lawful : IsSchema schema) (b : Book) (kinds : b.kind
 
   pub slice-agrees : (s : Slice) → SliceAgrees schema s → AgreesSlice (is_word b) s
   slice-agrees s is = record {
-    conds = All-from_every (AgreesCond (is_word b)) s.conds (every-map (λ c. FitsKind (kind_at schema (lang.attr_of c)) c) (AgreesCond (is_word b)) cond-agrees s.conds is.values);
+    conds = All-from_every (AgreesCond (is_word b)) s.conds (every-map (λ c. FitsKind (kind_at schema (attr_of c)) c) (AgreesCond (is_word b)) cond-agrees s.conds is.values);
     once = once s.conds is.conds_apart;
     columns = All-from_every AgreesColumn s.columns (every-map (λ c. is_column (measure_count schema) c ≡ true) AgreesColumn column-agrees s.columns (all-every (is_column (measure_count schema)) s.columns is.columns));
   }

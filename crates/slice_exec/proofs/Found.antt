@@ -71,8 +71,7 @@ placed shape e fits = record { point = fits.point; eight = fits.eight; coordinat
 
 -- ---- a view's points
 
-module _ (store : Store) (view : ℕ) (low : view < length store.forest.schema.views) (slice : Slice) (accepted : List Fact)
-    (fine : AreAccepted store.forest.schema accepted) (named : HoldsNamesOf store.dicts accepted) where
+module _ (store : Store) (view : ℕ) (slice : Slice) where
   abbrev schema : Schema
   schema = store.forest.schema
 
@@ -84,16 +83,6 @@ module _ (store : Store) (view : ℕ) (low : view < length store.forest.schema.v
 
   abbrev where_found : Region
   where_found = region_from (length attrs) intervals
-
-  abbrev shape : Shape
-  shape = record { dims = length attrs; measures = measure_count schema }
-
-  same-names : names_at store.dicts ≡ names_of accepted
-  same-names = λ i a. named a i
-
-  fit : All (FitsLeaf shape) (view_entries schema accepted attrs)
-  fit = entries-fit shape (names_of accepted) attrs accepted (let short = view-short schema store.forest.lawful view low in omega (arith, short)) (few_measures schema store.forest.lawful)
-      (storable schema accepted store.forest.lawful fine)
 
   -- the region as it was made
   module _ (made : Region) (attributes : View) (conds : List Cond) (attributes-are : attributes ≡ attrs) (conds-are : conds ≡ slice.conds)
@@ -108,23 +97,37 @@ module _ (store : Store) (view : ℕ) (low : view < length store.forest.schema.v
         (subst (λ (cs : List Cond). IsInside p made ↔ IsTrue (inside (region (names_at store.dicts) cs attrs) p.at)) conds-are
         (subst (λ (v : View). IsInside p made ↔ IsTrue (inside (region (names_at store.dicts) conds v) p.at)) attributes-are (agree p is)))
 
-  module _ (agree : (p : Point) → IsPlaced p → IsInside p where_found ↔ IsTrue (inside intervals p.at)) where
-    same-test : (e : Entry) → FitsLeaf shape e → is_inside where_found e ≡ inside intervals e.point.at
-    same-test e fits =
-        let both = agree e.point (placed shape e fits) in
-        same-truth (is_inside where_found e) (inside intervals e.point.at) (λ is. both.0 (inside-told where_found e is)) (λ is. inside-from where_found e (both.1 is))
+  -- ---- over facts
 
-    -- what a search of its tree finds are its points in the region
-    pub found-points : (es : List Entry) → es ≡ filter (is_inside where_found) (tree_entries schema accepted (tree_of store.forest.mapping (tree_number schema.views view)))
-        → es ≡ points_inside store.dicts (measure_count schema) attrs slice accepted
-    found-points es is =
-        let tree = tree_entries schema accepted (tree_of store.forest.mapping (tree_number schema.views view)) in
-        let of_view : Entry → Bool = λ e. e.point.arity == length attrs in
-        let own : filter of_view tree ≡ view_entries schema accepted attrs = points-view store.forest view low accepted fine tree refl in
-        is
-        ∙ (filter-through (is_inside where_found) of_view (λ e told. eq-eqb e.point.arity (length attrs) (inside-told where_found e told).arity) tree
-        ∙ (ap (filter (is_inside where_found)) own
-        ∙ (filter-same (is_inside where_found) (λ e. inside intervals e.point.at) (view_entries schema accepted attrs)
-        (every-map (FitsLeaf shape) (λ e. is_inside where_found e ≡ inside intervals e.point.at) same-test (view_entries schema accepted attrs) (every-from_All (FitsLeaf shape) (view_entries schema accepted attrs) fit))
-        ∙ (filter-map (λ (e : Entry). inside intervals e.point.at) entry_of (points_by (names_of accepted) (measure_count schema) attrs accepted)
-        ∙ ap (λ (names : Names). map entry_of (filter (λ (e : PlacedCell). inside intervals e.0) (points_by names (measure_count schema) attrs accepted))) (sym same-names)))))
+  module _ (low : view < length store.forest.schema.views) (accepted : List Fact)
+      (fine : AreAccepted store.forest.schema accepted) (named : HoldsNamesOf store.dicts accepted) where
+    abbrev shape : Shape
+    shape = record { dims = length attrs; measures = measure_count schema }
+
+    same-names : names_at store.dicts ≡ names_of accepted
+    same-names = λ i a. named a i
+
+    fit : All (FitsLeaf shape) (view_entries schema accepted attrs)
+    fit = entries-fit shape (names_of accepted) attrs accepted (let short = view-short schema store.forest.lawful view low in omega (arith, short)) (few_measures schema store.forest.lawful)
+        (storable schema accepted store.forest.lawful fine)
+
+    module _ (agree : (p : Point) → IsPlaced p → IsInside p where_found ↔ IsTrue (inside intervals p.at)) where
+      same-test : (e : Entry) → FitsLeaf shape e → is_inside where_found e ≡ inside intervals e.point.at
+      same-test e fits =
+          let both = agree e.point (placed shape e fits) in
+          same-truth (is_inside where_found e) (inside intervals e.point.at) (λ is. both.0 (inside-told where_found e is)) (λ is. inside-from where_found e (both.1 is))
+
+      -- what a search of its tree finds are its points in the region
+      pub found-points : (es : List Entry) → es ≡ filter (is_inside where_found) (tree_entries schema accepted (tree_of store.forest.mapping (tree_number schema.views view)))
+          → es ≡ points_inside store.dicts (measure_count schema) attrs slice accepted
+      found-points es is =
+          let tree = tree_entries schema accepted (tree_of store.forest.mapping (tree_number schema.views view)) in
+          let of_view : Entry → Bool = λ e. e.point.arity == length attrs in
+          let own : filter of_view tree ≡ view_entries schema accepted attrs = points-view store.forest view low accepted fine tree refl in
+          is
+          ∙ (filter-through (is_inside where_found) of_view (λ e told. eq-eqb e.point.arity (length attrs) (inside-told where_found e told).arity) tree
+          ∙ (ap (filter (is_inside where_found)) own
+          ∙ (filter-same (is_inside where_found) (λ e. inside intervals e.point.at) (view_entries schema accepted attrs)
+          (every-map (FitsLeaf shape) (λ e. is_inside where_found e ≡ inside intervals e.point.at) same-test (view_entries schema accepted attrs) (every-from_All (FitsLeaf shape) (view_entries schema accepted attrs) fit))
+          ∙ (filter-map (λ (e : Entry). inside intervals e.point.at) entry_of (points_by (names_of accepted) (measure_count schema) attrs accepted)
+          ∙ ap (λ (names : Names). map entry_of (filter (λ (e : PlacedCell). inside intervals e.0) (points_by names (measure_count schema) attrs accepted))) (sym same-names)))))

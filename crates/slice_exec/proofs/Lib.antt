@@ -1,4 +1,5 @@
 pub mod Agreed
+pub mod Costs
 pub mod Found
 pub mod Holding
 pub mod Told

@@ -6,11 +6,13 @@ ghost use Rattle.site_core.specs.Calls.{Rests};
 ghost use Rattle.fact_model.specs.declared.fact.Fact as facts;
 ghost use Rattle.fact_model.specs.Rows.{rows};
 ghost use Rattle.forest_root.specs.Causes.{HasCauseWhere};
+ghost use Rattle.forest_pages.specs.Forest.{body_counts};
 ghost use Rattle.forest_store.specs.Stored.{IsStoreOf};
 ghost use Rattle.slice_lang.specs.Agreeing.{SliceAgrees};
 ghost use Rattle.view_route.specs.Routes.{IsCovering, IsRoute};
 ghost use Rattle.view_rows.specs.Grouped.{HasForm};
-ghost use Rattle.slice_exec.specs.Answers.{IsNoDamage, IsUncovered, NamesSide, visits_of};
+ghost use Rattle.slice_exec.specs.Answers.{IsJudged, IsNoDamage, IsUncovered, NamesSide, tree_of_view, visits_of};
+ghost use Rattle.slice_exec.specs.Costs.{visits_over};
 
 use crate::finding::find;
 use crate::stop::AnswerStop;
@@ -47,14 +49,22 @@ pub fn answer<T: Site>(
     ensures uncovered { IsErrOf result AnswerStop.NotCovered ↔ IsUncovered store.now.forest.schema slice.now }
     ensures visits { IsTrue T.tells → (view : ℕ) → IsRoute store.now.forest.schema.views store.now.forest.body.counts slice.now view
         → T.reads site.new ≤ T.reads site.old + length (visits_of store.now slice.now view (T.disk site.old).files) }
+    ensures cost { IsTrue T.tells → (accepted : List facts.Fact) → IsStoreOf store.now accepted (T.disk site.old).files
+        → (view : ℕ) → IsRoute store.now.forest.schema.views (body_counts store.now.forest.schema accepted) slice.now view
+        → T.reads site.new ≤ T.reads site.old + length (visits_over store.now.forest.schema accepted slice.now view) }
 
     // Whatever the files hold.
+    ensures judged { IsTrue T.tells → (view : ℕ) → IsRoute store.now.forest.schema.views store.now.forest.body.counts slice.now view
+        → IsJudged store.now slice.now view (T.disk site.old).files result }
+    ensures untouched { IsErrOf result AnswerStop.NotCovered → site.new ≡ site.old }
     ensures form { IfOk result (All (HasForm store.now.dicts slice.now)) }
     ensures place { IfErr result (NamesSide store.now.forest.body) }
     ensures cache { pages.new ≡ pages.old }
     ensures disk { IsTrue T.tells → Rests (T.disk site.old) (T.disk site.new) }
     ensures cause { HasCauseWhere AnswerStop.Disk (T.disk_faults site.old) (T.disk_faults site.new) result }
     ensures told_faults { T.told_faults site.new ≡ T.told_faults site.old }
+    ensures reads { (view : ℕ) → IsRoute store.now.forest.schema.views store.now.forest.body.counts slice.now view
+        → T.reads site.new ≤ T.reads site.old + (tree_of_view store.now view).pages }
     ensures writes { T.writes site.new ≡ T.writes site.old }
 {
     let forest = &store.forest;
@@ -82,6 +92,8 @@ fn answer_from<T: Site>(
         → IfErr result IsNoDamage }
     ensures visits { IsTrue T.tells → T.reads site.new ≤ T.reads site.old + length (visits_of store.now slice.now view (T.disk site.old).files) }
 
+    // Whatever the files hold.
+    ensures judged { IsTrue T.tells → IsJudged store.now slice.now view (T.disk site.old).files result }
     ensures form { IfOk result (All (HasForm store.now.dicts slice.now)) }
     ensures place { IfErr result (NamesSide store.now.forest.body) }
     ensures covered { IsErrOf result AnswerStop.NotCovered → ⊥ }
@@ -89,6 +101,7 @@ fn answer_from<T: Site>(
     ensures disk { IsTrue T.tells → Rests (T.disk site.old) (T.disk site.new) }
     ensures cause { HasCauseWhere AnswerStop.Disk (T.disk_faults site.old) (T.disk_faults site.new) result }
     ensures told_faults { T.told_faults site.new ≡ T.told_faults site.old }
+    ensures reads { T.reads site.new ≤ T.reads site.old + (tree_of_view store.now view).pages }
     ensures writes { T.writes site.new ≡ T.writes site.old }
 {
     let points = find(alloc, site, pages, store, slice, view)?;

@@ -9,7 +9,7 @@ ghost use Rattle.forest_store.specs.Stored.{IsStoreOf};
 ghost use Rattle.slice_lang.specs.Agreeing.{SliceAgrees};
 ghost use Rattle.view_rows.specs.Grouped.{points_inside};
 ghost use Rattle.view_route.specs.Routes.{IsCovering};
-ghost use Rattle.slice_exec.specs.Answers.{IsNoDamage, NamesSide, visits_of};
+ghost use Rattle.slice_exec.specs.Answers.{IsNoDamage, NamesSide, TellsPoints, tree_of_view, visits_of};
 
 use crate::stop::{AnswerStop, stop_at};
 use cube_point::EntryList;
@@ -41,12 +41,14 @@ pub(crate) fn find<T: Site>(
     ensures visits { IsTrue T.tells → T.reads site.new ≤ T.reads site.old + length (visits_of store.now slice.now view (T.disk site.old).files) }
 
     // Whatever the files hold.
+    ensures searched { IsTrue T.tells → TellsPoints store.now slice.now view (T.disk site.old).files result }
     ensures place { IfErr result (NamesSide store.now.forest.body) }
     ensures covered { IsErrOf result AnswerStop.NotCovered → ⊥ }
     ensures cache { pages.new ≡ pages.old }
     ensures disk { IsTrue T.tells → Rests (T.disk site.old) (T.disk site.new) }
     ensures cause { HasCauseWhere AnswerStop.Disk (T.disk_faults site.old) (T.disk_faults site.new) result }
     ensures told_faults { T.told_faults site.new ≡ T.told_faults site.old }
+    ensures reads { T.reads site.new ≤ T.reads site.old + (tree_of_view store.now view).pages }
     ensures writes { T.writes site.new ≡ T.writes site.old }
 {
     let forest = &store.forest;

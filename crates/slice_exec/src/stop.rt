@@ -3,7 +3,7 @@ ghost use Rattle.std.specs.Prelude.{◌≡◌, ◌≤◌, ◌+◌, ◌^◌};
 ghost use Rattle.range_scan.specs.Searching.{NamesPage};
 ghost use Rattle.slice_exec.specs.Answers.{stop_at};
 
-use page_fmt::Place;
+use page_fmt::{PAGE, Place};
 use range_scan::SearchStop;
 
 /// Why a slice has no answer.
@@ -24,9 +24,6 @@ pub enum AnswerStop {
     Memory,
 }
 
-/// The bytes of a page.
-const PAGE: u64 = 4096;
-
 /// A stop of the search, told of the file of the tree.
 pub(crate) fn stop_at(tree: &Place, stop: SearchStop) -> AnswerStop
     requires page { NamesPage tree.now.first tree.now.pages stop }
@@ -37,7 +34,7 @@ pub(crate) fn stop_at(tree: &Place, stop: SearchStop) -> AnswerStop
         SearchStop::Disk => AnswerStop::Disk,
         SearchStop::Damaged { page } => AnswerStop::Damaged {
             file: tree.file,
-            offset: PAGE * page,
+            offset: PAGE as u64 * page,
         },
         SearchStop::Memory => AnswerStop::Memory,
     }

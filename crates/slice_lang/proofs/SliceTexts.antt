@@ -13,6 +13,7 @@ use Rattle.fact_model.specs.declared.slice.Cond.TheVariants.{Equal, Between}
 use Rattle.cube_schema.specs.declared.schema.Kind.{Kind}
 use Rattle.cube_schema.specs.declared.schema.Kind.TheVariants.{Word, Number}
 use Rattle.fact_model.specs.declared.slice.Slice.{Slice}
+use Rattle.fact_model.specs.Slice.{attr_of}
 use Rattle.cube_schema.specs.Kinds.{name_at, arity, measure_count, kind_at}
 use Rattle.cube_schema.specs.Lawful.{IsSchema}
 use Rattle.cube_schema.specs.declared.schema.Schema.{Schema}
@@ -23,7 +24,7 @@ use Rattle.slice_lang.specs.Answers.{◌>>=◌, gathered, Reading, Answers}
 use Rattle.slice_lang.specs.Grammar.{SpellsCond, Says}
 use Rattle.slice_lang.proofs.Decimals.{number-again}
 use Rattle.slice_lang.specs.Parts.{Part, byte_of, parts_from, parts_of}
-use Rattle.slice_lang.specs.Reading.{column_in, columns_in, name_of_group, group_in, attr_of, conds_in, all_conds_in, made, behind_group, behind_columns, words_in, slice_of}
+use Rattle.slice_lang.specs.Reading.{column_in, columns_in, name_of_group, group_in, conds_in, all_conds_in, made, behind_group, behind_columns, words_in, slice_of}
 use Rattle.slice_lang.specs.Writing.{column_text, columns_text, by_text, value_text, cond_text, where_text, slice_text}
 use Rattle.slice_lang.proofs.Agreed.{AreAttrs, AreConds, Fits}
 use Rattle.slice_lang.proofs.ItemTexts.{name-again, name-passes, names-pass-word, column-again, column-passes, columns-pass-word, cond-again, cond-passes}

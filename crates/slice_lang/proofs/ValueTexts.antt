@@ -9,13 +9,13 @@ use Rattle.fact_model.specs.Number.{number_in}
 use Rattle.fact_model.specs.declared.fact.Value.TheVariants as value
 use Rattle.fact_model.specs.declared.slice.Cond.{Cond}
 use Rattle.fact_model.specs.declared.slice.Cond.TheVariants.{Equal, Between}
+use Rattle.fact_model.specs.Slice.{attr_of}
 use Rattle.cube_schema.specs.declared.schema.Kind.{Kind}
 use Rattle.cube_schema.specs.declared.schema.Kind.TheVariants.{Word, Number}
 use Rattle.cube_schema.proofs.Tests.{all-imply, all-join}
 use Rattle.slice_lang.specs.Agreeing.{FitsKind}
 use Rattle.slice_lang.specs.Grammar.{Spells}
 use Rattle.slice_lang.specs.Parts.{is_quote}
-use Rattle.slice_lang.specs.Reading.{attr_of}
 use Rattle.slice_lang.specs.Values.{Written, is_value_byte, after_byte, within_quotes, quoted_in, plain_in, plain_rules, written_in, coordinate_in, place_of_dots, equal_to, between, number_cond, meaning}
 use Rattle.slice_lang.specs.Answers.{judged}
 use Rattle.slice_lang.specs.Writing.{doubled}

@@ -7,12 +7,12 @@ use Rattle.fact_model.specs.declared.slice.Column.TheVariants.{Count, Sum, Min, 
 use Rattle.fact_model.specs.declared.slice.Cond.{Cond}
 use Rattle.fact_model.specs.declared.slice.Cond.TheVariants.{Equal, Between}
 use Rattle.fact_model.specs.declared.slice.Slice.{Slice}
+use Rattle.fact_model.specs.Slice.{attr_of}
 use Rattle.cube_schema.specs.Agreeing.{IsOfKind}
 use Rattle.cube_schema.specs.Kinds.{kind_at, arity, measure_count}
 use Rattle.cube_schema.specs.Reading.{are_distinct}
 use Rattle.cube_schema.specs.declared.schema.Kind.{Kind}
 use Rattle.cube_schema.specs.declared.schema.Schema.{Schema}
-use Rattle.slice_lang.specs.Reading.{attr_of}
 
 -- the measure of the column is declared
 abbrev pub is_column : ℕ → Column → Bool

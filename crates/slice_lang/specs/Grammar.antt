@@ -6,9 +6,9 @@ use Rattle.fact_model.specs.declared.fact.Value.TheVariants.{Word, Number}
 use Rattle.fact_model.specs.declared.slice.Cond.{Cond}
 use Rattle.fact_model.specs.declared.slice.Cond.TheVariants.{Equal, Between}
 use Rattle.fact_model.specs.declared.slice.Slice.{Slice}
+use Rattle.fact_model.specs.Slice.{attr_of}
 use Rattle.cube_schema.specs.Kinds.{name_at}
 use Rattle.cube_schema.specs.declared.schema.Schema.{Schema}
-use Rattle.slice_lang.specs.Reading.{attr_of}
 use Rattle.slice_lang.specs.Values.{is_value_byte}
 use Rattle.slice_lang.specs.Writing.{value_text, columns_text, by_text, where_text}
 

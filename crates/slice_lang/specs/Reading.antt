@@ -7,6 +7,7 @@ use Rattle.fact_model.specs.declared.slice.Column.TheVariants.{Count, Sum, Min, 
 use Rattle.fact_model.specs.declared.slice.Cond.{Cond}
 use Rattle.fact_model.specs.declared.slice.Cond.TheVariants.{Equal, Between}
 use Rattle.fact_model.specs.declared.slice.Slice.{Slice}
+use Rattle.fact_model.specs.Slice.{attr_of}
 use Rattle.cube_schema.specs.Kinds.{kind_at}
 use Rattle.cube_schema.specs.Reading.{is_attr, number_of}
 use Rattle.cube_schema.specs.Words.{begins}
@@ -90,11 +91,6 @@ name_of_group s group part = attr_in s part.end part.text >>= (λ named. judged 
 -- names of attributes with commas between, none twice
 abbrev pub group_in : Schema → Part → Reading (List ℕ)
 group_in s part = gathered (name_of_group s) [] (parts_of comma part.end part.text)
-
--- the attribute of a condition
-abbrev pub attr_of : Cond → ℕ
-attr_of (Equal attr value) = attr
-attr_of (Between attr low high) = attr
 
 -- the condition is on this attribute
 abbrev pub is_on : ℕ → Cond → Bool

@@ -4,7 +4,7 @@ ghost use Rattle.std.specs.List.{list_any};
 ghost use Rattle.cube_schema.specs.Kinds.{kind_at};
 ghost use Rattle.cube_schema.specs.Lawful.{IsSchema};
 ghost use Rattle.slice_lang.specs.Answers.{Answers};
-ghost use Rattle.slice_lang.specs.Reading.{attr_of, is_on, value_in, cond_in, all_conds_in};
+ghost use Rattle.slice_lang.specs.Reading.{is_on, value_in, cond_in, all_conds_in};
 
 use crate::names::read_attr;
 use crate::parts::{Part, byte_of};
@@ -67,15 +67,7 @@ fn read_cond(
 fn has_cond(conds: &[Cond], attr: u32) -> bool
     ensures { result ≡ list_any (is_on attr) conds.now }
 {
-    conds.iter().any(|cond| attr == attr_of(cond))
-}
-
-fn attr_of(cond: &Cond) -> u32
-    ensures { result ≡ attr_of cond.now }
-{
-    match cond {
-        Cond::Equal { attr, .. } | Cond::Between { attr, .. } => *attr,
-    }
+    conds.iter().any(|cond| attr == cond.attr())
 }
 
 /// The condition of an attribute by the value that is written at the front of a text, and nothing more.

@@ -250,7 +250,7 @@ fn a_tree_of_three_levels_is_searched_from_left_to_right(rt: HostRuntime) -> Res
 }
 
 #[test]
-fn points_come_with_their_cells_and_only_of_the_arity_asked(rt: HostRuntime) -> Result<(), Fail> {
+fn points_come_with_their_cells(rt: HostRuntime) -> Result<(), Fail> {
     let alloc = rt.alloc();
     let none = Part {
         sum: 0,
@@ -278,6 +278,12 @@ fn points_come_with_their_cells_and_only_of_the_arity_asked(rt: HostRuntime) -> 
         Ok(points) => assert_eq!(rt; points.as_slice(), [wanted].as_slice()),
         Err(stop) => assert_eq!(rt; Some(stop), None),
     }
+    Ok(())
+}
+
+#[test]
+fn only_points_of_the_arity_asked_are_found(rt: HostRuntime) -> Result<(), Fail> {
+    let alloc = rt.alloc();
     for arity in [0, 2] {
         let region = Region {
             arity,

@@ -9,10 +9,7 @@ ghost use Rattle.tree_scan.specs.Steps.{MayFollow};
 
 use cube_point::{Entry, Shape, before};
 use fact_model::Memory;
-use page_fmt::{Node, leaf_entry, take_page};
-
-/// The bytes of a page.
-const PAGE: usize = 4096;
+use page_fmt::{Node, PAGE, leaf_entry, take_page};
 
 /// Puts the points of a page behind the others. False, where the page is not lawful or its points do not come after them. An
 /// inner page has none.

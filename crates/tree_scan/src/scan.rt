@@ -10,12 +10,9 @@ ghost use Rattle.tree_scan.specs.Steps.{HasRead};
 use crate::points::take_in;
 use cube_point::EntryList;
 use fact_model::{ListOf, Memory};
-use page_fmt::Place;
+use page_fmt::{PAGE, Place};
 use site_core::{Fault, Site};
 use std::alloc::Global;
-
-/// The bytes of a page.
-const PAGE: usize = 4096;
 
 /// Why the points of a tree could not be read.
 #[derive(Clone, Copy, Debug, PartialEq, Eq)]

@@ -1,9 +1,9 @@
 //! The covering view with fewest points.
 ghost use Rattle.std.specs.Prelude.{◌≡◌, ◌<◌, IfSome, length};
 ghost use Rattle.std.specs.List.{list_all};
+ghost use Rattle.fact_model.specs.Slice.{attr_of};
 ghost use Rattle.cube_schema.specs.Lawful.{IsSchema};
 ghost use Rattle.view_points.specs.Agree.{among};
-ghost use Rattle.view_points.specs.Answer.{attr_of};
 ghost use Rattle.view_route.specs.Routes.{Routes, covers, is_fewer};
 
 use cube_schema::Schema;
@@ -55,14 +55,5 @@ fn has_all(view: &[u32], attrs: &[u32]) -> bool
 fn has_bound(view: &[u32], conds: &[Cond]) -> bool
     ensures { result ≡ list_all (λ c. among view.now (attr_of c)) conds.now }
 {
-    conds.iter().all(|cond| view.contains(&attr(cond)))
-}
-
-/// The attribute of a condition.
-fn attr(cond: &Cond) -> u32
-    ensures { result ≡ attr_of cond.now }
-{
-    match cond {
-        Cond::Equal { attr, .. } | Cond::Between { attr, .. } => *attr,
-    }
+    conds.iter().all(|cond| view.contains(&cond.attr()))
 }

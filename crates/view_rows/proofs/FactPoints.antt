@@ -42,8 +42,8 @@ use Rattle.delta_agg.specs.Batch.{IsLight, KeepMasses}
 use Rattle.delta_agg.proofs.Light.{light-fits, light-join}
 use Rattle.view_rows.specs.Grouped.{AllJoin, AllJoinTo, Answers, AreSound, cells_of, group_key, has_values, key_of_entry, points_inside, rows_from}
 use Rattle.view_rows.specs.Regions.{is_word}
-use Rattle.view_rows.proofs.DistinctKeys.{every-group}
-use Rattle.view_rows.proofs.PlaceKeys.{code-is, value-told}
+use Rattle.view_rows.proofs.GroupKeys.{every-group}
+use Rattle.view_rows.proofs.CodedValues.{code-is, value-told}
 
 -- ---- values of facts
 

@@ -1,12 +1,9 @@
-pub mod DistinctKeys
+pub mod CodedValues
 pub mod FactPoints
+pub mod GroupKeys
 pub mod KeyCells
 pub mod KeyRows
 pub mod KeyTurns
-pub mod PlaceKeys
-pub mod PointSums
 pub mod RegionEnds
 pub mod RegionPoints
-pub mod SortedRows
 pub mod ViewKeys
-pub mod ViewPairs

@@ -4,10 +4,11 @@ use Rattle.std.proofs.lemmas.Bool.{eq-eqb, ne_eqb}
 use Rattle.std.proofs.lemmas.List.{drop_more, take_more, length-map, length-take-le, map-append}
 use Rattle.fact_model.specs.declared.fact.Value.TheVariants.{Word}
 use Rattle.fact_model.specs.declared.slice.Cond.{Cond}
+use Rattle.fact_model.specs.Slice.{attr_of}
 use Rattle.cube_schema.specs.declared.Kind.{Kind}
 use Rattle.cube_schema.specs.declared.Kind.TheVariants as kind
 use Rattle.cube_schema.specs.Kinds.{is_word_kind}
-use Rattle.view_points.specs.Answer.{Interval, attr_of, codes_of, interval}
+use Rattle.view_points.specs.Answer.{Interval, codes_of, interval}
 use Rattle.view_points.specs.Codes.{Text, code_in}
 use Rattle.view_points.specs.Points.{Names, View, padded}
 use Rattle.attr_dict.specs.Book.{Book, code_at, code_for, kind_at, names_at}

@@ -1,9 +1,11 @@
 -- The rows of a slice from the points of a view, whatever points these are.
-use Rattle.std.specs.Prelude.{◌≡◌, ℕ, Bool, true, false, List, [], ◌∷◌, map, filter, length, is_some}
+use Rattle.std.specs.Prelude.{◌≡◌, ℕ, Bool, true, false, List, [], ◌∷◌, map, filter, length, is_some, unwrap_or}
 use Rattle.std.specs.List.{All, list_all}
 use Rattle.std.specs.Ordering.{is_eq, is_lt}
 use Rattle.fact_model.specs.declared.cell.Cell.{Cell}
 use Rattle.fact_model.specs.declared.fact.Fact.{Fact}
+use Rattle.fact_model.specs.declared.fact.Value.{Value}
+use Rattle.fact_model.specs.declared.fact.Value.TheVariants.{Number}
 use Rattle.fact_model.specs.declared.slice.Row.{Row}
 use Rattle.fact_model.specs.declared.slice.Slice.{Slice}
 use Rattle.fact_model.specs.Cell.{FitCells, join}
@@ -17,7 +19,10 @@ use Rattle.view_points.specs.Points.{PlacedCell, View, points_by}
 use Rattle.attr_dict.specs.Admitting.{Agrees}
 use Rattle.attr_dict.specs.Book.{Book, names_at, value_of}
 use Rattle.view_rows.specs.Regions.{is_word}
-use Rattle.view_rows.specs.Sums.{value_at_code}
+
+-- the value that a coordinate of the attribute stands for; the number 0 where there is none
+abbrev pub value_at_code : Book → ℕ → ℕ → Value
+value_at_code b a code = unwrap_or (value_of b a code) (Number 0)
 
 module _ (b : Book) (view : View) (group : List ℕ) where
   -- the values of the grouped attributes at a place

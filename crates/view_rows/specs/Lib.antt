@@ -1,3 +1,2 @@
 pub mod Grouped
 pub mod Regions
-pub mod Sums

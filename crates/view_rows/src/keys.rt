@@ -3,8 +3,7 @@ ghost use Rattle.std.specs.Prelude.{◌≡◌, ◌<◌, All, length};
 ghost use Rattle.fact_model.specs.Value.{key_cmp, value_cmp};
 ghost use Rattle.view_points.specs.Answer.{coordinate};
 ghost use Rattle.attr_dict.specs.Shown.{shown};
-ghost use Rattle.view_rows.specs.Grouped.{has_values, key_of_entry};
-ghost use Rattle.view_rows.specs.Sums.{value_at_code};
+ghost use Rattle.view_rows.specs.Grouped.{has_values, key_of_entry, value_at_code};
 
 use attr_dict::{Dicts, ValueRef};
 use cube_point::Entry;

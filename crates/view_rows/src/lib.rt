@@ -7,9 +7,7 @@ mod keys;
 mod regions;
 mod rows;
 mod stop;
-mod sums;
 
 pub use grouped::rows_by;
 pub use regions::region;
 pub use stop::RowsStop;
-pub use sums::sums_by_view;

@@ -1,9 +1,10 @@
 //! The region of a slice in a view.
 ghost use Rattle.std.specs.Prelude.{◌≡◌, ◌<◌, ◌≤◌, ◌↔◌, suc, All, IsTrue, cond, length, nat_le};
+ghost use Rattle.fact_model.specs.Slice.{attr_of};
 ghost use Rattle.cube_point.specs.Boxes.{IsInside};
 ghost use Rattle.cube_point.specs.declared.point.Point as points;
 ghost use Rattle.view_points.specs.Agree.{AgreesCond, is_text};
-ghost use Rattle.view_points.specs.Answer.{attr_of, codes_of, inside, interval, just, nothing, region};
+ghost use Rattle.view_points.specs.Answer.{codes_of, inside, interval, just, nothing, region};
 ghost use Rattle.view_points.specs.Codes.{code_in};
 ghost use Rattle.attr_dict.specs.Book.{names_at};
 ghost use Rattle.view_rows.specs.Regions.{IsPlaced, clamped, is_word, region_from};
@@ -46,20 +47,11 @@ fn interval(names: &Dicts, conds: &[Cond], attr: u32) -> (u64, u64)
     ensures { result ≡ clamped (interval (names_at names.now) conds.now attr) }
 {
     for cond in conds {
-        if attr_of(cond) == attr {
+        if cond.attr() == attr {
             return codes_of(names, cond);
         }
     }
     (1, u64::MAX)
-}
-
-/// The attribute of a condition.
-fn attr_of(cond: &Cond) -> u32
-    ensures { result ≡ attr_of cond.now }
-{
-    match cond {
-        Cond::Equal { attr, .. } | Cond::Between { attr, .. } => *attr,
-    }
 }
 
 /// The codes that meet a condition.

@@ -2,13 +2,14 @@
 ghost use Rattle.std.specs.Prelude.{◌≡◌, ◌<◌, All, IfOk, [], get_or, length, map};
 ghost use Rattle.fact_model.specs.Cell.{part_of};
 ghost use Rattle.view_points.specs.Answer.{column_of, row_from};
-ghost use Rattle.view_rows.specs.Grouped.{key_of_entry, keyed};
+ghost use Rattle.view_rows.specs.Grouped.{key_of_entry, keyed, value_at_code};
 
 use crate::keys::coordinate;
-use crate::sums::value_of;
-use attr_dict::Dicts;
+use attr_dict::{Dicts, ValueRef};
 use cube_point::Entry;
-use fact_model::{Cell, Column, ListOf, Memory, NumberList, Part, Row, Slice, ValueList};
+use fact_model::{
+    Cell, Column, ListOf, Memory, NumberList, Part, Row, Slice, Text, Value, ValueList,
+};
 use std::alloc::Global;
 
 /// The row of each point, in the order of the points.
@@ -49,6 +50,18 @@ fn key_of(
         key.push(value_of(alloc, names, *attr, code)?)?;
     }
     Ok(ListOf::from_vec(key))
+}
+
+/// The value that a coordinate of an attribute stands for, with a text copied; the number 0 where there is none.
+fn value_of(alloc: Global, names: &Dicts, attr: u32, code: u64) -> Result<Value, Memory>
+    requires { attr < length names.now.kinds }
+    ensures { IfOk result (λ value. value ≡ value_at_code names.now attr code) }
+{
+    match names.value_of(attr, code) {
+        Some(ValueRef::Word(text)) => Ok(Value::Word(Text::from_bytes(alloc, text.as_bytes())?)),
+        Some(ValueRef::Number(number)) => Ok(Value::Number(number)),
+        None => Ok(Value::Number(0)),
+    }
 }
 
 /// The columns of a cell.

@@ -1,3 +1,5 @@
+use Rattle.script_lang.specs.Script.{commands}
+use Rattle.cube_shell.proofs.Going.{opened_moments}
 use Rattle.cube_shell.proofs.Statuses.{named}
 use Rattle.cube_shell.proofs.top_call.attempt.Goals as goal
 
@@ -13,3 +15,8 @@ returns-clause-unpulled g c = λ t no_words place breaks. absurd (c.in_ok-sessio
 
 pub returns-clause-untold : goal.returns-clause-untold
 returns-clause-untold g c = λ t no_words place breaks. absurd (c.in_ok-session.ensures.broken t place breaks).1
+
+pub returns-clause-any_moment : goal.returns-clause-any_moment
+returns-clause-any_moment g c = λ s t world keeps.
+    opened_moments (g.T.Site.disk c.args.site.now) (g.T.Site.disk c.start.new.site) (g.T.Site.disk c.serve.new.site) world (commands (g.S.Source.left c.args.source.now)) (c.in_ok-session.ensures.disk t)
+    (λ told files. g.met.T.Site.only_now c.args.site.now told files t) (c.serve.ensures.any_moment s t world (c.in_ok-session.ensures.opened t world keeps))

@@ -1,0 +1,27 @@
+-- How many pages a slice may read.
+use Rattle.std.specs.Prelude.{◌≡◌, ◌⊎◌, ℕ, List, length, Some, None, Result, Ok, Err}
+use Rattle.fact_model.specs.declared.fact.Fact.{Fact}
+use Rattle.fact_model.specs.declared.slice.Slice.{Slice}
+use Rattle.cube_schema.specs.declared.schema.Schema.{Schema}
+use Rattle.forest_pages.specs.Forest.{body_counts}
+use Rattle.slice_exec.specs.Answers.{IsUncovered}
+use Rattle.slice_exec.specs.Costs.{visits_over}
+use Rattle.slice_lang.specs.declared.refusal.SliceRefusal.{SliceRefusal}
+use Rattle.slice_lang.specs.Reading.{slice_of}
+use Rattle.view_route.specs.Routes.{IsRoute}
+use Rattle.cube_shell.specs.World.{World}
+
+-- it is answered, and goes to so many pages in the tree of the routed view
+abbrev pub IsAnsweredFrom : Schema → List Fact → Slice → ℕ → Type 0
+IsAnsweredFrom schema facts s pages =
+    (view : ℕ) × IsRoute schema.views (body_counts schema facts) s view × (pages ≡ length (visits_over schema facts s view))
+
+-- of these facts: as many as it is answered from, and none where it is refused
+abbrev pub MayRead : Schema → List Fact → Result Slice SliceRefusal → ℕ → Type 0
+MayRead schema facts (Err refusal) pages = pages ≡ 0
+MayRead schema facts (Ok s) pages = IsAnsweredFrom schema facts s pages ⊎ (IsUncovered schema s × (pages ≡ 0))
+
+-- what the text of a slice costs
+abbrev pub Costs : World → List ℕ → ℕ → Type 0
+Costs None text pages = pages ≡ 0
+Costs (Some warehouse) text pages = MayRead warehouse.schema warehouse.facts (slice_of warehouse.schema text) pages
