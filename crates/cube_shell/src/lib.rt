@@ -14,5 +14,8 @@ mod status;
 mod stop;
 mod top_call;
 
+pub use session::Session;
+pub use state::State;
 pub use status::Status;
+pub use stop::Stop;
 pub use top_call::{run, run_within};

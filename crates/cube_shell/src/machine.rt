@@ -35,8 +35,8 @@ pub fn act<T: Site>(
         → Between (T.disk site.old) (T.disk site.new) world (act world command).0 }
     ensures undamaged { IsTrue T.tells → (world : World) → Stands state (T.disk site.old) world
         → IfErr result IsNoDamage }
-    ensures cost { IsTrue T.tells → (world : World) (text : List ℕ) (pages : ℕ) → Stands state (T.disk site.old) world
-        → command ≡ says.Slice text → Costs world text pages → T.reads site.new ≤ T.reads site.old + pages }
+    ensures cost { IsTrue T.tells → (world : World) (text : List ℕ) (most : ℕ) → Stands state (T.disk site.old) world
+        → command ≡ says.Slice text → Costs world text most → T.reads site.new ≤ T.reads site.old + most }
 
     ensures running { IfOk result (λ done. IsRunning done.state) }
     ensures fit { IsTrue T.tells → IfOk result (λ done. IsFit done.state (T.disk site.new)) }

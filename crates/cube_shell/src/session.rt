@@ -1,5 +1,5 @@
 //! A session: the files are opened, and each command is carried out and its reply emitted.
-ghost use Rattle.std.specs.Prelude.{◌≡◌, ◌≤◌, ◌+◌, ◌++◌, ℕ, List, IsTrue, IsErrOf, OnOk, IfOk, IfErr};
+ghost use Rattle.std.specs.Prelude.{◌≡◌, ◌≤◌, ◌+◌, ◌++◌, ℕ, List, ◌↔◌, IsTrue, IsErrOf, OnOk, OnErr, IfOk, IfErr};
 ghost use Rattle.site_core.specs.Calls.{Rests};
 ghost use Rattle.site_core.specs.Moments.{LeavesOnly};
 ghost use Rattle.forest_store.specs.Breaks.{BreaksAt};
@@ -72,6 +72,13 @@ impl Session {
         }
     }
 
+    /// Whether a command has answered a `Stop`.
+    pub fn stopped(&self) -> bool
+        ensures { IsTrue result ↔ (self.now.state ≡ State.Stopped) }
+    {
+        matches!(self.state, State::Stopped)
+    }
+
     /// Carries out a command and emits its reply. After a stop the session has stopped.
     pub fn command<T: Site>(&mut self, site: &mut T, command: Command) -> Result<(), Stop>
         requires running { IsRunning self.old.state }
@@ -85,9 +92,10 @@ impl Session {
             → LeavesOnly (T.disk site.old) (T.disk site.new) (Meanwhile world command (T.disk site.old).told) }
         ensures undamaged { IsTrue T.tells → (world : World) → Stands self.old.state (T.disk site.old) world
             → IfErr result IsNoDamage }
-        ensures cost { IsTrue T.tells → (world : World) (text : List ℕ) (pages : ℕ) → Stands self.old.state (T.disk site.old) world
-            → command ≡ says.Slice text → Costs world text pages → T.reads site.new ≤ T.reads site.old + pages }
+        ensures cost { IsTrue T.tells → (world : World) (text : List ℕ) (most : ℕ) → Stands self.old.state (T.disk site.old) world
+            → command ≡ says.Slice text → Costs world text most → T.reads site.new ≤ T.reads site.old + most }
 
+        ensures stopped { OnErr result (self.new.state ≡ State.Stopped) }
         ensures running { OnOk result (IsRunning self.new.state) }
         ensures fit { IsTrue T.tells → OnOk result (IsFit self.new.state (T.disk site.new)) }
         ensures cause { IfErr result (StopCause (T.disk_faults site.old) (T.disk_faults site.new) (T.told_faults site.old) (T.told_faults site.new)) }

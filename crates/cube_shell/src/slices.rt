@@ -41,8 +41,8 @@ pub fn slice<T: Site>(
         → Between (T.disk site.old) (T.disk site.new) world (slice world text.now).0 }
     ensures undamaged { IsTrue T.tells → (world : World) → Stands state (T.disk site.old) world
         → IfErr result IsNoDamage }
-    ensures cost { IsTrue T.tells → (world : World) (pages : ℕ) → Stands state (T.disk site.old) world → Costs world text.now pages
-        → T.reads site.new ≤ T.reads site.old + pages }
+    ensures cost { IsTrue T.tells → (world : World) (most : ℕ) → Stands state (T.disk site.old) world → Costs world text.now most
+        → T.reads site.new ≤ T.reads site.old + most }
 
     ensures running { IfOk result (λ done. IsRunning done.state) }
     ensures fit { IsTrue T.tells → IfOk result (λ done. IsFit done.state (T.disk site.new)) }
@@ -76,9 +76,9 @@ fn reply_to<T: Site>(
         → IfOk result (λ reply. reply.items ≡ slice_reply store.now.forest.schema accepted (slice_of store.now.forest.schema text.now)) }
     ensures undamaged { IsTrue T.tells → (accepted : List facts.Fact) → IsStoreOf store.now accepted (T.disk site.old).files
         → IfErr result IsNoDamage }
-    ensures cost { IsTrue T.tells → (accepted : List facts.Fact) (pages : ℕ) → IsStoreOf store.now accepted (T.disk site.old).files
-        → MayRead store.now.forest.schema accepted (slice_of store.now.forest.schema text.now) pages
-        → T.reads site.new ≤ T.reads site.old + pages }
+    ensures cost { IsTrue T.tells → (accepted : List facts.Fact) (most : ℕ) → IsStoreOf store.now accepted (T.disk site.old).files
+        → MayRead store.now.forest.schema accepted (slice_of store.now.forest.schema text.now) most
+        → T.reads site.new ≤ T.reads site.old + most }
 
     ensures disk { IsTrue T.tells → Rests (T.disk site.old) (T.disk site.new) }
     ensures cause { IfErr result (StopCause (T.disk_faults site.old) (T.disk_faults site.new) (T.told_faults site.old) (T.told_faults site.new)) }
@@ -105,8 +105,8 @@ fn rows_text<T: Site>(
         → IfOk result (λ reply. reply.items ≡ rows_reply store.now.forest.schema accepted slice.now) }
     ensures undamaged { IsTrue T.tells → (accepted : List facts.Fact) → IsStoreOf store.now accepted (T.disk site.old).files
         → IfErr result IsNoDamage }
-    ensures cost { IsTrue T.tells → (accepted : List facts.Fact) (pages : ℕ) → IsStoreOf store.now accepted (T.disk site.old).files
-        → MayRead store.now.forest.schema accepted (Ok slice.now) pages → T.reads site.new ≤ T.reads site.old + pages }
+    ensures cost { IsTrue T.tells → (accepted : List facts.Fact) (most : ℕ) → IsStoreOf store.now accepted (T.disk site.old).files
+        → MayRead store.now.forest.schema accepted (Ok slice.now) most → T.reads site.new ≤ T.reads site.old + most }
 
     ensures disk { IsTrue T.tells → Rests (T.disk site.old) (T.disk site.new) }
     ensures cause { IfErr result (StopCause (T.disk_faults site.old) (T.disk_faults site.new) (T.told_faults site.old) (T.told_faults site.new)) }
@@ -134,8 +134,8 @@ fn rows_of<T: Site>(
         → IfOk result (AreRows store.now.forest.schema accepted slice.now) }
     ensures undamaged { IsTrue T.tells → (accepted : List facts.Fact) → IsStoreOf store.now accepted (T.disk site.old).files
         → IfErr result IsNoDamage }
-    ensures cost { IsTrue T.tells → (accepted : List facts.Fact) (pages : ℕ) → IsStoreOf store.now accepted (T.disk site.old).files
-        → MayRead store.now.forest.schema accepted (Ok slice.now) pages → T.reads site.new ≤ T.reads site.old + pages }
+    ensures cost { IsTrue T.tells → (accepted : List facts.Fact) (most : ℕ) → IsStoreOf store.now accepted (T.disk site.old).files
+        → MayRead store.now.forest.schema accepted (Ok slice.now) most → T.reads site.new ≤ T.reads site.old + most }
 
     ensures disk { IsTrue T.tells → Rests (T.disk site.old) (T.disk site.new) }
     ensures cause { IfErr result (StopCause (T.disk_faults site.old) (T.disk_faults site.new) (T.told_faults site.old) (T.told_faults site.new)) }
