@@ -1,7 +1,9 @@
 pub mod Boxes
 pub mod Downward
 pub mod Lists
+pub mod Once
 pub mod Packed
+pub mod Ranges
 pub mod Standing
 pub mod Tests
 pub mod Trees

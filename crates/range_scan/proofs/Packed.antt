@@ -35,6 +35,7 @@ use Rattle.range_scan.specs.Searching.{IsFirstBad, IsSearched, IsSound}
 use Rattle.range_scan.specs.Visits.{top_page, visits}
 use Rattle.range_scan.specs.declared.walk.SearchStop.{SearchStop}
 use Rattle.range_scan.specs.declared.walk.SearchStop.TheVariants as stops
+use Rattle.range_scan.proofs.Ranges.{none-once}
 use Rattle.range_scan.proofs.Standing.{AreThere, bytes-there, there-front}
 use Rattle.range_scan.proofs.Trees.{AreAllFound, AreFound, IsFound, all-sized, down, entries-laid, inner-found, leaves-found, points_of}
 
@@ -105,25 +106,25 @@ module _ (tree : Place) (shape : IsShape tree.shape) (low : tree.first ≤ max_f
   points-are = sym (entries-laid tree region bytes tree.first roots all-found) ∙ (pages-entries tree.shape shape holds.views points holds.are_views tree.first ∙ holds.are_views.join)
 
   by-root : (ns : List (Node Entry Child)) → length ns ≤ 1 → AreAllFound tree region bytes ns → AreThere tree.shape bytes tree.first (laid tree.first ns)
-      → (pages : ℕ) → size ns ≡ pages → AreFound tree region bytes (points_of ns) pages (flat_map (down tree region bytes) (top_page tree.first pages))
-  by-root [] one h there zero is = record { finds = refl; few = omega arith; sound = All-nil (IsSound tree bytes) }
+      → (pages : ℕ) → size ns ≡ pages → AreFound tree region bytes tree.first (points_of ns) pages (flat_map (down tree region bytes) (top_page tree.first pages))
+  by-root [] one h there zero is = record { finds = refl; few = omega arith; once = none-once tree.first 0; sound = All-nil (IsSound tree bytes) }
   by-root [] one h there (suc pages) is = absurd (omega (arith, is))
   by-root (n ∷ []) one h there zero is = absurd (omega (arith, is, size-cons n []))
   by-root (n ∷ []) one h there (suc pages) is =
       let same : n.below ≡ pages = omega (arith, is, size-cons n []) in
       let all : n.points ≡ points_of (n ∷ []) = sym (append-nil n.points) in
       let ways = append-nil (down tree region bytes (tree.first + pages)) in
-      subst (AreFound tree region bytes (points_of (n ∷ [])) (suc pages)) (sym ways)
-      (subst (λ (b : ℕ). AreFound tree region bytes (points_of (n ∷ [])) (suc b) (down tree region bytes (tree.first + b))) same
-      (subst (λ (l : List Entry). AreFound tree region bytes l (suc n.below) (down tree region bytes (tree.first + n.below))) all
+      subst (AreFound tree region bytes tree.first (points_of (n ∷ [])) (suc pages)) (sym ways)
+      (subst (λ (b : ℕ). AreFound tree region bytes tree.first (points_of (n ∷ [])) (suc b) (down tree region bytes (tree.first + b))) same
+      (subst (λ (l : List Entry). AreFound tree region bytes tree.first l (suc n.below) (down tree region bytes (tree.first + n.below))) all
       (h.0.found tree.first (omega arith) (there-front tree.shape bytes tree.first (n.pages tree.first) [] there))))
   by-root (n ∷ m ∷ ns) one h there pages is = absurd (omega (arith, one))
 
-  -- the pages that the search goes to are sound, no more than the tree has, and have its points in the region
-  pub packed-found : AreFound tree region bytes points tree.pages (visits tree region bytes)
+  -- the pages that the search goes to are sound, no more than the tree has, each once of its own, and have its points in the region
+  pub packed-found : AreFound tree region bytes tree.first points tree.pages (visits tree region bytes)
   unfolding visits
   packed-found =
-      subst (λ (l : List Entry). AreFound tree region bytes l tree.pages (visits tree region bytes)) points-are
+      subst (λ (l : List Entry). AreFound tree region bytes tree.first l tree.pages (visits tree region bytes)) points-are
       (by-root roots one-root all-found stand tree.pages (sized ∙ holds.count))
     where
       sized : size roots ≡ length (pages_of tree.shape tree.first holds.views)
