@@ -47,6 +47,7 @@ pub fn slice<T: Site>(
     ensures running { IfOk result (λ done. IsRunning done.state) }
     ensures fit { IsTrue T.tells → IfOk result (λ done. IsFit done.state (T.disk site.new)) }
     ensures told { IsTrue T.tells → (T.disk site.new).told ≡ (T.disk site.old).told }
+    ensures cache { pages.new ≡ pages.old }
     ensures cause { IfErr result (StopCause (T.disk_faults site.old) (T.disk_faults site.new) (T.told_faults site.old) (T.told_faults site.new)) }
     ensures disk_faults { OnOk result (T.disk_faults site.new ≡ T.disk_faults site.old) }
     ensures told_faults { T.told_faults site.new ≡ T.told_faults site.old }
@@ -81,6 +82,7 @@ fn reply_to<T: Site>(
         → T.reads site.new ≤ T.reads site.old + most }
 
     ensures disk { IsTrue T.tells → Rests (T.disk site.old) (T.disk site.new) }
+    ensures cache { pages.new ≡ pages.old }
     ensures cause { IfErr result (StopCause (T.disk_faults site.old) (T.disk_faults site.new) (T.told_faults site.old) (T.told_faults site.new)) }
     ensures disk_faults { OnOk result (T.disk_faults site.new ≡ T.disk_faults site.old) }
     ensures told_faults { T.told_faults site.new ≡ T.told_faults site.old }
@@ -109,6 +111,7 @@ fn rows_text<T: Site>(
         → MayRead store.now.forest.schema accepted (Ok slice.now) most → T.reads site.new ≤ T.reads site.old + most }
 
     ensures disk { IsTrue T.tells → Rests (T.disk site.old) (T.disk site.new) }
+    ensures cache { pages.new ≡ pages.old }
     ensures cause { IfErr result (StopCause (T.disk_faults site.old) (T.disk_faults site.new) (T.told_faults site.old) (T.told_faults site.new)) }
     ensures disk_faults { OnOk result (T.disk_faults site.new ≡ T.disk_faults site.old) }
     ensures told_faults { T.told_faults site.new ≡ T.told_faults site.old }
@@ -138,6 +141,7 @@ fn rows_of<T: Site>(
         → MayRead store.now.forest.schema accepted (Ok slice.now) most → T.reads site.new ≤ T.reads site.old + most }
 
     ensures disk { IsTrue T.tells → Rests (T.disk site.old) (T.disk site.new) }
+    ensures cache { pages.new ≡ pages.old }
     ensures cause { IfErr result (StopCause (T.disk_faults site.old) (T.disk_faults site.new) (T.told_faults site.old) (T.told_faults site.new)) }
     ensures disk_faults { OnOk result (T.disk_faults site.new ≡ T.disk_faults site.old) }
     ensures told_faults { T.told_faults site.new ≡ T.told_faults site.old }
