@@ -159,6 +159,7 @@ impl Dicts {
 
     /// Takes in the entries of a names file. After a refusal nothing is said of the names.
     pub fn read_names(&mut self, bytes: &[u8]) -> Result<(), NamesStop>
+        ensures kinds { self.new.kinds ≡ self.old.kinds }
         ensures read { OnOk result (HasRead self.old self.new bytes.now []) }
         ensures damaged { IfErr result (HasCause self.old bytes.now) }
         // Entries that can enter are read as such.
