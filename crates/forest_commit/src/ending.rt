@@ -1,5 +1,5 @@
 //! The end of a refresh, which commits what stands on the other side.
-ghost use Rattle.std.specs.Prelude.{◌≡◌, ◌≤◌, ◌+◌, IsTrue, length, OnOk, ℕ};
+ghost use Rattle.std.specs.Prelude.{◌≡◌, ◌≤◌, ◌+◌, [], IsTrue, length, OnOk, ℕ};
 ghost use Rattle.site_core.specs.Causes.{HasCause};
 ghost use Rattle.site_core.specs.Moments.{IsStable};
 ghost use Rattle.forest_root.specs.Root.{RootIsStable, IsOpen, IsShut};
@@ -57,6 +57,7 @@ pub fn finish<T: Site>(site: &mut T, commit: &Commit<'_>) -> Result<(), Fault>
     ensures told_faults { T.told_faults site.new ≡ T.told_faults site.old }
     ensures reads { T.reads site.new ≡ T.reads site.old }
     ensures writes { T.writes site.new ≤ T.writes site.old + 3 }
+    ensures nameless { commit.now.entries.now ≡ [] → T.writes site.new ≤ T.writes site.old + 2 }
 {
     let slot = slot(commit.body);
     put_entries(site, commit.names_at, commit.entries)?;

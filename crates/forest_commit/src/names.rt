@@ -1,5 +1,5 @@
 //! The entries of new names are written behind the live names.
-ghost use Rattle.std.specs.Prelude.{◌≡◌, ◌≤◌, ◌+◌, ◌++◌, IsTrue, length, take, OnOk};
+ghost use Rattle.std.specs.Prelude.{◌≡◌, ◌≤◌, ◌+◌, ◌++◌, [], IsTrue, length, take, OnOk};
 ghost use Rattle.site_core.specs.Causes.{HasCause};
 ghost use Rattle.site_core.specs.Calls.{Changes};
 ghost use Rattle.forest_commit.specs.Commit.{DiffersPast};
@@ -21,6 +21,7 @@ pub fn put_entries<T: Site>(site: &mut T, names_at: u64, entries: &[u8]) -> Resu
     ensures told_faults { T.told_faults site.new ≡ T.told_faults site.old }
     ensures reads { T.reads site.new ≡ T.reads site.old }
     ensures writes { T.writes site.new ≤ T.writes site.old + 1 }
+    ensures nameless { entries.now ≡ [] → T.writes site.new ≡ T.writes site.old }
 {
     if entries.is_empty() {
         Ok(())

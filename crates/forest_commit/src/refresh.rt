@@ -1,5 +1,5 @@
 //! A refresh: the gate is shut, the other side is written, and the end commits it.
-ghost use Rattle.std.specs.Prelude.{◌≡◌, ◌≢◌, ◌<◌, ◌≤◌, ◌+◌, ◌/◌, IsTrue, length, OnOk, ℕ};
+ghost use Rattle.std.specs.Prelude.{◌≡◌, ◌≢◌, ◌<◌, ◌≤◌, ◌+◌, ◌/◌, [], IsTrue, length, slice_index, OnOk, ℕ};
 ghost use Rattle.site_core.specs.Causes.{HasCause};
 ghost use Rattle.site_core.specs.Calls.{Changes};
 ghost use Rattle.site_core.specs.Moments.{IsStable};
@@ -14,7 +14,8 @@ use crate::pages::write_pages;
 use forest_root::close_gate;
 use site_core::{Fault, Site};
 
-/// Shuts the gate of this slot, below 2, and syncs. It writes only where the gate is 1 or the root file ends right before it.
+/// Shuts the gate of this slot, below 2, and syncs. It writes a 0, and only where the gate is 1 or the root file ends right
+/// before it.
 ///
 /// At every moment what the other slot holds live is kept.
 pub fn begin<T: Site>(site: &mut T, slot: u32) -> Result<(), Fault>
@@ -23,6 +24,8 @@ pub fn begin<T: Site>(site: &mut T, slot: u32) -> Result<(), Fault>
     requires gate { IsTrue T.tells → gate_at slot ≤ length ((T.disk site.old).files 0) }
 
     ensures shut { IsTrue T.tells → OnOk result (IsShut slot ((T.disk site.new).files 0)) }
+    ensures zero { IsTrue T.tells → OnOk result (¬ IsShut slot ((T.disk site.old).files 0)
+        → slice_index ((T.disk site.new).files 0) (gate_at slot) ≡ 0) }
     ensures stable { IsTrue T.tells → OnOk result (IsStable (T.disk site.new)) }
     ensures disk { IsTrue T.tells → Changes (ClosesGate slot) (T.disk site.old) (T.disk site.new) }
     ensures any_moment { IsTrue T.tells → (held : Held) (other : ℕ) (live : bodies.Body) → other ≢ slot
@@ -62,6 +65,8 @@ pub fn commit<T: Site>(site: &mut T, pages: &[u8], commit: &Commit<'_>) -> Resul
     ensures told_faults { T.told_faults site.new ≡ T.told_faults site.old }
     ensures reads { T.reads site.new ≤ T.reads site.old + 1 }
     ensures writes { T.writes site.new ≤ T.writes site.old + (length pages.now / page_size + 4) }
+    ensures nameless { commit.now.entries.now ≡ []
+        → T.writes site.new ≤ T.writes site.old + (length pages.now / page_size + 3) }
 {
     let slot = slot(commit.body);
     begin(site, slot)?;
