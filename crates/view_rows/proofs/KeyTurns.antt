@@ -1,6 +1,7 @@
 -- Points in the order of their keys, those of one key joined: one turn of the loop.
 use Rattle.std.proofs.Common.{◌≡◌, ℕ, ◌+◌, ◌<◌, true, false, List, [], ◌∷◌, ◌++◌, map, length, drop, get_or, sym, ◌∙◌, ap, subst, append_assoc, true≢false}
 use Rattle.std.proofs.lemmas.List.{drop_more, map-append}
+use Rattle.std.specs.Borrow.{Bor}
 use Rattle.std.specs.Ordering.{is_eq}
 use Rattle.fact_model.specs.declared.cell.Cell.{Cell}
 use Rattle.fact_model.specs.Cell.{join}
@@ -12,16 +13,17 @@ use Rattle.view_points.proofs.Cells.{join-assoc}
 use Rattle.view_points.proofs.Sorts.{squeezed}
 use Rattle.attr_dict.specs.Book.{Book}
 use Rattle.delta_agg.proofs.Squeezing.{squeezed-same, squeezed-other}
-use Rattle.view_rows.specs.Grouped.{Joins, NeighboursJoinTo, both, key_of_entry, keyed}
+use Rattle.delta_agg.specs.Joins.{both}
+use Rattle.view_rows.specs.Grouped.{Joins, NeighboursJoinTo, key_of_entry, keyed, lent}
 
 module _ (b : Book) (view : View) (group : List ℕ) where
   abbrev pub squeezed_keys : List Entry → List (Key × Cell)
   squeezed_keys es = squeezed key_cmp join (map (keyed b view group) es)
 
-  -- the point i of what follows the first, at which the loop stands
-  module _ (rest : List Entry) (i : ℕ) (last d : Entry) (low : i < length rest) where
+  -- the lent point i of what follows the first, at which the loop stands
+  module _ (rest : List (Bor Entry)) (i : ℕ) (last : Entry) (d : Bor Entry) (low : i < length rest) where
     abbrev next : Entry
-    next = get_or rest i d
+    next = (get_or rest i d).now
 
     abbrev same_key : Type 0
     same_key = is_eq (key_cmp (key_of_entry b view group last) (key_of_entry b view group next)) ≡ true
@@ -29,18 +31,18 @@ module _ (b : Book) (view : View) (group : List ℕ) where
     abbrev other_key : Type 0
     other_key = is_eq (key_cmp (key_of_entry b view group last) (key_of_entry b view group next)) ≡ false
 
-    two-same : same_key → squeezed_keys (last ∷ drop i rest) ≡ squeezed_keys (both last next ∷ drop (i + 1) rest)
+    two-same : same_key → squeezed_keys (last ∷ lent (drop i rest)) ≡ squeezed_keys (both last next ∷ lent (drop (i + 1) rest))
     two-same same =
-        ap (λ es. squeezed_keys (last ∷ es)) (drop_more rest i d low)
-        ∙ squeezed-same key_cmp key_cmp-IsAntisymmetric join join-assoc (keyed b view group last) (keyed b view group next) (map (keyed b view group) (drop (i + 1) rest)) same
+        ap (λ es. squeezed_keys (last ∷ lent es)) (drop_more rest i d low)
+        ∙ squeezed-same key_cmp key_cmp-IsAntisymmetric join join-assoc (keyed b view group last) (keyed b view group next) (map (keyed b view group) (lent (drop (i + 1) rest))) same
 
-    two-other : other_key → squeezed_keys (last ∷ drop i rest) ≡ keyed b view group last ∷ squeezed_keys (next ∷ drop (i + 1) rest)
+    two-other : other_key → squeezed_keys (last ∷ lent (drop i rest)) ≡ keyed b view group last ∷ squeezed_keys (next ∷ lent (drop (i + 1) rest))
     two-other other =
-        ap (λ es. squeezed_keys (last ∷ es)) (drop_more rest i d low)
-        ∙ squeezed-other key_cmp key_cmp-IsAntisymmetric join join-assoc (keyed b view group last) (keyed b view group next) (map (keyed b view group) (drop (i + 1) rest)) other
+        ap (λ es. squeezed_keys (last ∷ lent es)) (drop_more rest i d low)
+        ∙ squeezed-other key_cmp key_cmp-IsAntisymmetric join join-assoc (keyed b view group last) (keyed b view group next) (map (keyed b view group) (lent (drop (i + 1) rest))) other
 
     abbrev pub so_far : List Entry → Entry → ℕ → List (Key × Cell)
-    so_far done e k = map (keyed b view group) done ++ squeezed_keys (e ∷ drop k rest)
+    so_far done e k = map (keyed b view group) done ++ squeezed_keys (e ∷ lent (drop k rest))
 
     -- a point of the same key is joined to the one before it
     pub turn-same : (done : List Entry) (whole : List (Key × Cell)) (j : Entry) → so_far done last i ≡ whole → same_key → j ≡ both last next → so_far done j (i + 1) ≡ whole
@@ -52,20 +54,20 @@ module _ (b : Book) (view : View) (group : List ℕ) where
         → so_far more j (i + 1) ≡ whole
     turn-other done whole more j before other pushed is =
         (λ k. so_far (pushed k) (is k) (i + 1))
-        ∙ (ap (λ es. es ++ squeezed_keys (next ∷ drop (i + 1) rest)) (map-append (keyed b view group) done (last ∷ []))
-        ∙ (append_assoc (map (keyed b view group) done) (keyed b view group last ∷ []) (squeezed_keys (next ∷ drop (i + 1) rest))
+        ∙ (ap (λ es. es ++ squeezed_keys (next ∷ lent (drop (i + 1) rest))) (map-append (keyed b view group) done (last ∷ []))
+        ∙ (append_assoc (map (keyed b view group) done) (keyed b view group last ∷ []) (squeezed_keys (next ∷ lent (drop (i + 1) rest)))
         ∙ (ap (λ es. map (keyed b view group) done ++ es) (sym (two-other other)) ∙ before)))
 
     -- ---- which cells join
 
     abbrev pub left : Entry → ℕ → Type 0
-    left e k = NeighboursJoinTo (keyed b view group e) (map (keyed b view group) (drop k rest))
+    left e k = NeighboursJoinTo (keyed b view group e) (map (keyed b view group) (lent (drop k rest)))
 
-    opened : left last i → NeighboursJoinTo (keyed b view group last) (keyed b view group next ∷ map (keyed b view group) (drop (i + 1) rest))
-    opened = subst (λ (es : List Entry). NeighboursJoinTo (keyed b view group last) (map (keyed b view group) es)) (drop_more rest i d low)
+    opened : left last i → NeighboursJoinTo (keyed b view group last) (keyed b view group next ∷ map (keyed b view group) (lent (drop (i + 1) rest)))
+    opened = subst (λ (es : List (Bor Entry)). NeighboursJoinTo (keyed b view group last) (map (keyed b view group) (lent es))) (drop_more rest i d low)
 
-    closed : NeighboursJoinTo (keyed b view group last) (keyed b view group next ∷ map (keyed b view group) (drop (i + 1) rest)) → left last i
-    closed = subst (λ (es : List Entry). NeighboursJoinTo (keyed b view group last) (map (keyed b view group) es)) (sym (drop_more rest i d low))
+    closed : NeighboursJoinTo (keyed b view group last) (keyed b view group next ∷ map (keyed b view group) (lent (drop (i + 1) rest))) → left last i
+    closed = subst (λ (es : List (Bor Entry)). NeighboursJoinTo (keyed b view group last) (map (keyed b view group) (lent es))) (sym (drop_more rest i d low))
 
     pub first-join : same_key → left last i → Joins last.cell next.cell
     first-join same h = ((opened h).0 same).0

@@ -4,6 +4,7 @@ pub mod GroupKeys
 pub mod KeyCells
 pub mod KeyRows
 pub mod KeyTurns
+pub mod Lent
 pub mod RegionEnds
 pub mod RegionPoints
 pub mod ViewKeys

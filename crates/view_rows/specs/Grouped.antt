@@ -1,5 +1,6 @@
 -- The rows of a slice from the points of a view, whatever points these are.
 use Rattle.std.specs.Prelude.{◌≡◌, ℕ, Bool, true, false, List, [], ◌∷◌, map, filter, length, is_some, unwrap_or}
+use Rattle.std.specs.Borrow.{Bor}
 use Rattle.std.specs.List.{All, list_all}
 use Rattle.std.specs.Ordering.{is_eq, is_lt}
 use Rattle.fact_model.specs.declared.cell.Cell.{Cell}
@@ -74,9 +75,9 @@ pub record AreSound (b : Book) (view : View) (group : List ℕ) (es : List Entry
 
 -- ---- on the way there
 
--- the first point with the cells of both
-abbrev pub both : Entry → Entry → Entry
-both e d = record { point = e.point; cell = join e.cell d.cell }
+-- the points that are lent
+abbrev pub lent : List (Bor Entry) → List Entry
+lent es = map (λ e. e.now) es
 
 -- where neighbours have one key, each cell joins with the join of those before it
 abbrev pub NeighboursJoinTo : Key × Cell → List (Key × Cell) → Type 0

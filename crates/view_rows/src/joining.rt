@@ -4,7 +4,8 @@ ghost use Rattle.std.specs.List.Sorted.{IsPermutation, IsSortedBy, IsStableBy};
 ghost use Rattle.fact_model.specs.Cell.{join};
 ghost use Rattle.fact_model.specs.Value.{Key, key_cmp};
 ghost use Rattle.view_points.proofs.Sorts.{squeezed};
-ghost use Rattle.view_rows.specs.Grouped.{AllJoin, Joins, NeighboursJoin, both, by_key, cells_of, is_before, keyed};
+ghost use Rattle.delta_agg.specs.Joins.{both};
+ghost use Rattle.view_rows.specs.Grouped.{AllJoin, Joins, NeighboursJoin, by_key, cells_of, is_before, keyed, lent};
 ghost use Rattle.view_rows.specs.declared.stop.RowsStop.TheVariants as stops;
 
 use crate::keys::compare_keys;
@@ -33,21 +34,20 @@ pub(crate) fn joined_points(
     join_equal(alloc, names, view, group, &sorted)
 }
 
-/// The points in the order of their keys. Those of one key stay in their order.
-fn sorted_by_key(
+/// The points in the order of their keys, lent and not moved. Those of one key stay in their order.
+fn sorted_by_key<'a>(
     alloc: Global,
     names: &Dicts,
     view: &[u32],
     group: &[u32],
-    points: &[Entry],
-) -> Result<Vec<Entry>, Memory>
+    points: &'a [Entry],
+) -> Result<Vec<&'a Entry>, Memory>
     requires { All (λ a. a < length names.now.kinds) group.now }
-    ensures moved { IfOk result (λ sorted. IsPermutation points.now sorted.items) }
-    ensures sorted { IfOk result (λ sorted. IsSortedBy (is_before names.now view.now group.now) sorted.items) }
-    ensures stable { IfOk result (λ sorted. IsStableBy (is_before names.now view.now group.now) points.now sorted.items) }
+    ensures moved { IfOk result (λ sorted. IsPermutation points.now (lent sorted.items)) }
+    ensures sorted { IfOk result (λ sorted. IsSortedBy (is_before names.now view.now group.now) (lent sorted.items)) }
+    ensures stable { IfOk result (λ sorted. IsStableBy (is_before names.now view.now group.now) points.now (lent sorted.items)) }
 {
-    let mut sorted = Vec::with_capacity(alloc, points.len())?;
-    sorted.extend_from_slice(points)?;
+    let mut sorted: Vec<&Entry> = points.iter().collect(alloc)?;
     sorted.sort_by(|a, b| compare_keys(names, view, group, a, b))?;
     Ok(sorted)
 }
@@ -59,44 +59,43 @@ fn join_equal(
     names: &Dicts,
     view: &[u32],
     group: &[u32],
-    sorted: &[Entry],
+    sorted: &[&Entry],
 ) -> Result<Vec<Entry>, RowsStop>
     requires { All (λ a. a < length names.now.kinds) group.now }
     ensures joined { IfOk result (λ joined. map (keyed names.now view.now group.now) joined.items
-        ≡ squeezed key_cmp join (map (keyed names.now view.now group.now) sorted.now)) }
-    ensures join { IfOk result (λ _. NeighboursJoin (map (keyed names.now view.now group.now) sorted.now)) }
-    ensures damaged { IfErr result (λ stop. stop ≡ stops.Damaged → NeighboursJoin (map (keyed names.now view.now group.now) sorted.now) → ⊥) }
+        ≡ squeezed key_cmp join (map (keyed names.now view.now group.now) (lent sorted.now))) }
+    ensures join { IfOk result (λ _. NeighboursJoin (map (keyed names.now view.now group.now) (lent sorted.now))) }
+    ensures damaged { IfErr result (λ stop. stop ≡ stops.Damaged → NeighboursJoin (map (keyed names.now view.now group.now) (lent sorted.now)) → ⊥) }
 {
     let mut joined = Vec::new(alloc);
     let Some((first, rest)) = sorted.split_first() else {
         return Ok(joined);
     };
-    let mut last = *first;
+    let mut last = **first;
     for entry in rest {
         if compare_keys(names, view, group, &last, entry).is_eq() {
-            last = both(&last, entry)?;
+            take_in(&mut last, entry)?;
         } else {
             joined.push(last)?;
-            last = *entry;
+            last = **entry;
         }
     }
     joined.push(last)?;
     Ok(joined)
 }
 
-/// The first point with the cells of both, where they join.
-fn both(first: &Entry, second: &Entry) -> Result<Entry, RowsStop>
-    ensures entry { IfOk result (λ entry. entry ≡ both first.now second.now) }
-    ensures joins { OnOk result (Joins first.now.cell second.now.cell) }
+/// Joins the cell of the next point to that of the last one, where they join.
+fn take_in(last: &mut Entry, next: &Entry) -> Result<(), RowsStop>
+    ensures joined { OnOk result (last.new ≡ both last.old next.now) }
+    ensures joins { OnOk result (Joins last.old.cell next.now.cell) }
     ensures stop { IfErr result (λ stop. stop ≡ stops.Damaged) }
-    ensures apart { OnErr result (Joins first.now.cell second.now.cell → ⊥) }
+    ensures apart { OnErr result (Joins last.old.cell next.now.cell → ⊥) }
 {
-    if !joins(&first.cell, &second.cell) {
+    if !joins(&last.cell, &next.cell) {
         return Err(RowsStop::Damaged);
     }
-    let mut both = *first;
-    both.cell.join(&second.cell);
-    Ok(both)
+    last.cell.join(&next.cell);
+    Ok(())
 }
 
 /// Whether two cells join.
