@@ -8,7 +8,7 @@ use Rattle.forest_root.specs.declared.body.Body.{Body}
 use Rattle.forest_root.specs.Body.{IsBody}
 use Rattle.forest_root.specs.Keeps.{Held, Keeps, KeepsNothing, LiveAt}
 use Rattle.forest_commit.specs.declared.ending.Commit.{Commit}
-use Rattle.forest_commit.specs.Commit.{EachMoment, IsLiveNow}
+use Rattle.forest_commit.specs.Commit.{EachMoment, IsLiveNow, slot_of}
 use Rattle.forest_commit.specs.Commit as commits
 use Rattle.forest_commit.specs.Refresh.{IsRefresh}
 use Rattle.cube_schema.specs.declared.schema.Schema.{Schema}
@@ -16,7 +16,6 @@ use Rattle.forest_store.specs.declared.plan.Plan.{Plan}
 use Rattle.forest_store.specs.Held.{AreAccepted, IsLive, held, names_text}
 use Rattle.forest_store.specs.Loading.{KeepsEither}
 use Rattle.forest_store.specs.Next.{IsPlan, IsReady}
-use Rattle.forest_store.specs.Opening.{slot_of}
 
 -- the next slot is the other one
 other_slot : (n : ℕ) → n % 2 ≢ (n + 1) % 2

@@ -25,7 +25,7 @@ use Rattle.view_points.specs.Codes.{names}
 use Rattle.forest_store.specs.Held.{AreAccepted, HasNames, IsLive, masses_of, names_text}
 use Rattle.forest_store.specs.Loading.{IsRefused}
 use Rattle.forest_store.specs.Next.{AddsNames, IsPackedOf, IsPlan, HasMass, HasNumbers, KeepsLimits, added, next_body}
-use Rattle.forest_store.specs.Opening.{slot_of}
+use Rattle.forest_commit.specs.Commit.{slot_of}
 
 -- ---- what a live body tells
 

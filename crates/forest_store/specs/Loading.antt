@@ -1,5 +1,5 @@
 -- What a load makes of the accepted facts.
-use Rattle.std.specs.Prelude.{◌≡◌, ◌⊎◌, ℕ, ◌<◌, ◌≤◌, List, length}
+use Rattle.std.specs.Prelude.{◌≡◌, ◌⊎◌, ℕ, ◌+◌, ◌<◌, ◌≤◌, List, length}
 use Rattle.site_core.specs.Disk.{Files}
 use Rattle.fact_model.specs.declared.fact.Fact.{Fact}
 use Rattle.fact_model.specs.Fact.{mass, mass_limit}
@@ -36,7 +36,7 @@ IsRefused schema all (refusals.Mass m) = (length all ≤ max_facts) × HasNames 
 abbrev pub KeepsEither : Schema → List Fact → List Fact → Files → Type 0
 KeepsEither schema facts all files = KeepsFacts schema facts files ⊎ (AreAccepted schema all × KeepsFacts schema all files)
 
--- A store of all facts, which the files keep; or the refusal, with the store as it was and the files as they were.
+-- a store of all facts, which the files keep; or the refusal, with a store of the facts before, which they keep still
 abbrev pub IsLoaded : Schema → List Fact → List Fact → Files → Loaded → Type 0
 IsLoaded schema facts all files (loads.Committed store) = (store.forest.schema ≡ schema) × IsStoreOf store all files
 IsLoaded schema facts all files (loads.Refused store refusal) =
@@ -46,6 +46,11 @@ IsLoaded schema facts all files (loads.Refused store refusal) =
 abbrev pub store_of : Loaded → Store
 store_of (loads.Committed store) = store
 store_of (loads.Refused store refusal) = store
+
+-- the generation behind this one, where the batch was taken in; and this one, where it is refused
+abbrev pub HasGeneration : ℕ → Loaded → Type 0
+HasGeneration before (loads.Committed store) = store.forest.body.generation ≡ before + 1
+HasGeneration before (loads.Refused store refusal) = store.forest.body.generation ≡ before
 
 -- the batch is refused
 abbrev pub IsRefusal : Loaded → Type 0

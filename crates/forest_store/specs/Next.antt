@@ -25,10 +25,10 @@ use Rattle.forest_store.specs.declared.merging.Packed.{Packed}
 use Rattle.forest_store.specs.declared.plan.Plan.{Plan}
 use Rattle.forest_store.specs.declared.plan.PlanStop.{PlanStop}
 use Rattle.forest_store.specs.declared.plan.PlanStop.TheVariants as stops
-use Rattle.forest_commit.specs.Commit.{IsPages}
+use Rattle.forest_commit.specs.Commit.{IsPages, slot_of}
 use Rattle.forest_pages.specs.Forest.{body_counts, forest}
 use Rattle.forest_store.specs.Held.{AreAccepted, HasMasses, held, names_text}
-use Rattle.forest_store.specs.Opening.{page_total, slot_of, side_of}
+use Rattle.forest_store.specs.Opening.{page_total, side_of}
 use Rattle.forest_store.specs.Opened.{IsNoDamage, NamesPlace}
 use Rattle.forest_store.specs.Loading.{IsRefused}
 

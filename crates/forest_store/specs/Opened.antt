@@ -12,7 +12,8 @@ use Rattle.forest_store.specs.declared.stop.StoreStop.{StoreStop}
 use Rattle.forest_store.specs.declared.stop.StoreStop.TheVariants as stops
 use Rattle.attr_dict.specs.Book.{no_names}
 use Rattle.attr_dict.specs.Entering.{HasRead}
-use Rattle.forest_store.specs.Opening.{AreOpened, BreaksBody, BreaksEntries, Place, has_pages, is_of_schema, slot_of}
+use Rattle.forest_commit.specs.Commit.{slot_of}
+use Rattle.forest_store.specs.Opening.{AreOpened, BreaksBody, BreaksEntries, Place, has_pages, is_of_schema}
 use Rattle.forest_store.specs.Stored.{IsStoreOf}
 
 -- the root file has the gate of the live slot, and the names file all names that count

@@ -1,5 +1,5 @@
 -- The rules that files with a live body keep, each with the place that is named where it is broken.
-use Rattle.std.specs.Prelude.{◌≡◌, ◌⊎◌, ℕ, ◌+◌, ◌*◌, ◌/◌, ◌%◌, ◌<◌, ◌≤◌, ◌==◌, ◌&&◌, Bool, true, false, cond, nat_le, List, [], length, take, drop, Option, Some, None, Result, Ok, Err}
+use Rattle.std.specs.Prelude.{◌≡◌, ◌⊎◌, ℕ, ◌+◌, ◌*◌, ◌/◌, ◌<◌, ◌≤◌, ◌==◌, ◌&&◌, Bool, true, false, cond, nat_le, List, [], length, take, drop, Option, Some, None, Result, Ok, Err}
 use Rattle.std.specs.List.{list_all}
 use Rattle.std.specs.Str.{bytes_eq}
 use Rattle.site_core.specs.Disk.{Files}
@@ -10,6 +10,7 @@ use Rattle.cube_schema.specs.declared.schema.SchemaRefusal.{SchemaRefusal}
 use Rattle.cube_schema.specs.Kinds.{measure_count}
 use Rattle.cube_schema.specs.Reading.{schema_of}
 use Rattle.cube_schema.specs.Writing.{canonical}
+use Rattle.forest_commit.specs.Commit.{slot_of}
 use Rattle.forest_root.specs.declared.body.Body.{Body}
 use Rattle.forest_root.specs.Root.{body_at}
 use Rattle.forest_root.specs.Forest.{pages_of_all}
@@ -21,10 +22,7 @@ use Rattle.select_map.specs.Views.{selected}
 abbrev pub Place : Type 0
 Place = ℕ × ℕ
 
--- the slot of a body, and the file of its side
-abbrev pub slot_of : Body → ℕ
-slot_of body = body.generation % 2
-
+-- the file of a body's side
 abbrev pub side_of : Body → ℕ
 side_of body = 2 + slot_of body
 

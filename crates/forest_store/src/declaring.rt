@@ -1,5 +1,5 @@
 //! A schema is declared in files that keep none.
-ghost use Rattle.std.specs.Prelude.{◌≡◌, ◌⊎◌, ◌≤◌, ◌+◌, [], IsTrue, IfOk, IfErr, length};
+ghost use Rattle.std.specs.Prelude.{◌≡◌, ◌≢◌, ◌⊎◌, ◌≤◌, ◌+◌, [], IsTrue, IfOk, IfErr, length};
 ghost use Rattle.site_core.specs.Moments.{LeavesOnly};
 ghost use Rattle.cube_schema.specs.Lawful.{IsSchema};
 ghost use Rattle.cube_schema.specs.Writing.{canonical};
@@ -30,6 +30,8 @@ pub fn declare<T: Site>(alloc: Global, site: &mut T, schema: Schema) -> Result<S
     ensures any_moment { IsTrue T.tells → LeavesOnly (T.disk site.old) (T.disk site.new) (λ told files.
         (told ≡ (T.disk site.old).told) × (KeepsNothing files ⊎ KeepsFacts schema [] files)) }
     ensures undamaged { IfErr result IsNoDamage }
+    // Want of memory comes before any call.
+    ensures untouched { IfErr result (λ stop. stop ≢ StoreStop.Disk → site.new ≡ site.old) }
 
     ensures schema { IfOk result (λ store. store.forest.schema ≡ schema) }
     ensures opened { IsTrue T.tells → IfOk result (λ store. IsOpened store.forest.body (T.disk site.new)) }

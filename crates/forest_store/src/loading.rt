@@ -1,6 +1,7 @@
 //! A batch is taken in: its points are merged with the old ones, packed into new trees, and committed.
-ghost use Rattle.std.specs.Prelude.{◌≡◌, ◌<◌, ◌≤◌, ◌+◌, ◌/◌, ◌++◌, IsTrue, IfOk, IfErr, List, length};
+ghost use Rattle.std.specs.Prelude.{◌≡◌, ◌≢◌, ◌<◌, ◌≤◌, ◌+◌, ◌/◌, ◌++◌, IsTrue, IfOk, IfErr, List, length};
 ghost use Rattle.std.specs.List.{All};
+ghost use Rattle.site_core.specs.Calls.{Rests};
 ghost use Rattle.site_core.specs.Moments.{LeavesOnly};
 ghost use Rattle.forest_root.specs.Causes.{HasCauseWhere};
 ghost use Rattle.fact_model.specs.declared.fact.Fact as facts;
@@ -11,7 +12,7 @@ ghost use Rattle.forest_store.specs.Stored.{IsStoreOf};
 ghost use Rattle.forest_store.specs.Opened.{IsOpened, IsNoDamage};
 ghost use Rattle.forest_commit.specs.Commit.{page_size};
 ghost use Rattle.forest_store.specs.Opening.{page_count, page_total};
-ghost use Rattle.forest_store.specs.Loading.{IsLoaded, IsRefusal, KeepsEither, store_of};
+ghost use Rattle.forest_store.specs.Loading.{HasGeneration, IsLoaded, IsRefusal, KeepsEither, store_of};
 ghost use Rattle.forest_store.specs.Next.{IsPlan, IsReady, TellsSpoilt};
 
 use crate::committing::commit;
@@ -65,6 +66,12 @@ pub fn load<T: Site>(
         → LeavesOnly (T.disk site.old) (T.disk site.new) (λ told files.
         (told ≡ (T.disk site.old).told) × KeepsEither store.forest.schema accepted (accepted ++ batch.now) files) }
 
+    // A refused batch changes nothing, and neither does an error but that of a file.
+    ensures refused { IsTrue T.tells → IfOk result (λ loaded. IsRefusal loaded → Rests (T.disk site.old) (T.disk site.new)) }
+    ensures same { IfOk result (λ loaded. IsRefusal loaded → (store_of loaded).forest ≡ store.forest) }
+    ensures unchanged { IsTrue T.tells → IfErr result (λ stop. stop ≢ StoreStop.Disk → Rests (T.disk site.old) (T.disk site.new)) }
+    ensures generation { IfOk result (HasGeneration store.forest.body.generation) }
+
     ensures opened { IsTrue T.tells → IfOk result (λ loaded. IsOpened (store_of loaded).forest.body (T.disk site.new)) }
     ensures schema { IfOk result (λ loaded. (store_of loaded).forest.schema ≡ store.forest.schema) }
     ensures told { IsTrue T.tells → (T.disk site.new).told ≡ (T.disk site.old).told }
@@ -108,6 +115,8 @@ fn commit_all<T: Site>(store: Store, site: &mut T, plan: Plan) -> Result<Loaded,
     ensures reads { T.reads site.new ≤ T.reads site.old + 1 }
     ensures writes { T.writes site.new ≤ T.writes site.old + (length plan.pages.items / page_size + 4) }
     ensures committed { IfOk result (λ loaded. IsRefusal loaded → ⊥) }
+    ensures generation { IfOk result (HasGeneration store.forest.body.generation) }
+    ensures disk { IfErr result (λ stop. stop ≡ StoreStop.Disk) }
 {
     match commit(store, site, plan) {
         Ok(store) => Ok(Loaded::Committed(store)),

@@ -1,5 +1,5 @@
 //! The files are opened: the live body is found, and what it counts on is looked at.
-ghost use Rattle.std.specs.Prelude.{◌≡◌, ◌<◌, ◌≤◌, ◌+◌, ◌^◌, ◌==◌, ◌&&◌, ◌++◌, IsTrue, IfOk, IfErr, OnOk, List, None, length, drop, take};
+ghost use Rattle.std.specs.Prelude.{◌≡◌, ◌<◌, ◌≤◌, ◌+◌, ◌^◌, ◌==◌, ◌&&◌, ◌++◌, ℕ, IsTrue, IfOk, IfErr, OnOk, List, None, length, drop, take};
 ghost use Rattle.std.specs.List.{list_all};
 ghost use Rattle.site_core.specs.Calls.{Rests};
 ghost use Rattle.fact_model.specs.declared.fact.Fact as facts;
@@ -12,13 +12,15 @@ ghost use Rattle.forest_root.specs.Live.{IsLiveBody, NoneRaised};
 ghost use Rattle.forest_root.specs.declared.body.Body as bodies;
 ghost use Rattle.forest_store.specs.Breaks.{BreaksAt, TellsBreak};
 ghost use Rattle.forest_store.specs.Held.{AreAccepted, KeepsFacts, names_text};
-ghost use Rattle.forest_store.specs.Opening.{Place, is_zero, names_pages, slot_of};
+ghost use Rattle.forest_commit.specs.Commit.{slot_of};
+ghost use Rattle.forest_store.specs.Opening.{Place, is_zero, names_pages};
 ghost use Rattle.forest_store.specs.Opened.{IsWarehouse, IsNoDamage, Judges, JudgesRest, MayBeOpened, NamesPlace};
 
 use crate::schema_text::declared_by;
 use crate::stop::StoreStop;
 use attr_dict::{Dicts, NamesStop};
 use cube_schema::Schema;
+use forest_commit::slot;
 use forest_root::{Body, Forest, RootStop, Store, live};
 use page_fmt::PAGE;
 use select_map::select;
@@ -34,13 +36,6 @@ const SIDE: u32 = 2;
 
 /// The bytes of a body in the root file.
 const BODY_SIZE: u64 = 1024;
-
-/// The slot of a body.
-pub fn slot(body: &Body) -> u32
-    ensures { result ≡ slot_of body.now }
-{
-    (body.generation % 2) as u32
-}
 
 /// Opens the files: syncs them, finds the live body, and looks at what it counts on. `None` where no slot is raised, and so no
 /// schema is declared. Nothing is changed, also after an error.
@@ -75,6 +70,10 @@ pub fn open<T: Site>(alloc: Global, site: &mut T) -> Result<Option<Store>, Store
         → KeepsFacts schema accepted (T.disk site.old).files
         → T.reads site.new ≤ T.reads site.old + (1 + names_pages (length (names_text schema accepted))) }
     ensures reads_none { IsTrue T.tells → NoneRaised ((T.disk site.old).files 0) → T.reads site.new ≤ T.reads site.old + 1 }
+    // Whatever the files hold: as many pages as each live body counts, and none where there is no such body.
+    ensures live_reads { IsTrue T.tells → (pages : ℕ)
+        → ((body : bodies.Body) → IsLiveBody body ((T.disk site.old).files 0) → names_pages body.names_len ≤ pages)
+        → T.reads site.new ≤ T.reads site.old + (1 + pages) }
     ensures few_reads { T.reads site.new ≤ T.reads site.old + (1 + 2 ^ 36) }
     ensures writes { T.writes site.new ≡ T.writes site.old }
 {

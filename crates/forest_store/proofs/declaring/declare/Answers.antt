@@ -3,7 +3,7 @@ use Rattle.forest_root.specs.Body.{IsBody}
 use Rattle.forest_root.specs.declared.body.Body.{Body}
 use Rattle.attr_dict.specs.Book.{Book}
 use Rattle.forest_store.specs.Held.{held}
-use Rattle.forest_store.specs.Opening.{slot_of}
+use Rattle.forest_commit.specs.Commit.{slot_of}
 use Rattle.forest_store.proofs.Declared.{first_as, first_is, named_none, none_accepted}
 use Rattle.forest_store.proofs.Schemas.{text_some}
 use Rattle.forest_store.proofs.declaring.declare.Goals as goal

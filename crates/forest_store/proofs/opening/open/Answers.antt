@@ -66,6 +66,16 @@ returns-in-Ok-Some-clause-reads g c = λ t schema accepted kept.
     let none = c.sync.ensures.reads in
     omega arith
 
+pub returns-in-Ok-Some-clause-live_reads : goal.returns-in-Ok-Some-clause-live_reads
+returns-in-Ok-Some-clause-live_reads g c = λ t pages most.
+    let files = (g.T.Site.disk c.args.site.now).files in
+    let found = found_now c.in-Ok-Some.field-0 c.in-Ok-Some.body _ files (c.sync.ensures.disk t).files c.in-Ok-Some.field-0-is (c.in-Ok-Some.ensures.some t) in
+    let few = most c.in-Ok-Some.body found in
+    let names = c.open_live.ensures.reads in
+    let root = c.live.ensures.reads in
+    let none = c.sync.ensures.reads in
+    omega arith
+
 pub returns-in-Err-Damaged-clause-undamaged : goal.returns-in-Err-Damaged-clause-undamaged
 returns-in-Err-Damaged-clause-undamaged g c = λ t schema accepted lawful fine kept.
     let files = (g.T.Site.disk c.args.site.now).files in

@@ -6,7 +6,7 @@ use Rattle.forest_root.specs.declared.body.Body.{Body}
 use Rattle.forest_root.specs.Body.{IsBody, max_facts}
 use Rattle.forest_store.specs.Held.{AreAccepted, masses_of, names_text}
 use Rattle.forest_store.specs.Next.{HasMass, HasNumbers, IsStopped, added}
-use Rattle.forest_store.specs.Opening.{slot_of}
+use Rattle.forest_commit.specs.Commit.{slot_of}
 use Rattle.forest_store.specs.Trees.{AreAllAdded}
 use Rattle.forest_store.proofs.Added.{all-added, batch-masses, deltas-are}
 use Rattle.forest_store.proofs.NamesLong.{names_long}
