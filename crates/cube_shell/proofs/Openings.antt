@@ -1,5 +1,5 @@
 -- What opening the files makes of a session.
-use Rattle.std.proofs.Common.{◌≡◌, List, Option, Some, None, refl, sym, ◌∙◌, subst}
+use Rattle.std.proofs.Common.{◌≡◌, ◌≤◌, ◌+◌, ℕ, length, List, Option, Some, None, refl, sym, ◌∙◌, subst}
 use Rattle.site_core.specs.Disk.{Files, Disk}
 use Rattle.fact_model.specs.declared.fact.Fact.{Fact}
 use Rattle.cube_schema.specs.Lawful.{IsSchema}
@@ -8,12 +8,14 @@ use Rattle.forest_root.specs.Live.{NoneRaised}
 use Rattle.forest_root.specs.declared.forest.Store.{Store}
 use Rattle.forest_store.specs.declared.stop.StoreStop.{StoreStop}
 use Rattle.forest_store.specs.declared.stop.StoreStop.TheVariants as stops
-use Rattle.forest_store.specs.Held.{AreAccepted, KeepsFacts}
+use Rattle.forest_store.specs.Breaks as breaks
+use Rattle.forest_store.specs.Held.{AreAccepted, KeepsFacts, names_text}
 use Rattle.forest_store.specs.Opened.{IsWarehouse, MayBeOpened, NamesPlace}
 use Rattle.forest_store.specs.Opened as stores
-use Rattle.forest_store.specs.Opening.{Place}
+use Rattle.forest_store.specs.Opening.{Place, names_pages}
 use Rattle.cube_shell.specs.declared.stop.Stop.{Stop}
-use Rattle.cube_shell.specs.Damage.{StopsAt}
+use Rattle.cube_shell.specs.Costs.{open_cost}
+use Rattle.cube_shell.specs.Damage.{StopsAt, TellsBreak}
 use Rattle.cube_shell.specs.Ends.{IsNoDamage, stop_of}
 use Rattle.cube_shell.specs.Keeps.{Keeps}
 use Rattle.cube_shell.specs.Session.{Belongs}
@@ -59,3 +61,19 @@ pub undamaged : (stop : StoreStop) (answer : Stop) (files : Files) (world : Worl
 undamaged stop answer files None same keeps none given = subst IsNoDamage (sym same) (clean stop (none keeps))
 undamaged stop answer files (Some warehouse) same keeps none given =
     subst IsNoDamage (sym same) (clean stop (given warehouse.schema warehouse.facts keeps.lawful.schema keeps.lawful.accepted keeps.kept))
+
+-- damage that opening tells is where a rule is broken
+broken_there : (files : Files) (stop : StoreStop) → breaks.TellsBreak files stop → TellsBreak files (stop_of stop)
+broken_there files stops.Disk is = tt
+broken_there files (stops.Damaged file offset) is = is
+broken_there files stops.Memory is = tt
+
+pub tells_break : (files : Files) (stop : StoreStop) (answer : Stop) → answer ≡ stop_of stop → breaks.TellsBreak files stop → TellsBreak files answer
+tells_break files stop answer same is = subst (TellsBreak files) (sym same) (broken_there files stop is)
+
+-- how many reads opening takes
+pub costs_no_more : (files : Files) (world : World) (old now : ℕ) → Keeps files world → (NoneRaised (files 0) → now ≤ old + 1)
+    → ((schema : Schema) (facts : List Fact) → KeepsFacts schema facts files → now ≤ old + (1 + names_pages (length (names_text schema facts))))
+    → now ≤ old + open_cost world
+costs_no_more files None old now keeps none given = none keeps
+costs_no_more files (Some warehouse) old now keeps none given = given warehouse.schema warehouse.facts keeps.kept

@@ -1,5 +1,5 @@
 -- What a load of the store makes of the plain machine's world.
-use Rattle.std.proofs.Common.{◌≡◌, ◌++◌, List, length, inl, inr, Some, sym, ◌∙◌, ap, subst}
+use Rattle.std.proofs.Common.{◌≡◌, ◌<◌, ◌+◌, ◌++◌, ℕ, List, length, inl, inr, Some, sym, ◌∙◌, ap, subst, arith, length-append}
 use Rattle.site_core.specs.Disk.{Files, Disk}
 use Rattle.site_core.specs.Moments.{LeavesOnly, IsStable}
 use Rattle.site_core.proofs.Run.{wider}
@@ -17,6 +17,7 @@ use Rattle.forest_store.specs.Loading.{IsLoaded, IsRefused}
 use Rattle.forest_store.specs.Loading as loading
 use Rattle.forest_store.proofs.Ready.{both_agree}
 use Rattle.reply_text.specs.Replies.{committed_text}
+use Rattle.cube_shell.specs.Headline.{size}
 use Rattle.cube_shell.specs.Keeps.{IsLawful, Keeps}
 use Rattle.cube_shell.specs.Machine.{Answer, accepted}
 use Rattle.cube_shell.specs.Refusals.{refusal_text}
@@ -66,6 +67,12 @@ module _ (store : Store) (old new : Disk) (warehouse : Warehouse) (batch : List 
 
       pub committed_answer : accepted warehouse batch ≡ (Some next, committed_text (length (warehouse.facts ++ batch)))
       committed_answer = all_accepted warehouse batch is.lawful.schema all_fine
+
+      -- what is known grows
+      pub committed_grows : 0 < length batch → (accepted warehouse batch).0 ≡ Some warehouse → ⊥
+      committed_grows some stays =
+          let sizes : length (warehouse.facts ++ batch) + 1 ≡ length warehouse.facts + 1 = ap size (sym (ap (λ (a : Answer). a.0) committed_answer) ∙ stays) in
+          omega (arith, some, sizes, length-append warehouse.facts batch)
 
     -- a batch that was refused
     module _ (refusal : Refusal) (same : loaded ≡ Refused now refusal) where

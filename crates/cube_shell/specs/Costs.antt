@@ -1,15 +1,22 @@
--- How many pages a slice may read.
-use Rattle.std.specs.Prelude.{◌≡◌, ◌⊎◌, ℕ, List, length, Some, None, Result, Ok, Err}
+-- How many reads opening may take, and how many pages a slice may read.
+use Rattle.std.specs.Prelude.{◌≡◌, ◌⊎◌, ℕ, ◌+◌, List, length, Some, None, Result, Ok, Err}
 use Rattle.fact_model.specs.declared.fact.Fact.{Fact}
 use Rattle.fact_model.specs.declared.slice.Slice.{Slice}
 use Rattle.cube_schema.specs.declared.schema.Schema.{Schema}
 use Rattle.forest_pages.specs.Forest.{body_counts}
+use Rattle.forest_store.specs.Held.{names_text}
+use Rattle.forest_store.specs.Opening.{names_pages}
 use Rattle.slice_exec.specs.Answers.{IsUncovered}
 use Rattle.slice_exec.specs.Costs.{visits_over}
 use Rattle.slice_lang.specs.declared.refusal.SliceRefusal.{SliceRefusal}
 use Rattle.slice_lang.specs.Reading.{slice_of}
 use Rattle.view_route.specs.Routes.{IsRoute}
 use Rattle.cube_shell.specs.World.{World}
+
+-- of files that keep this world: the root file, and the pages of the names
+abbrev pub open_cost : World → ℕ
+open_cost None = 1
+open_cost (Some warehouse) = 1 + names_pages (length (names_text warehouse.schema warehouse.facts))
 
 -- it is answered, and goes to so many pages in the tree of the routed view
 abbrev pub IsAnsweredFrom : Schema → List Fact → Slice → ℕ → Type 0

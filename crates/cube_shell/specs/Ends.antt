@@ -1,5 +1,5 @@
 -- How a command and a run may end, and why.
-use Rattle.std.specs.Prelude.{ℕ}
+use Rattle.std.specs.Prelude.{◌≡◌, ℕ}
 use Rattle.site_core.specs.Causes.{Rose}
 use Rattle.forest_store.specs.declared.stop.StoreStop.{StoreStop}
 use Rattle.forest_store.specs.declared.stop.StoreStop.TheVariants as store
@@ -28,34 +28,38 @@ pub record Faults : Type 0 where
 abbrev pub faults : ℕ → ℕ → ℕ → Faults
 faults source disk output = record { source = source; disk = disk; output = output }
 
--- a command stops so only where this holds of the counts of the files and of the output; want of memory is free
+-- why a command stops so, by the counts of the files and of the output: what the stop names failed, and nothing else did
 abbrev pub StopCause : ℕ → ℕ → ℕ → ℕ → Stop → Type 0
-StopCause disk disk_now output output_now stops.Disk = Rose disk disk_now
-StopCause disk disk_now output output_now stops.Output = Rose output output_now
-StopCause disk disk_now output output_now (stops.Damaged file offset) = Unit {0}
-StopCause disk disk_now output output_now stops.Memory = Unit {0}
+StopCause disk disk_now output output_now stops.Disk = Rose disk disk_now × (output_now ≡ output)
+StopCause disk disk_now output output_now stops.Output = Rose output output_now × (disk_now ≡ disk)
+StopCause disk disk_now output output_now (stops.Damaged file offset) = (disk_now ≡ disk) × (output_now ≡ output)
+StopCause disk disk_now output output_now stops.Memory = (disk_now ≡ disk) × (output_now ≡ output)
 
--- a run is ended so only where this holds of the counts before and after it; want of memory alone is free
-abbrev pub EndCause : Faults → Faults → Status → Type 0
-EndCause before now Input = Rose before.source now.source
-EndCause before now Disk = Rose before.disk now.disk
-EndCause before now Output = Rose before.output now.output
-EndCause before now Done = ⊥
-EndCause before now Usage = Unit {0}
-EndCause before now (Damaged file offset) = Unit {0}
-EndCause before now TooLong = Unit {0}
-EndCause before now Memory = Unit {0}
+-- nothing failed
+abbrev pub Stayed : Faults → Faults → Type 0
+Stayed before now = (now.source ≡ before.source) × (now.disk ≡ before.disk) × (now.output ≡ before.output)
 
--- the same of its status, which is Done where nothing ended it
+-- why a run ends so: what the status names failed, and nothing else did
 abbrev pub StatusCause : Faults → Faults → Status → Type 0
-StatusCause before now Done = Unit {0}
-StatusCause before now Input = Rose before.source now.source
-StatusCause before now Disk = Rose before.disk now.disk
-StatusCause before now Output = Rose before.output now.output
-StatusCause before now Usage = Unit {0}
-StatusCause before now (Damaged file offset) = Unit {0}
-StatusCause before now TooLong = Unit {0}
-StatusCause before now Memory = Unit {0}
+StatusCause before now Input = Rose before.source now.source × (now.disk ≡ before.disk) × (now.output ≡ before.output)
+StatusCause before now Disk = Rose before.disk now.disk × (now.source ≡ before.source) × (now.output ≡ before.output)
+StatusCause before now Output = Rose before.output now.output × (now.source ≡ before.source) × (now.disk ≡ before.disk)
+StatusCause before now Done = Stayed before now
+StatusCause before now Usage = Stayed before now
+StatusCause before now (Damaged file offset) = Stayed before now
+StatusCause before now TooLong = Stayed before now
+StatusCause before now Memory = Stayed before now
+
+-- the same of what ends a run early, which is not `Done`
+abbrev pub EndCause : Faults → Faults → Status → Type 0
+EndCause before now Done = ⊥
+EndCause before now Input = StatusCause before now Input
+EndCause before now Disk = StatusCause before now Disk
+EndCause before now Output = StatusCause before now Output
+EndCause before now Usage = StatusCause before now Usage
+EndCause before now (Damaged file offset) = StatusCause before now (Damaged file offset)
+EndCause before now TooLong = StatusCause before now TooLong
+EndCause before now Memory = StatusCause before now Memory
 
 -- no file is said to be damaged
 abbrev pub IsNoDamage : Stop → Type 0

@@ -74,7 +74,7 @@ pub record Meanwhile (world : World) (command : Command) (before told : List ℕ
   pub kept : Keeps files world ⊎ Keeps files (act world command).0
   pub acknowledged : front ≡ (act world command).1 → Keeps files (act world command).0
 
--- until the files are synced once, a stop may also leave what it might have left at the start
+-- a stop leaves of a run what it leaves of its commands, or nothing told and what a stop at the start might have left
 abbrev pub AfterRun : World → List Command → Disk → List ℕ → Files → Type 0
 AfterRun world commands start told files =
     AfterStop world commands start.told told files ⊎ ((told ≡ start.told) × start.may_leave files)

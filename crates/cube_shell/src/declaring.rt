@@ -31,6 +31,8 @@ pub fn declare<T: Site>(
         → Between (T.disk site.old) (T.disk site.new) world (declare world block).0 }
     ensures undamaged { IsTrue T.tells → (world : World) → Stands state (T.disk site.old) world
         → IfErr result IsNoDamage }
+    ensures unwritten { IsTrue T.tells → (world : World) → Stands state (T.disk site.old) world
+        → (declare world block).0 ≡ world → OnOk result (T.writes site.new ≡ T.writes site.old) }
 
     ensures running { IfOk result (λ done. IsRunning done.state) }
     ensures fit { IsTrue T.tells → IfOk result (λ done. IsFit done.state (T.disk site.new)) }
@@ -53,6 +55,7 @@ fn declare_first<T: Site>(alloc: Global, block: Block, site: &mut T) -> Result<A
     ensures answer { IsTrue T.tells → IfOk result (IsAnswer (T.disk site.new) (declare None block)) }
     ensures any_moment { IsTrue T.tells → Between (T.disk site.old) (T.disk site.new) None (declare None block).0 }
     ensures undamaged { IfErr result IsNoDamage }
+    ensures unwritten { (declare None block).0 ≡ None → OnOk result (T.writes site.new ≡ T.writes site.old) }
 
     ensures running { IfOk result (λ done. IsRunning done.state) }
     ensures fit { IsTrue T.tells → IfOk result (λ done. IsFit done.state (T.disk site.new)) }
@@ -84,6 +87,7 @@ fn declare_schema<T: Site>(alloc: Global, schema: Schema, site: &mut T) -> Resul
     ensures answer { IsTrue T.tells → IfOk result (IsAnswer (T.disk site.new) (declared (Ok schema))) }
     ensures any_moment { IsTrue T.tells → Between (T.disk site.old) (T.disk site.new) None (declared (Ok schema)).0 }
     ensures undamaged { IfErr result IsNoDamage }
+    ensures unwritten { (declared (Ok schema)).0 ≡ None → OnOk result (T.writes site.new ≡ T.writes site.old) }
 
     ensures running { IfOk result (λ done. IsRunning done.state) }
     ensures fit { IsTrue T.tells → IfOk result (λ done. IsFit done.state (T.disk site.new)) }

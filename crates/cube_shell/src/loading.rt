@@ -39,6 +39,8 @@ pub fn load<T: Site>(
         → Between (T.disk site.old) (T.disk site.new) world (load world block).0 }
     ensures undamaged { IsTrue T.tells → (world : World) → Stands state (T.disk site.old) world
         → IfErr result IsNoDamage }
+    ensures unwritten { IsTrue T.tells → (world : World) → Stands state (T.disk site.old) world
+        → (load world block).0 ≡ world → OnOk result (T.writes site.new ≡ T.writes site.old) }
 
     ensures running { IfOk result (λ done. IsRunning done.state) }
     ensures fit { IsTrue T.tells → IfOk result (λ done. IsFit done.state (T.disk site.new)) }
@@ -69,6 +71,8 @@ fn load_block<T: Site>(
         → Between (T.disk site.old) (T.disk site.new) (Some warehouse) (load (Some warehouse) block).0 }
     ensures undamaged { IsTrue T.tells → (warehouse : Warehouse) → Belongs store (T.disk site.old) warehouse
         → IfErr result IsNoDamage }
+    ensures unwritten { IsTrue T.tells → (warehouse : Warehouse) → Belongs store (T.disk site.old) warehouse
+        → (load (Some warehouse) block).0 ≡ Some warehouse → OnOk result (T.writes site.new ≡ T.writes site.old) }
 
     ensures running { IfOk result (λ done. IsRunning done.state) }
     ensures fit { IsTrue T.tells → IfOk result (λ done. IsFit done.state (T.disk site.new)) }
@@ -108,6 +112,8 @@ fn take_in<T: Site>(
         → Between (T.disk site.old) (T.disk site.new) (Some warehouse) (accepted warehouse batch.now).0 }
     ensures undamaged { IsTrue T.tells → (warehouse : Warehouse) → Belongs store (T.disk site.old) warehouse
         → IfErr result IsNoDamage }
+    ensures unwritten { IsTrue T.tells → (warehouse : Warehouse) → Belongs store (T.disk site.old) warehouse
+        → (accepted warehouse batch.now).0 ≡ Some warehouse → OnOk result (T.writes site.new ≡ T.writes site.old) }
 
     ensures running { IfOk result (λ done. IsRunning done.state) }
     ensures fit { IsTrue T.tells → IfOk result (λ done. IsFit done.state (T.disk site.new)) }

@@ -3,7 +3,7 @@ ghost use Rattle.std.specs.Prelude.{◌≡◌, ◌≤◌, ◌+◌, ◌^◌, ◌�
 ghost use Rattle.site_core.specs.Moments.{LeavesOnly};
 ghost use Rattle.script_lang.specs.Reading.{ready, to_come};
 ghost use Rattle.script_lang.specs.Script.{commands};
-ghost use Rattle.cube_shell.specs.Ends.{EndCause, StopCause, IsNoDamage, IsUndamaged, faults};
+ghost use Rattle.cube_shell.specs.Ends.{EndCause, StopCause, Stayed, IsNoDamage, IsUndamaged, faults};
 ghost use Rattle.cube_shell.specs.Headline.{AfterStop, Finished};
 ghost use Rattle.cube_shell.specs.Pulls.{Gave, GaveAtMost};
 ghost use Rattle.cube_shell.specs.Session.{IsFit, IsRunning, Onward, Stands};
@@ -34,7 +34,7 @@ pub fn serve<S: Source, T: Site>(
         → OnOk result (Finished (T.disk site.new) world (commands (S.left source.old)) (T.disk site.old).told) }
     ensures any_moment { IsTrue S.tells → IsTrue T.tells → (world : World) → Stands session.old.state (T.disk site.old) world
         → LeavesOnly (T.disk site.old) (T.disk site.new) (AfterStop world (commands (S.left source.old)) (T.disk site.old).told) }
-    ensures undamaged { IsTrue S.tells → IsTrue T.tells → (world : World) → Stands session.old.state (T.disk site.old) world
+    ensures undamaged { IsTrue T.tells → (world : World) → Stands session.old.state (T.disk site.old) world
         → IfErr result IsUndamaged }
     ensures read { IsTrue S.tells → OnOk result (S.left source.new ≡ []) }
     ensures too_long { IsTrue S.tells
@@ -42,6 +42,8 @@ pub fn serve<S: Source, T: Site>(
     ensures bounded { IsTrue S.tells → GaveAtMost (S.left source.old) (S.left source.new) (limit + 1) }
     ensures no_usage { IsErrOf result Status.Usage → ⊥ }
     ensures cause { IfErr result (EndCause (faults (S.faults source.old) (T.disk_faults site.old) (T.told_faults site.old))
+        (faults (S.faults source.new) (T.disk_faults site.new) (T.told_faults site.new))) }
+    ensures faults { OnOk result (Stayed (faults (S.faults source.old) (T.disk_faults site.old) (T.told_faults site.old))
         (faults (S.faults source.new) (T.disk_faults site.new) (T.told_faults site.new))) }
 {
     let mut lines = Lines::new(alloc);

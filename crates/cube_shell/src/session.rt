@@ -1,18 +1,21 @@
 //! A session: the files are opened, and each command is carried out and its reply emitted.
-ghost use Rattle.std.specs.Prelude.{◌≡◌, ◌≤◌, ◌+◌, ◌++◌, ℕ, List, ◌↔◌, IsTrue, IsErrOf, OnOk, OnErr, IfOk, IfErr};
+ghost use Rattle.std.specs.Prelude.{◌≡◌, ◌≤◌, ◌+◌, ◌++◌, ◌↔◌, ℕ, List, IsTrue, IsErrOf, OnOk, OnErr, IfOk, IfErr};
 ghost use Rattle.site_core.specs.Calls.{Rests};
 ghost use Rattle.site_core.specs.Moments.{LeavesOnly};
 ghost use Rattle.forest_store.specs.Breaks.{BreaksAt};
 ghost use Rattle.forest_store.specs.Opening.{Place};
 ghost use Rattle.script_lang.specs.declared.command.Command.TheVariants as says;
-ghost use Rattle.cube_shell.specs.Costs.{Costs};
-ghost use Rattle.cube_shell.specs.Damage.{StopsAt};
+ghost use Rattle.cube_shell.specs.Costs.{Costs, open_cost};
+ghost use Rattle.cube_shell.specs.Damage.{StopsAt, TellsBreak};
 ghost use Rattle.cube_shell.specs.Ends.{IsNoDamage, StopCause};
 ghost use Rattle.cube_shell.specs.Headline.{Meanwhile};
 ghost use Rattle.cube_shell.specs.Keeps.{Keeps};
 ghost use Rattle.cube_shell.specs.Machine.{act};
 ghost use Rattle.cube_shell.specs.Session.{IsFit, IsRunning, Stands};
+ghost use Rattle.cube_shell.specs.Sliced.{TellsDamage};
 ghost use Rattle.cube_shell.specs.World.{World};
+ghost use Rattle.forest_root.specs.declared.forest.Store.{Store};
+ghost use Rattle.slice_lang.specs.Reading.{slice_of};
 
 use crate::answered::Answered;
 use crate::machine::act;
@@ -24,7 +27,7 @@ use site_core::{Fault, Site};
 use std::alloc::Global;
 use std::mem;
 
-/// The most pages that are kept between slices.
+/// The most pages that may be kept between slices. None is kept yet.
 const KEPT_PAGES: u32 = 64;
 
 /// The warehouse between two commands of a script.
@@ -39,7 +42,7 @@ pub struct Session {
 impl Session {
     /// Opens the files. Nothing is changed, also after an error; it never answers `Output`.
     ///
-    /// `Damaged` names the first rule of opening that the files break.
+    /// `Damaged` comes exactly where the files break a rule of opening, and names the first one, unless a file fails or memory runs out before.
     pub fn start<T: Site>(alloc: Global, site: &mut T) -> Result<Session, Stop>
         ensures opened { IsTrue T.tells → (world : World) → Keeps (T.disk site.old).files world
             → IfOk result (λ session. Stands session.state (T.disk site.new) world) }
@@ -47,6 +50,9 @@ impl Session {
             → IfErr result IsNoDamage }
         ensures broken { IsTrue T.tells → (place : Place) → BreaksAt (T.disk site.old).files place
             → IfErr result (StopsAt place) × OnOk result ⊥ }
+        ensures damaged { IsTrue T.tells → IfErr result (TellsBreak (T.disk site.old).files) }
+        ensures cost { IsTrue T.tells → (world : World) → Keeps (T.disk site.old).files world
+            → T.reads site.new ≤ T.reads site.old + open_cost world }
 
         ensures running { IfOk result (λ session. IsRunning session.state) }
         ensures fit { IsTrue T.tells → IfOk result (λ session. IsFit session.state (T.disk site.new)) }
@@ -55,6 +61,7 @@ impl Session {
         ensures no_output { IsErrOf result Stop.Output → ⊥ }
         ensures disk_faults { OnOk result (T.disk_faults site.new ≡ T.disk_faults site.old) }
         ensures told_faults { T.told_faults site.new ≡ T.told_faults site.old }
+        ensures writes { T.writes site.new ≡ T.writes site.old }
     {
         let pages = Pages::new(alloc, KEPT_PAGES)?;
         match forest_store::open(alloc, site) {
@@ -95,6 +102,11 @@ impl Session {
         ensures cost { IsTrue T.tells → (world : World) (text : List ℕ) (most : ℕ) → Stands self.old.state (T.disk site.old) world
             → command ≡ says.Slice text → Costs world text most → T.reads site.new ≤ T.reads site.old + most }
 
+        ensures damage { IsTrue T.tells → (store : Store) (text : List ℕ) → self.old.state ≡ State.Idle store → command ≡ says.Slice text
+            → IfErr result (TellsDamage store (T.disk site.old).files (slice_of store.forest.schema text)) }
+        // Where nothing is to be changed, nothing is written.
+        ensures unwritten { IsTrue T.tells → (world : World) → Stands self.old.state (T.disk site.old) world
+            → (act world command).0 ≡ world → OnOk result (T.writes site.new ≡ T.writes site.old) }
         ensures stopped { OnErr result (self.new.state ≡ State.Stopped) }
         ensures running { OnOk result (IsRunning self.new.state) }
         ensures fit { IsTrue T.tells → OnOk result (IsFit self.new.state (T.disk site.new)) }

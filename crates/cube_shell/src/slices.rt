@@ -9,8 +9,10 @@ ghost use Rattle.cube_shell.specs.Costs.{Costs, MayRead};
 ghost use Rattle.cube_shell.specs.Ends.{IsNoDamage, StopCause};
 ghost use Rattle.cube_shell.specs.Machine.{rows_reply, slice, slice_reply};
 ghost use Rattle.cube_shell.specs.Session.{Between, IsAnswer, IsFit, IsRunning, Stands};
-ghost use Rattle.cube_shell.specs.Sliced.{AreRows};
+ghost use Rattle.cube_shell.specs.Sliced.{AreRows, TellsDamage};
 ghost use Rattle.cube_shell.specs.World.{World};
+ghost use Rattle.cube_shell.specs.declared.state.State.TheVariants as states;
+ghost use Rattle.forest_root.specs.declared.forest.Store.{Store};
 
 use crate::answered::{Answered, plain};
 use crate::state::State;
@@ -44,6 +46,9 @@ pub fn slice<T: Site>(
     ensures cost { IsTrue T.tells → (world : World) (most : ℕ) → Stands state (T.disk site.old) world → Costs world text.now most
         → T.reads site.new ≤ T.reads site.old + most }
 
+    // Whatever the files hold.
+    ensures damage { IsTrue T.tells → (store : Store) → state ≡ states.Idle store
+        → IfErr result (TellsDamage store (T.disk site.old).files (slice_of store.forest.schema text.now)) }
     ensures running { IfOk result (λ done. IsRunning done.state) }
     ensures fit { IsTrue T.tells → IfOk result (λ done. IsFit done.state (T.disk site.new)) }
     ensures told { IsTrue T.tells → (T.disk site.new).told ≡ (T.disk site.old).told }
@@ -51,6 +56,7 @@ pub fn slice<T: Site>(
     ensures cause { IfErr result (StopCause (T.disk_faults site.old) (T.disk_faults site.new) (T.told_faults site.old) (T.told_faults site.new)) }
     ensures disk_faults { OnOk result (T.disk_faults site.new ≡ T.disk_faults site.old) }
     ensures told_faults { T.told_faults site.new ≡ T.told_faults site.old }
+    ensures writes { T.writes site.new ≡ T.writes site.old }
 {
     match state {
         State::Stopped => Err(Stop::Memory),
@@ -81,11 +87,14 @@ fn reply_to<T: Site>(
         → MayRead store.now.forest.schema accepted (slice_of store.now.forest.schema text.now) most
         → T.reads site.new ≤ T.reads site.old + most }
 
+    // Whatever the files hold.
+    ensures damage { IsTrue T.tells → IfErr result (TellsDamage store.now (T.disk site.old).files (slice_of store.now.forest.schema text.now)) }
     ensures disk { IsTrue T.tells → Rests (T.disk site.old) (T.disk site.new) }
     ensures cache { pages.new ≡ pages.old }
     ensures cause { IfErr result (StopCause (T.disk_faults site.old) (T.disk_faults site.new) (T.told_faults site.old) (T.told_faults site.new)) }
     ensures disk_faults { OnOk result (T.disk_faults site.new ≡ T.disk_faults site.old) }
     ensures told_faults { T.told_faults site.new ≡ T.told_faults site.old }
+    ensures writes { T.writes site.new ≡ T.writes site.old }
 {
     match read_slice(alloc, &store.forest.schema, text) {
         Ok(slice) => rows_text(alloc, pages, store, &slice, site),
@@ -110,11 +119,14 @@ fn rows_text<T: Site>(
     ensures cost { IsTrue T.tells → (accepted : List facts.Fact) (most : ℕ) → IsStoreOf store.now accepted (T.disk site.old).files
         → MayRead store.now.forest.schema accepted (Ok slice.now) most → T.reads site.new ≤ T.reads site.old + most }
 
+    // Whatever the files hold.
+    ensures damage { IsTrue T.tells → IfErr result (TellsDamage store.now (T.disk site.old).files (Ok slice.now)) }
     ensures disk { IsTrue T.tells → Rests (T.disk site.old) (T.disk site.new) }
     ensures cache { pages.new ≡ pages.old }
     ensures cause { IfErr result (StopCause (T.disk_faults site.old) (T.disk_faults site.new) (T.told_faults site.old) (T.told_faults site.new)) }
     ensures disk_faults { OnOk result (T.disk_faults site.new ≡ T.disk_faults site.old) }
     ensures told_faults { T.told_faults site.new ≡ T.told_faults site.old }
+    ensures writes { T.writes site.new ≡ T.writes site.old }
 {
     let reply = match rows_of(alloc, pages, store, slice, site)? {
         Some(rows) => reply_text::answer(alloc, &rows)?,
@@ -140,11 +152,14 @@ fn rows_of<T: Site>(
     ensures cost { IsTrue T.tells → (accepted : List facts.Fact) (most : ℕ) → IsStoreOf store.now accepted (T.disk site.old).files
         → MayRead store.now.forest.schema accepted (Ok slice.now) most → T.reads site.new ≤ T.reads site.old + most }
 
+    // Whatever the files hold.
+    ensures damage { IsTrue T.tells → IfErr result (TellsDamage store.now (T.disk site.old).files (Ok slice.now)) }
     ensures disk { IsTrue T.tells → Rests (T.disk site.old) (T.disk site.new) }
     ensures cache { pages.new ≡ pages.old }
     ensures cause { IfErr result (StopCause (T.disk_faults site.old) (T.disk_faults site.new) (T.told_faults site.old) (T.told_faults site.new)) }
     ensures disk_faults { OnOk result (T.disk_faults site.new ≡ T.disk_faults site.old) }
     ensures told_faults { T.told_faults site.new ≡ T.told_faults site.old }
+    ensures writes { T.writes site.new ≡ T.writes site.old }
 {
     match slice_exec::answer(alloc, site, pages, store, slice) {
         Ok(rows) => Ok(Some(rows)),

@@ -6,7 +6,7 @@ ghost use Rattle.forest_store.specs.Breaks.{BreaksAt};
 ghost use Rattle.forest_store.specs.Opening.{Place};
 ghost use Rattle.script_lang.specs.Script.{commands};
 ghost use Rattle.cube_shell.specs.Damage.{EndsAt};
-ghost use Rattle.cube_shell.specs.Ends.{EndCause, StatusCause, IsDoneOrMemory, IsUndamaged, faults};
+ghost use Rattle.cube_shell.specs.Ends.{EndCause, StatusCause, Stayed, IsDoneOrMemory, IsUndamaged, faults};
 ghost use Rattle.cube_shell.specs.Headline.{AfterRun, Finished, Headline};
 ghost use Rattle.cube_shell.specs.Keeps.{Keeps};
 ghost use Rattle.cube_shell.specs.Pulls.{Gave, GaveAtMost};
@@ -31,7 +31,7 @@ pub fn run<S: Source, T: Site>(
 ) -> Status
     ensures headline { IsTrue S.tells → IsTrue T.tells → (world : World) → Keeps (T.disk site.old).files world
         → Headline world (S.left source.old) (S.left source.new) (T.disk site.old) (T.disk site.new) result }
-    ensures undamaged { IsTrue S.tells → IsTrue T.tells → (world : World) → Keeps (T.disk site.old).files world
+    ensures undamaged { IsTrue T.tells → (world : World) → Keeps (T.disk site.old).files world
         → IsUndamaged result }
     ensures complete { IsTrue S.tells → IsTrue T.tells → (world : World) → Keeps (T.disk site.old).files world
         → words.now ≡ [] → length (S.left source.old) ≤ 2 ^ 30
@@ -69,7 +69,7 @@ pub fn run_within<S: Source, T: Site>(
     requires { limit ≤ 2 ^ 30 }
     ensures headline { IsTrue S.tells → IsTrue T.tells → (world : World) → Keeps (T.disk site.old).files world
         → Headline world (S.left source.old) (S.left source.new) (T.disk site.old) (T.disk site.new) result }
-    ensures undamaged { IsTrue S.tells → IsTrue T.tells → (world : World) → Keeps (T.disk site.old).files world
+    ensures undamaged { IsTrue T.tells → (world : World) → Keeps (T.disk site.old).files world
         → IsUndamaged result }
     ensures complete { IsTrue S.tells → IsTrue T.tells → (world : World) → Keeps (T.disk site.old).files world
         → words.now ≡ [] → length (S.left source.old) ≤ limit
@@ -110,7 +110,7 @@ fn attempt<S: Source, T: Site>(
         → OnOk result (Finished (T.disk site.new) world (commands (S.left source.old)) (T.disk site.old).told) }
     ensures any_moment { IsTrue S.tells → IsTrue T.tells → (world : World) → Keeps (T.disk site.old).files world
         → LeavesOnly (T.disk site.old) (T.disk site.new) (AfterRun world (commands (S.left source.old)) (T.disk site.old)) }
-    ensures undamaged { IsTrue S.tells → IsTrue T.tells → (world : World) → Keeps (T.disk site.old).files world
+    ensures undamaged { IsTrue T.tells → (world : World) → Keeps (T.disk site.old).files world
         → IfErr result IsUndamaged }
     ensures broken { IsTrue T.tells → words.now ≡ [] → (place : Place) → BreaksAt (T.disk site.old).files place
         → IfErr result (EndsAt place) × OnOk result ⊥ }
@@ -126,6 +126,8 @@ fn attempt<S: Source, T: Site>(
         → (IsErrOf result Status.TooLong ↔ Gave (S.left source.old) (S.left source.new) (limit + 1)) }
     ensures bounded { IsTrue S.tells → GaveAtMost (S.left source.old) (S.left source.new) (limit + 1) }
     ensures cause { IfErr result (EndCause (faults (S.faults source.old) (T.disk_faults site.old) (T.told_faults site.old))
+        (faults (S.faults source.new) (T.disk_faults site.new) (T.told_faults site.new))) }
+    ensures faults { OnOk result (Stayed (faults (S.faults source.old) (T.disk_faults site.old) (T.told_faults site.old))
         (faults (S.faults source.new) (T.disk_faults site.new) (T.told_faults site.new))) }
 {
     if !words.is_empty() {

@@ -1,11 +1,11 @@
-use Rattle.std.proofs.Common.{◌≡◌, [], length, Some, refl, sym, ap, arith}
+use Rattle.std.proofs.Common.{◌≡◌, ◌<◌, [], length, Some, refl, sym, ap, arith}
 use Rattle.std.proofs.lemmas.Bool.Decides.{nat_tests}
 use Rattle.reply_text.specs.Replies.{committed_text}
 use Rattle.cube_shell.specs.declared.state.State.TheVariants.{Idle}
 use Rattle.cube_shell.proofs.Acts.{nothing_added}
 use Rattle.cube_shell.proofs.Answering.{answers, answers_as, quiet}
 use Rattle.cube_shell.proofs.Limits.{none_accepted}
-use Rattle.cube_shell.proofs.Takings.{load_moments, committed_belongs, committed_facts, committed_answer, refused_belongs, refused_answer}
+use Rattle.cube_shell.proofs.Takings.{load_moments, committed_belongs, committed_facts, committed_answer, committed_grows, refused_belongs, refused_answer}
 use Rattle.cube_shell.proofs.loading.take_in.Goals as goal
 
 pub returns-then-is_empty-clause-answer : goal.returns-then-is_empty-clause-answer
@@ -41,6 +41,15 @@ returns-in-Ok-Committed-clause-answer g c = λ t warehouse is.
 pub returns-in-Ok-Committed-clause-any_moment : goal.returns-in-Ok-Committed-clause-any_moment
 returns-in-Ok-Committed-clause-any_moment g c = λ t warehouse is.
     load_moments c.args.store _ _ warehouse c.args.batch.now is c.requires.agree (c.load.ensures.any_moment t warehouse.facts)
+
+pub returns-in-Ok-Committed-clause-unwritten : goal.returns-in-Ok-Committed-clause-unwritten
+returns-in-Ok-Committed-clause-unwritten g c = λ t warehouse is stays.
+    let old = g.T.Site.disk c.args.site.now in
+    let new = g.T.Site.disk c.load.new.site in
+    let slice = c.as_slice.ensures in
+    let some : 0 < length c.args.batch.now = grind (arith, nat_tests, ap length slice) in
+    absurd (committed_grows c.args.store old new warehouse c.args.batch.now is c.requires.agree c.in-Ok-Committed.field-0 c.in-Ok-Committed.store
+    (c.in-Ok-Committed.ensures.opened t).stable (c.in-Ok-Committed.ensures.loaded t warehouse.facts) c.in-Ok-Committed.field-0-is some stays)
 
 pub returns-in-Ok-Refused-clause-answer : goal.returns-in-Ok-Refused-clause-answer
 returns-in-Ok-Refused-clause-answer g c = λ t warehouse is.

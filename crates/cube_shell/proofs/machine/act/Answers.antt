@@ -1,5 +1,5 @@
 use Rattle.std.proofs.Common.{◌∙◌, sym, ap}
-use Rattle.cube_shell.specs.Machine.{act, slice}
+use Rattle.cube_shell.specs.Machine.{Answer, act, slice}
 use Rattle.cube_shell.specs.Session.{state_text}
 use Rattle.cube_shell.proofs.Acts.{act_schema, act_load, act_slice, act_status, act_long_line, act_open_block, act_others}
 use Rattle.cube_shell.proofs.Answering.{answers_as, between_as, quiet, status_known, told_only}
@@ -13,6 +13,10 @@ pub returns-in-Schema-clause-any_moment : goal.returns-in-Schema-clause-any_mome
 returns-in-Schema-clause-any_moment g c = λ t world is.
     between_as _ _ world _ _ (sym (ap (act world) c.in-Schema.is ∙ act_schema world _)) (c.declare.ensures.any_moment t world is)
 
+pub returns-in-Schema-clause-unwritten : goal.returns-in-Schema-clause-unwritten
+returns-in-Schema-clause-unwritten g c = λ t world is stays.
+    c.declare.ensures.unwritten t world is (sym (ap (λ (a : Answer). a.0) (ap (act world) c.in-Schema.is ∙ act_schema world _)) ∙ stays)
+
 pub returns-in-Load-clause-answer : goal.returns-in-Load-clause-answer
 returns-in-Load-clause-answer g c = λ t world is.
     answers_as c.load.result _ _ _ (sym (ap (act world) c.in-Load.is ∙ act_load world _)) (c.load.ensures.answer t world is)
@@ -20,6 +24,10 @@ returns-in-Load-clause-answer g c = λ t world is.
 pub returns-in-Load-clause-any_moment : goal.returns-in-Load-clause-any_moment
 returns-in-Load-clause-any_moment g c = λ t world is.
     between_as _ _ world _ _ (sym (ap (act world) c.in-Load.is ∙ act_load world _)) (c.load.ensures.any_moment t world is)
+
+pub returns-in-Load-clause-unwritten : goal.returns-in-Load-clause-unwritten
+returns-in-Load-clause-unwritten g c = λ t world is stays.
+    c.load.ensures.unwritten t world is (sym (ap (λ (a : Answer). a.0) (ap (act world) c.in-Load.is ∙ act_load world _)) ∙ stays)
 
 pub returns-in-Slice-clause-answer : goal.returns-in-Slice-clause-answer
 returns-in-Slice-clause-answer g c = λ t world is.

@@ -24,6 +24,7 @@ loop-buffer-init g c =
       piece = omega (arith, c.in_ok-buffer.ensures);
       taken = omega arith;
       given = λ s. omega arith;
+      stands = λ t world stands. (world, stands);
       onward = λ s t world stands.
           subst (λ (r : Reading). Onward c.args.session.now.state disk world (commands left) disk.told (to_come r left))
           (sym c.new-lines.ensures) (started_onward c.args.session.now.state disk world (commands left) stands);
@@ -58,6 +59,9 @@ loop-buffer-preserved g c = record {
   taken = omega (arith, c.if-taken-limit.false);
   given = λ s. given_more _ _ _ c.in_ok-count.count (c.in_ok-count.ensures.bytes s) c.loop-buffer.taken _
       (omega (arith, c.in_ok-count.ensures.bound)) (c.loop-buffer.invariant.given s);
+  stands = λ t world stands.
+      let now = c.loop-buffer.invariant.stands t world stands in
+      let o = c.in_ok-take_piece.ensures.onward t now.0 [] now.1 in (o.now, o.stands);
   onward = λ s t world stands.
       let o = c.loop-buffer.invariant.onward s t world stands in
       then_onward (g.T.Site.disk c.args.site.now) (g.T.Site.disk c.loop-buffer.site) (g.T.Site.disk c.take_piece.new.site) _ world _ _ _ _

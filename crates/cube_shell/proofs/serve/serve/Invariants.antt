@@ -17,6 +17,8 @@ invariant-loop-buffer g l = record {
   piece : vec_len l.buffer ≤ 65536;
   taken : l.taken ≤ l.limit;
   given : IsTrue g.S.Source.tells → length (g.S.Source.left l.fn.source) ≡ l.taken + length (g.S.Source.left l.source);
+  stands : IsTrue g.T.Site.tells → (world : World) → Stands l.fn.session.state (g.T.Site.disk l.fn.site) world
+      → (now : World) × Stands l.session.state (g.T.Site.disk l.site) now;
   onward : IsTrue g.S.Source.tells → IsTrue g.T.Site.tells → (world : World)
       → Stands l.fn.session.state (g.T.Site.disk l.fn.site) world
       → Onward l.session.state (g.T.Site.disk l.site) world (commands (g.S.Source.left l.fn.source))
