@@ -1,11 +1,13 @@
 //! What each command tells over files in memory, compared with what was written by hand.
-use crate::bytes::DUMPED_NAMES;
 use crate::runs::run_over;
 use cube_shell::Status;
 use site_mem::{Call, MemorySite};
 use std::alloc::Global;
 use std::process::Abort;
 use std::test::Fail;
+
+/// The canonical text of a schema of one attribute and one measure.
+const SCHEMA: &str = "attr a number\nmeasure m\nview a\n";
 
 /// A script over empty files ends well, and tells this. What it leaves is given.
 fn tells(rt: &impl Abort, alloc: Global, script: &str, told: &str) -> Result<MemorySite, Fail> {
@@ -17,7 +19,7 @@ fn tells(rt: &impl Abort, alloc: Global, script: &str, told: &str) -> Result<Mem
 }
 
 /// Behind the declaration of a schema the script tells this. What it leaves is given.
-pub fn tells_behind(
+fn tells_behind(
     rt: &impl Abort,
     alloc: Global,
     schema: &str,
@@ -83,7 +85,7 @@ fn quoted_numbers(rt: HostRuntime) -> Result<(), Fail> {
     tells_behind(
         &rt,
         rt.alloc(),
-        DUMPED_NAMES,
+        SCHEMA,
         "load\n\"3\",\"5\"\nend\nload\n1,2,3\nend\nload\nend\n",
         "committed 1\nrefused row 1 fields\ncommitted 1\n",
     )?;
@@ -163,7 +165,7 @@ fn behind_a_schema_a_script_tells_this(rt: HostRuntime) -> Result<(), Fail> {
             "committed 1\nrefused open block\n",
         ),
     ] {
-        tells_behind(&rt, rt.alloc(), DUMPED_NAMES, script, told)?;
+        tells_behind(&rt, rt.alloc(), SCHEMA, script, told)?;
     }
     Ok(())
 }
@@ -175,7 +177,7 @@ fn a_schema_is_kept_as_its_canonical_text(rt: HostRuntime) -> Result<(), Fail> {
     let script = b"schema\r\nmeasure m\r\n\r\nattr a number\r\nview a\r\nend\r\n".as_slice();
     assert_eq!(rt; run_over(alloc, &mut site, script)?, Status::Done);
     assert_eq!(rt; site.told(), b"declared\n".as_slice());
-    assert_eq!(rt; site.file(1), DUMPED_NAMES.as_bytes());
+    assert_eq!(rt; site.file(1), SCHEMA.as_bytes());
     Ok(())
 }
 
@@ -192,7 +194,7 @@ fn a_command_that_changes_nothing_calls_no_file(rt: HostRuntime) -> Result<(), F
         ("slice count by b\n", "refused attribute 10\n"),
     ] {
         let mut site = MemorySite::new(alloc);
-        let script = format!(in alloc; "schema\n{DUMPED_NAMES}end\n{script}")?;
+        let script = format!(in alloc; "schema\n{SCHEMA}end\n{script}")?;
         let ended = run_over(alloc, &mut site, script.as_bytes())?;
         assert_eq!(rt; ended, Status::Done, "{script:?}");
         // Two calls to open, six for the schema, and then the two outputs.

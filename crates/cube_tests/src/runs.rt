@@ -1,5 +1,4 @@
 //! Whole runs over a source and a site in memory, with each pull and each call failing in turn.
-use crate::bytes::{DUMPED_NAMES, dumped_leaf, dumped_root};
 use cube_shell::{Status, run, run_within};
 use fact_model::{Memory, Text};
 use site_mem::{Call, MemorySite, MemorySource};
@@ -186,26 +185,6 @@ const SLICE: (&str, &str) = ("slice sum(m) by a\n", "1,-2\n3,9\nrows 2\n");
 #[test]
 fn schema_load_and_slice(rt: HostRuntime) -> Result<(), Fail> {
     tells(&rt, rt.alloc(), &[SCHEMA, LOAD, SLICE])
-}
-
-#[test]
-fn list_load_and_slice(rt: HostRuntime) -> Result<(), Fail> {
-    let alloc = rt.alloc();
-    // A stop within a first load may have left generation 1 under a gate that is not raised yet.
-    let mut root = dumped_root();
-    root[2049] = 0;
-    let files = [
-        Text::from_bytes(alloc, &root)?,
-        Text::from_bytes(alloc, DUMPED_NAMES.as_bytes())?,
-        Text::from_bytes(alloc, b"")?,
-        Text::from_bytes(alloc, &dumped_leaf())?,
-    ];
-    let mut site = MemorySite::from_files(alloc, files)?;
-    let commands = [LOAD, SLICE];
-    let script = script_of(alloc, &commands)?;
-    assert_eq!(rt; run_over(alloc, &mut site, &script)?, Status::Done);
-    assert_eq!(rt; site.told(), replies_of(alloc, &commands)?.as_slice());
-    Ok(())
 }
 
 #[test]

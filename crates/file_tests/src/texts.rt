@@ -1,8 +1,7 @@
 //! Whole runs over texts: the names that the files keep of them, their limits, and the rows of slices by them.
-use crate::commands::tells_behind;
 use crate::forest::SCHEMA_A;
 use crate::images::put;
-use crate::runs::run_over;
+use crate::ran::{run_over, tells_again, tells_behind};
 use cube_shell::Status;
 use site_mem::{Call, MemorySite};
 use std::alloc::Global;
@@ -15,21 +14,6 @@ fn names_are(rt: &impl Abort, site: &MemorySite, slot: usize, names: &[u8]) {
     let length = site.file(0).get(places).unwrap_or(&[]);
     assert_eq!(rt; length, (names.len() as u64).to_be_bytes().as_slice());
     assert_eq!(rt; site.file(1), names);
-}
-
-/// A second run over the files that a first one left tells this.
-pub fn tells_again(
-    rt: &impl Abort,
-    alloc: Global,
-    site: &MemorySite,
-    script: &str,
-    told: &[u8],
-) -> Result<MemorySite, Fail> {
-    let mut later = MemorySite::from_files(alloc, site.image(alloc, 1)?)?;
-    let ended = run_over(alloc, &mut later, script.as_bytes())?;
-    assert_eq!(rt; ended, Status::Done, "{script:?}");
-    assert_eq!(rt; later.told(), told, "{script:?}");
-    Ok(later)
 }
 
 #[test]

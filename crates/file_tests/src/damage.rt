@@ -1,9 +1,8 @@
 //! Files that were made by hand, and the places where they are damaged.
 use crate::bytes::{DUMPED_NAMES, dumped_leaf, dumped_root, root_of};
-use crate::commands::tells_behind;
 use crate::forest::{BATCH_A, state_a};
 use crate::images::put;
-use crate::runs::run_over;
+use crate::ran::{run_over, tells_behind};
 use cube_shell::{Status, run};
 use fact_model::Text;
 use site_mem::{MemorySite, MemorySource};
