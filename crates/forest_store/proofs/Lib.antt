@@ -1,6 +1,8 @@
 pub mod Added
 pub mod Committed
+pub mod Damages
 pub mod Declared
+pub mod Listed
 pub mod NamesLong
 pub mod Named
 pub mod Openings

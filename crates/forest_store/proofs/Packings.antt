@@ -207,7 +207,7 @@ module _ (schema : Schema) (lawful : IsSchema schema) (all : List Fact) (storabl
 -- ---- the points of a batch in one tree
 
 module _ (forest : Forest) (deltas : List (List Entry)) (t : ℕ) (d delta : List Entry) (lt : t < length deltas) (is : delta ≡ get_or deltas t d) where
-  at-tree : delta ≡ get_or deltas t []
+  pub at-tree : delta ≡ get_or deltas t []
   at-tree = is ∙ sym (get_or_default deltas t [] d lt)
 
   pub delta-added : length deltas ≡ length forest.mapping.trees → (most : ℕ) → AreAllAdded forest most deltas → AreAdded (place_of forest t).shape most delta

@@ -1,5 +1,6 @@
 -- What a live body tells, and the body of the generation behind it.
 use Rattle.std.specs.Prelude.{◌≡◌, ◌⊎◌, ℕ, ◌+◌, ◌-◌, ◌*◌, ◌<◌, ◌≤◌, get_or, map, List, [], ◌∷◌, ◌++◌, length, slice_index, replicate}
+use Rattle.site_core.specs.Disk.{Files}
 use Rattle.fact_model.specs.declared.fact.Fact.{Fact}
 use Rattle.fact_model.specs.Fact.{mass, mass_limit}
 use Rattle.select_map.specs.Views.{View, arity_at, tree_number}
@@ -7,18 +8,21 @@ use Rattle.cube_schema.specs.declared.schema.Schema.{Schema}
 use Rattle.cube_schema.specs.Kinds.{arity}
 use Rattle.cube_schema.specs.Writing.{canonical}
 use Rattle.forest_root.specs.declared.body.Body.{Body}
-use Rattle.forest_root.specs.Body.{IsBody, max_facts}
+use Rattle.forest_root.specs.Body.{IsBody, max_facts, max_names_len}
+use Rattle.forest_root.specs.declared.forest.Forest.{Forest}
+use Rattle.forest_root.specs.declared.forest.Store.{Store}
 use Rattle.forest_root.specs.Keeps.{IsBodyOf}
 use Rattle.std.specs.List.{All, range_with_len}
-use Rattle.attr_dict.specs.Admitting.{HasSmallCodes, entries_text}
+use Rattle.attr_dict.specs.Admitting.{HasSmallCodes, Lists, entries_text, fresh, names_with}
 use Rattle.attr_dict.specs.Book.{Book, names_at}
 use Rattle.attr_dict.specs.declared.admit.DictRefusal.{DictRefusal}
 use Rattle.attr_dict.specs.declared.admit.DictRefusal.TheVariants as dicts
 use Rattle.delta_agg.specs.Batch.{AreCodedBy}
 use Rattle.delta_agg.specs.Trees.{HasCoordinates}
 use Rattle.view_points.specs.Agree.{IsCoded}
-use Rattle.view_points.specs.Codes.{names}
-use Rattle.forest_store.specs.declared.loading.Refusal.TheVariants.{Names}
+use Rattle.view_points.specs.Codes.{Text, named, names, same_entry}
+use Rattle.view_points.specs.Points.{Names}
+use Rattle.forest_store.specs.declared.loading.Refusal.TheVariants as refusals
 use Rattle.forest_store.specs.declared.stop.StoreStop.{StoreStop}
 use Rattle.forest_store.specs.declared.stop.StoreStop.TheVariants as store_stops
 use Rattle.forest_store.specs.declared.merging.Packed.{Packed}
@@ -31,6 +35,7 @@ use Rattle.forest_store.specs.Held.{AreAccepted, HasMasses, held, names_text}
 use Rattle.forest_store.specs.Opening.{page_total, side_of}
 use Rattle.forest_store.specs.Opened.{IsNoDamage, NamesPlace}
 use Rattle.forest_store.specs.Loading.{IsRefused}
+use Rattle.forest_store.specs.Trees.{TellsFirstDamage, deltas_by}
 
 -- a plan that may be carried out, whatever the files hold: whole pages, and a body in the next generation
 pub record IsReady (live : Body) (plan : Plan) : Type 0 where
@@ -69,9 +74,36 @@ abbrev pub IsSpoilt : Body → Schema → PlanStop → Type 0
 IsSpoilt live schema (stops.Refused refusal) = Unit {0}
 IsSpoilt live schema (stops.Stopped stop) = TellsSpoilt live schema stop
 
+-- with these entries behind them the names would be longer than a body counts
+abbrev pub AreTooLong : Body → List ℕ → Type 0
+AreTooLong live entries = max_names_len < live.names_len + length entries
+
+-- and so with the entries of a batch's new names, those that are not among the names of the store
+abbrev pub AreTooLongWith : Store → List Fact → Type 0
+AreTooLongWith store batch =
+    (seen : List (ℕ × Text)) × Lists store.dicts seen × AreTooLong store.forest.body (entries_text (fresh same_entry seen (named batch)))
+
+-- damage that is told is where the first tree is damaged for the points of a batch by these names; or it is right behind the schema's
+-- text, where with these entries the names would be too long
+abbrev pub TellsDamageWith : Forest → Files → Names → List Fact → List ℕ → PlanStop → Type 0
+TellsDamageWith forest files names batch entries (stops.Refused refusal) = Unit {0}
+TellsDamageWith forest files names batch entries (stops.Stopped stop) =
+    TellsFirstDamage forest files (deltas_by names forest.schema batch) stop
+    ⊎ (AreTooLong forest.body entries × NamesPlace (1, forest.body.schema_len) stop)
+
+-- the same by the names of the store with those of the batch
+abbrev pub TellsLoadDamage : Store → Files → List Fact → StoreStop → Type 0
+TellsLoadDamage store files batch stop =
+    TellsFirstDamage store.forest files (deltas_by (names_with store.dicts batch) store.forest.schema batch) stop
+    ⊎ (AreTooLongWith store batch × NamesPlace (1, store.forest.body.schema_len) stop)
+
+abbrev pub TellsPlanDamage : Store → Files → List Fact → PlanStop → Type 0
+TellsPlanDamage store files batch (stops.Refused refusal) = Unit {0}
+TellsPlanDamage store files batch (stops.Stopped stop) = TellsLoadDamage store files batch stop
+
 -- a refusal of names, or want of memory
 abbrev pub stop_of : DictRefusal → PlanStop
-stop_of (dicts.Full a) = stops.Refused (Names a)
+stop_of (dicts.Full a) = stops.Refused (refusals.Names a)
 stop_of dicts.Memory = stops.Stopped store_stops.Memory
 
 -- the coordinates are the codes that these names give the facts

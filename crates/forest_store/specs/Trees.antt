@@ -1,21 +1,20 @@
 -- The points of a tree, read from its pages.
-use Rattle.std.specs.Prelude.{◌≡◌, ◌≢◌, ◌⊎◌, ℕ, ◌+◌, ◌*◌, ◌<◌, ◌≤◌, ◌==◌, true, List, [], filter, get_or, length, map}
-use Rattle.std.specs.List.{All, range_with_len}
+use Rattle.std.specs.Prelude.{◌≡◌, ◌≢◌, ◌⊎◌, ℕ, ◌+◌, ◌*◌, ◌<◌, ◌≤◌, List, [], get_or, length, map}
+use Rattle.std.specs.List.{range_with_len}
 use Rattle.site_core.specs.Disk.{Files}
 use Rattle.fact_model.specs.declared.fact.Fact.{Fact}
 use Rattle.cube_point.specs.declared.point.Entry.{Entry}
 use Rattle.cube_point.specs.declared.point.Shape.{Shape}
 use Rattle.cube_schema.specs.declared.schema.Schema.{Schema}
-use Rattle.cube_schema.specs.Kinds.{measure_count}
 use Rattle.select_map.specs.Selection.{tree_of}
-use Rattle.select_map.specs.Views.{View, selected, tree_number}
+use Rattle.select_map.specs.Views.{selected}
 use Rattle.view_points.specs.Codes.{names_of}
+use Rattle.view_points.specs.Points.{Names}
+use Rattle.delta_agg.specs.Joins.{AllJoin}
 use Rattle.delta_agg.specs.Trees.{named_tree}
 use Rattle.forest_root.specs.declared.forest.Forest.{Forest}
 use Rattle.forest_root.specs.Forest.{counts_of, place_of}
 use Rattle.page_fmt.specs.declared.page.Place.{Place}
-use Rattle.page_fmt.specs.Taking.{ascend, entry_before}
-use Rattle.page_fmt.specs.Writing.{FitsLeaf}
 use Rattle.tree_pack.specs.Pages.{count_of}
 use Rattle.tree_scan.specs.Scanning.{AreGood, ArePoints, IsFirstBad, entries_of}
 use Rattle.tree_scan.specs.declared.scan.ScanStop.{ScanStop}
@@ -69,9 +68,38 @@ pub record AreAdded (shape : Shape) (most : ℕ) (es : List Entry) : Type 0 wher
 abbrev pub AreAllAdded : Forest → ℕ → List (List Entry) → Type 0
 AreAllAdded forest most deltas = (t : ℕ) → t < length forest.mapping.trees → AreAdded (place_of forest t).shape most (get_or deltas t [])
 
--- the points of a batch in each tree, by the names of all facts
+-- the points of a batch in each tree, by these names, and by the names of all facts
+abbrev pub deltas_by : Names → Schema → List Fact → List (List Entry)
+deltas_by names schema batch = map (named_tree names schema batch) (selected schema.views).trees
+
 abbrev pub deltas_of : Schema → List Fact → List Fact → List (List Entry)
-deltas_of schema all batch = map (named_tree (names_of all) schema batch) (selected schema.views).trees
+deltas_of schema all batch = deltas_by (names_of all) schema batch
+
+-- the tree is whole in these files, and all its cells that meet those of these points join
+abbrev pub IsWholeFor : Forest → Files → ℕ → List Entry → Type 0
+IsWholeFor forest files t delta = (es : List Entry) × IsTreeIn forest files t es × AllJoin es delta
+
+-- the tree is damaged at this page for these points: it is damaged there whatever they are; or it is whole, but not all its cells that meet
+-- theirs join, and it is the tree's first page
+abbrev pub IsDamagedFor : Forest → Files → ℕ → List Entry → ℕ → Type 0
+IsDamagedFor forest files t delta page =
+    IsDamagedAt forest files t page
+    ⊎ ((es : List Entry) × IsTreeIn forest files t es × (AllJoin es delta → ⊥) × (page ≡ (place_of forest t).first))
+
+-- damage that is told is where the tree is damaged for these points
+abbrev pub TellsDamageFor : Forest → Files → ℕ → List Entry → StoreStop → Type 0
+TellsDamageFor forest files t delta (stops.Damaged file offset) =
+    (page : ℕ) × IsDamagedFor forest files t delta page × (file ≡ (place_of forest t).file) × (offset ≡ 4096 * page)
+TellsDamageFor forest files t delta stops.Disk = Unit {0}
+TellsDamageFor forest files t delta stops.Memory = Unit {0}
+
+-- damage that is told is where the first tree is damaged that is not whole for the points added to it
+abbrev pub TellsFirstDamage : Forest → Files → List (List Entry) → StoreStop → Type 0
+TellsFirstDamage forest files deltas (stops.Damaged file offset) =
+    (t : ℕ) × (t < length forest.mapping.trees) × ((s : ℕ) → s < t → IsWholeFor forest files s (get_or deltas s []))
+    × TellsDamageFor forest files t (get_or deltas t []) (stops.Damaged file offset)
+TellsFirstDamage forest files deltas stops.Disk = Unit {0}
+TellsFirstDamage forest files deltas stops.Memory = Unit {0}
 
 -- damage that is told is at the front of a page of the tree there
 abbrev pub NamesPageOf : Place → StoreStop → Type 0

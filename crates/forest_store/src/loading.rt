@@ -13,7 +13,7 @@ ghost use Rattle.forest_store.specs.Opened.{IsOpened, IsNoDamage};
 ghost use Rattle.forest_commit.specs.Commit.{page_size};
 ghost use Rattle.forest_store.specs.Opening.{page_count, page_total};
 ghost use Rattle.forest_store.specs.Loading.{HasGeneration, IsLoaded, IsRefusal, KeepsEither, store_of};
-ghost use Rattle.forest_store.specs.Next.{IsPlan, IsReady, TellsSpoilt};
+ghost use Rattle.forest_store.specs.Next.{IsPlan, IsReady, TellsLoadDamage, TellsSpoilt};
 
 use crate::committing::commit;
 use crate::plan::{Plan, PlanStop, make_plan};
@@ -46,7 +46,9 @@ pub enum Loaded {
 /// Takes in a batch of at least one fact, or refuses it.
 ///
 /// A stop at any moment leaves the facts from before or all of them, and so does an error. After one the store is gone, and
-/// the files are to be opened again. `Damaged` names a page of the live side, or the names file right behind the schema's text.
+/// the files are to be opened again. `Damaged` names the page at which the first damaged tree of the live side is so, which is the
+/// tree's first page where its cells do not join with those of the batch; or the names file right behind the schema's text, where
+/// the names would take more bytes than a body counts.
 pub fn load<T: Site>(
     store: Store,
     alloc: Global,
@@ -61,6 +63,7 @@ pub fn load<T: Site>(
         → IfOk result (IsLoaded store.forest.schema accepted (accepted ++ batch.now) (T.disk site.new).files) }
     ensures undamaged { IsTrue T.tells → (accepted : List facts.Fact) → IsStoreOf store accepted (T.disk site.old).files
         → IfErr result IsNoDamage }
+    ensures damaged { IsTrue T.tells → IfErr result (TellsLoadDamage store (T.disk site.old).files batch.now) }
     ensures place { IfErr result (TellsSpoilt store.forest.body store.forest.schema) }
     ensures any_moment { IsTrue T.tells → (accepted : List facts.Fact) → IsStoreOf store accepted (T.disk site.old).files
         → LeavesOnly (T.disk site.old) (T.disk site.new) (λ told files.

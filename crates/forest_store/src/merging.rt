@@ -16,7 +16,7 @@ ghost use Rattle.forest_store.specs.Held.{AreAccepted, IsLive};
 ghost use Rattle.forest_store.specs.Opening.{page_total};
 ghost use Rattle.forest_store.specs.Next.{HasNumbers, IsPackedOf, NamesPageIn, counts_from};
 ghost use Rattle.forest_store.specs.Opened.{IsNoDamage};
-ghost use Rattle.forest_store.specs.Trees.{AreAdded, AreAllAdded, NamesPageOf, deltas_of};
+ghost use Rattle.forest_store.specs.Trees.{AreAdded, AreAllAdded, IsWholeFor, NamesPageOf, TellsDamageFor, TellsFirstDamage, deltas_of};
 
 use crate::packed::pack_tree;
 use crate::reading::{ARITIES, counts, tree_points};
@@ -62,7 +62,8 @@ pub fn pack_all<T: Site>(
         → IsLive forest.now.schema forest.now.body accepted (T.disk site.old).files
         → deltas.now ≡ deltas_of forest.now.schema (accepted ++ batch) batch → IfErr result IsNoDamage }
 
-    // Whatever the files hold: whole pages, and of no view more points than there are facts.
+    // Whatever the files hold: whole pages, and of no view more points than there are facts; or where the first tree is damaged.
+    ensures damaged { IsTrue T.tells → IfErr result (TellsFirstDamage forest.now (T.disk site.old).files deltas.now) }
     ensures place { IfErr result (NamesPageIn forest.now.body forest.now.schema) }
     ensures whole { IfOk result (λ packed. IsPages packed.pages.items) }
     ensures few { (most : ℕ) → AreAllAdded forest.now most deltas.now
@@ -117,7 +118,8 @@ fn add_tree(
     pack_tree(packer, forest.place(tree).shape, first, points, pages)
 }
 
-/// The old points of a tree, merged with those of a batch.
+/// The old points of a tree, merged with those of a batch. `Damaged` names the page at which the tree is damaged, or its first
+/// page where its cells do not join with those of the batch.
 fn merged_tree<T: Site>(
     alloc: Global,
     site: &mut T,
@@ -139,7 +141,9 @@ fn merged_tree<T: Site>(
         → delta.now ≡ named_tree (names_of (accepted ++ batch)) forest.now.schema batch (tree_of forest.now.mapping tree)
         → IfErr result IsNoDamage }
 
-    // Whatever the files hold: points of the tree, of each arity no more than facts.
+    // Whatever the files hold: points of the tree, of each arity no more than facts; or the page at which it is damaged.
+    ensures joined { IsTrue T.tells → OnOk result (IsWholeFor forest.now (T.disk site.old).files tree delta.now) }
+    ensures damaged { IsTrue T.tells → IfErr result (TellsDamageFor forest.now (T.disk site.old).files tree delta.now) }
     ensures place { IfErr result (NamesPageOf (place_of forest.now tree)) }
     ensures each { IfOk result (AreTreePoints (place_of forest.now tree).shape) }
     ensures few { (most : ℕ) → AreAdded (place_of forest.now tree).shape most delta.now

@@ -4,13 +4,13 @@ ghost use Rattle.std.specs.List.{All};
 ghost use Rattle.site_core.specs.Calls.{Rests};
 ghost use Rattle.fact_model.specs.declared.fact.Fact as facts;
 ghost use Rattle.fact_model.specs.Fact.{mass, mass_limit};
-ghost use Rattle.attr_dict.specs.Book.{HoldsNamesOf};
+ghost use Rattle.attr_dict.specs.Book.{HoldsNamesOf, names_at};
 ghost use Rattle.cube_schema.specs.Agreeing.{Agrees};
 ghost use Rattle.forest_root.specs.Body.{max_facts, max_names_len};
 ghost use Rattle.forest_root.specs.Causes.{HasCauseWhere};
 ghost use Rattle.forest_store.specs.Held.{AreAccepted, HasNames, IsLive};
 ghost use Rattle.forest_store.specs.Opening.{page_total};
-ghost use Rattle.forest_store.specs.Next.{AddsNames, AreCoded, HasMass, IsPlan, IsReady, IsSpoilt, IsStopped, added, next_body};
+ghost use Rattle.forest_store.specs.Next.{AddsNames, AreCoded, HasMass, IsPlan, IsReady, IsSpoilt, IsStopped, TellsDamageWith, TellsPlanDamage, added, next_body};
 ghost use Rattle.forest_store.specs.Stored.{IsStoreOf};
 
 use crate::loading::Refusal;
@@ -89,6 +89,7 @@ pub fn make_plan<T: Site>(
         → OnErr result (HoldsNamesOf store.new.dicts accepted) }
 
     ensures ready { IfOk result (IsReady store.old.forest.body) }
+    ensures damaged { IsTrue T.tells → IfErr result (TellsPlanDamage store.old (T.disk site.old).files batch.now) }
     ensures place { IfErr result (IsSpoilt store.old.forest.body store.old.forest.schema) }
     ensures forest { store.new.forest ≡ store.old.forest }
     ensures disk { IsTrue T.tells → Rests (T.disk site.old) (T.disk site.new) }
@@ -134,6 +135,8 @@ fn plan_with<T: Site>(
         → AddsNames accepted batch.now admitted.names → IfErr result (IsStopped store.now.forest.schema (accepted ++ batch.now)) }
 
     ensures ready { IfOk result (IsReady store.now.forest.body) }
+    ensures damaged { IsTrue T.tells
+        → IfErr result (TellsDamageWith store.now.forest (T.disk site.old).files (names_at store.now.dicts) batch.now admitted.names) }
     ensures place { IfErr result (IsSpoilt store.now.forest.body store.now.forest.schema) }
     ensures disk { IsTrue T.tells → Rests (T.disk site.old) (T.disk site.new) }
     ensures cause { HasCauseWhere (PlanStop.Stopped StoreStop.Disk) (T.disk_faults site.old) (T.disk_faults site.new) result }

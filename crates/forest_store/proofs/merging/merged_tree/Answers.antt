@@ -1,4 +1,4 @@
-use Rattle.std.proofs.Common.{◌≡◌, ◌∙◌, ◌<◌, ◌+◌, List, length, refl, sym, ap, subst, arith}
+use Rattle.std.proofs.Common.{◌≡◌, ◌∙◌, ◌<◌, ◌+◌, List, length, inr, refl, sym, ap, subst, arith}
 use Rattle.std.specs.List.{All}
 use Rattle.cube_point.specs.declared.point.Entry.{Entry}
 use Rattle.cube_point.specs.Points.{IsPoint}
@@ -9,7 +9,7 @@ use Rattle.tree_scan.specs.Scanning.{ArePoints}
 use Rattle.select_map.specs.Selection.{tree_of}
 use Rattle.forest_root.specs.Forest.{place_of}
 use Rattle.forest_pages.specs.Forest.{tree_entries}
-use Rattle.forest_store.specs.Trees.{NamesPageOf, by_arity}
+use Rattle.forest_store.specs.Trees.{IsTreeIn, NamesPageOf, TellsDamageFor, by_arity}
 use Rattle.forest_store.proofs.Packings.{old-few}
 use Rattle.forest_store.proofs.Places.{place-shape}
 use Rattle.forest_store.proofs.TreeMerges.{apart-pages, count-merged, facts-join, facts-merged, merged-points}
@@ -68,3 +68,12 @@ returns-in-Err-DoesNotJoin-clause-place g c =
     let some = apart-pages c.as_slice.result.now c.args.delta.now place.pages (c.in-Err-DoesNotJoin.ensures.stop c.in-Err-DoesNotJoin.field-0-is)
     (subst (λ (es : List Entry). 0 < length es → 0 < place.pages) (sym c.as_slice.ensures) c.in_ok-old.ensures.some) in
     subst (NamesPageOf place) (sym c.bad_tree.ensures) (place.first, omega arith, omega (arith, some), refl, refl)
+
+pub returns-in-Err-DoesNotJoin-clause-damaged : goal.returns-in-Err-DoesNotJoin-clause-damaged
+returns-in-Err-DoesNotJoin-clause-damaged g c = λ t.
+    let forest = c.args.forest.now in
+    let files = (g.T.Site.disk c.args.site.now).files in
+    let apart = c.in-Err-DoesNotJoin.ensures.stop c.in-Err-DoesNotJoin.field-0-is in
+    let whole = subst (IsTreeIn forest files c.args.tree) (sym c.as_slice.ensures) (c.in_ok-old.ensures.whole t) in
+    subst (TellsDamageFor forest files c.args.tree c.args.delta.now) (sym c.bad_tree.ensures)
+    ((place_of forest c.args.tree).first, inr (c.as_slice.result.now, whole, apart, refl), refl, refl)

@@ -6,8 +6,9 @@ use Rattle.select_map.specs.declared.mapping.Mapping.{Mapping}
 use Rattle.forest_store.specs.Held.{IsLive}
 use Rattle.forest_store.specs.Next.{HasNumbers, NamesPageIn, counts_from}
 use Rattle.forest_store.specs.Opened.{IsNoDamage}
-use Rattle.forest_store.specs.Trees.{by_arity}
-use Rattle.forest_store.proofs.Packings.{AreFew, bytes-as, delta-added, delta-named, has-numbers, packed-all, packed-more, row-as, row-few, rows-few}
+use Rattle.forest_store.specs.Trees.{IsWholeFor, TellsDamageFor, TellsFirstDamage, by_arity}
+use Rattle.forest_store.proofs.Damages.{first-damage, one-more}
+use Rattle.forest_store.proofs.Packings.{AreFew, at-tree, bytes-as, delta-added, delta-named, has-numbers, packed-all, packed-more, row-as, row-few, rows-few}
 use Rattle.forest_store.proofs.Places.{few-trees, page-in, pages-more, part-total, selection}
 use Rattle.forest_store.proofs.Ready.{cause_on, err_if, err_no, err_then}
 use Rattle.forest_store.proofs.Schemas.{few_views}
@@ -56,6 +57,11 @@ loop-tree-preserved g c =
           (subst (λ (m : Mapping). t < length m.trees) forest.mapped low) (inv.packed tells accepted batch fine all live same)
           (c.in_ok-add_tree.ensures.bytes (accepted ++ batch) all (c.as_slice-in-loop-tree-2.ensures ∙ points) ∙ ap (λ (b : List ℕ). c.loop-tree.pages.items ++ b) (bytes-as forest (accepted ++ batch) (length c.loop-tree.pages.items / 4096) t))
           (pushed ∙ ap (λ (r : List ℕ). c.loop-tree.by_tree ++ r ∷ []) (row ∙ row-as forest (accepted ++ batch) t c.in_ok-points.points points));
+      joined = λ tells.
+          let files = (g.T.Site.disk c.args.site.now).files in
+          let here = subst (λ (f : Files). IsWholeFor forest f t c.as_slice-delta.result.now) (inv.disk tells).files (c.in_ok-points.ensures.joined tells) in
+          let is = at-tree forest c.args.deltas.now t c.index-as_slice-tree.result c.as_slice-delta.result.now lt delta in
+          one-more (λ s. IsWholeFor forest files s (get_or c.args.deltas.now s [])) t (inv.joined tells) (subst (IsWholeFor forest files t) is here);
       disk = λ tells. Rests-then _ _ _ (inv.disk tells) (c.merged_tree.ensures.disk tells);
       faults = search rules;
       told_faults = search rules;
@@ -120,6 +126,21 @@ returns-in_err-points-clause-place g c =
     let low : t < length forest.mapping.trees = omega (arith, lt, c.requires.lists) in
     err_then c.from_residual-in_err-points.result _ (NamesPageIn forest.body forest.schema) (err_if c.from_residual-in_err-points.result _ c.from_residual-in_err-points.ensures.1)
     (λ stop is. subst (NamesPageIn forest.body forest.schema) (sym is) (page-in forest t low c.in_err-points.field-0.0 c.in_err-points.ensures.place))
+
+pub returns-in_err-points-clause-damaged : goal.returns-in_err-points-clause-damaged
+returns-in_err-points-clause-damaged g c = λ tells.
+    let forest = c.args.forest.now in
+    let files = (g.T.Site.disk c.args.site.now).files in
+    let deltas = c.args.deltas.now in
+    let t : ℕ = c.loop-tree.tree in
+    let lt : t < length deltas = omega (arith, c.loop-tree-test.true, ap length c.as_slice-tree-end.ensures) in
+    let low : t < length forest.mapping.trees = omega (arith, lt, c.requires.lists) in
+    let delta : c.as_slice-delta.result.now ≡ get_or deltas t c.index-as_slice-tree.result = c.as_slice-delta.ensures ∙ (c.index-as_slice-tree.is ∙ ap (λ (ds : List (List Entry)). get_or ds t c.index-as_slice-tree.result) c.as_slice.ensures) in
+    let told = subst (λ (f : Files). TellsDamageFor forest f t c.as_slice-delta.result.now c.in_err-points.field-0.0) (c.loop-tree.invariant.disk tells).files (c.in_err-points.ensures.damaged tells) in
+    let is = at-tree forest deltas t c.index-as_slice-tree.result c.as_slice-delta.result.now lt delta in
+    let first = first-damage forest files deltas t low (c.loop-tree.invariant.joined tells) c.in_err-points.field-0.0 (subst (λ (es : List Entry). TellsDamageFor forest files t es c.in_err-points.field-0.0) is told) in
+    err_then c.from_residual-in_err-points.result _ (TellsFirstDamage forest files deltas) (err_if c.from_residual-in_err-points.result _ c.from_residual-in_err-points.ensures.1)
+    (λ stop same. subst (TellsFirstDamage forest files deltas) (sym same) first)
 
 pub returns-clause-packed : goal.returns-clause-packed
 returns-clause-packed g c = λ tells accepted batch fine all live same.

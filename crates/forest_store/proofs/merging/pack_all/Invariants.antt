@@ -1,9 +1,9 @@
-use Rattle.std.proofs.Common.{◌≡◌, ◌≤◌, ◌+◌, ◌%◌, ℕ, IsTrue, List, ◌++◌, length, take}
+use Rattle.std.proofs.Common.{◌≡◌, ◌<◌, ◌≤◌, ◌+◌, ◌%◌, ℕ, IsTrue, List, [], ◌++◌, length, get_or, take}
 use Rattle.site_core.specs.Calls.{Rests}
 use Rattle.fact_model.specs.declared.fact.Fact.{Fact}
 use Rattle.forest_root.specs.Forest.{pages_of_all}
 use Rattle.forest_store.specs.Held.{AreAccepted, IsLive}
-use Rattle.forest_store.specs.Trees.{AreAllAdded, deltas_of}
+use Rattle.forest_store.specs.Trees.{AreAllAdded, IsWholeFor, deltas_of}
 use Rattle.forest_store.proofs.Packings.{AreFew, ArePacked}
 use Rattle.forest_store.proofs.merging.pack_all.Given as goal
 
@@ -17,6 +17,7 @@ invariant-loop-tree g l = record {
   packed : IsTrue g.T.Site.tells → (accepted batch : List Fact) → AreAccepted l.forest.schema accepted → AreAccepted l.forest.schema (accepted ++ batch)
       → IsLive l.forest.schema l.forest.body accepted (g.T.Site.disk l.fn.site).files → l.deltas ≡ deltas_of l.forest.schema (accepted ++ batch) batch
       → ArePacked l.forest.schema (accepted ++ batch) l.tree l.pages.items l.by_tree;
+  joined : IsTrue g.T.Site.tells → (s : ℕ) → s < l.tree → IsWholeFor l.forest (g.T.Site.disk l.fn.site).files s (get_or l.deltas s []);
   disk : IsTrue g.T.Site.tells → Rests (g.T.Site.disk l.fn.site) (g.T.Site.disk l.site);
   faults : g.T.Site.disk_faults l.site ≡ g.T.Site.disk_faults l.fn.site;
   told_faults : g.T.Site.told_faults l.site ≡ g.T.Site.told_faults l.fn.site;

@@ -4,8 +4,10 @@ use Rattle.std.proofs.lemmas.List.{length-map}
 use Rattle.forest_root.specs.Body.{max_facts}
 use Rattle.view_points.specs.Codes.{names}
 use Rattle.attr_dict.specs.Admitting.{codes_of}
+use Rattle.attr_dict.specs.Book.{names_at}
 use Rattle.attr_dict.proofs.Kept.{lists-own}
 use Rattle.forest_store.specs.Next.{IsStopped}
+use Rattle.forest_store.proofs.Damages.{plan-damage}
 use Rattle.forest_store.proofs.Named.{adds_names, agree_with, all_kinds, all_named, attributes, coordinates, full_stop, names_back, names_grow, none_full, view_kinds}
 use Rattle.forest_store.proofs.Ready.{both_agree, err_if, err_then}
 use Rattle.forest_store.proofs.plan.make_plan.Goals as goal
@@ -67,3 +69,8 @@ pub returns-in-Err-clause-forgotten : goal.returns-in-Err-clause-forgotten
 returns-in-Err-clause-forgotten g c = λ accepted own.
     names_back c.args.store.now.forest.schema c.args.store.now.dicts c.args.store.now.kinds accepted c.args.batch.now own c.admit.new.self c.forget.new.self (λ a. slice_index c.lengths-before.result.at a)
     c.in_ok-admitted.ensures.names c.lengths-before.ensures c.forget.ensures.names
+
+pub returns-in-Err-clause-damaged : goal.returns-in-Err-clause-damaged
+returns-in-Err-clause-damaged g c = λ t.
+    plan-damage c.args.store.now (g.T.Site.disk c.args.site.now).files c.args.batch.now (names_at c.admit.new.self) c.in_ok-admitted.admitted.names
+    (λ i a. c.in_ok-admitted.ensures.names a i) c.in_ok-admitted.ensures.entries c.in-Err.stop (c.in-Err.ensures.damaged t)

@@ -1,5 +1,6 @@
-use Rattle.std.proofs.Common.{◌≡◌, ◌∙◌, ◌≤◌, ◌++◌, ℕ, List, length, refl, sym, subst, ap, arith, length-append}
+use Rattle.std.proofs.Common.{◌≡◌, ◌∙◌, ◌≤◌, ◌++◌, ℕ, List, length, inl, refl, sym, subst, ap, arith, length-append}
 use Rattle.fact_model.specs.declared.fact.Fact.{Fact}
+use Rattle.cube_point.specs.declared.point.Entry.{Entry}
 use Rattle.attr_dict.specs.Book.{names_at}
 use Rattle.view_points.specs.Codes.{names_of}
 use Rattle.forest_root.specs.declared.body.Body.{Body}
@@ -7,8 +8,9 @@ use Rattle.forest_root.specs.Body.{IsBody, max_facts}
 use Rattle.forest_store.specs.Held.{AreAccepted, masses_of, names_text}
 use Rattle.forest_store.specs.Next.{HasMass, HasNumbers, IsStopped, added}
 use Rattle.forest_commit.specs.Commit.{slot_of}
-use Rattle.forest_store.specs.Trees.{AreAllAdded}
+use Rattle.forest_store.specs.Trees.{AreAllAdded, TellsFirstDamage}
 use Rattle.forest_store.proofs.Added.{all-added, batch-masses, deltas-are}
+use Rattle.forest_store.proofs.Damages.{deltas-by}
 use Rattle.forest_store.proofs.NamesLong.{names_long}
 use Rattle.forest_store.proofs.Ready.{all_accepted, both_agree, refused_mass, summed, body_is, more_names, plan_is, err_then, err_if}
 use Rattle.forest_store.proofs.Storable.{storable_by}
@@ -100,3 +102,10 @@ returns-in-Err-pack_all-clause-stopped g c = λ t accepted fine live names named
     let as_names : names_at b ≡ names_of (accepted ++ batch) = (λ i a. names a i) in
     let deltas = deltas-are forest (names_at b) (accepted ++ batch) batch c.in-Ok.added as_names (c.in-Ok.ensures.named (names_at b) c.requires.coded.viewed) in
     c.in-Err-pack_all.ensures.undamaged t accepted batch fine fine_all live deltas
+
+pub returns-in-Err-pack_all-clause-damaged : goal.returns-in-Err-pack_all-clause-damaged
+returns-in-Err-pack_all-clause-damaged g c = λ t.
+    let forest = c.args.store.now.forest in
+    let b = c.args.store.now.dicts in
+    let deltas = deltas-by forest (names_at b) c.args.batch.now c.in-Ok.added (c.in-Ok.ensures.named (names_at b) c.requires.coded.viewed) in
+    inl (subst (λ (ds : List (List Entry)). TellsFirstDamage forest (g.T.Site.disk c.args.site.now).files ds c.in-Err-pack_all.stop) deltas (c.in-Err-pack_all.ensures.damaged t))
