@@ -11,3 +11,4 @@ pub mod Stages
 pub mod Standing
 pub mod Statuses
 pub mod Takings
+pub mod Told

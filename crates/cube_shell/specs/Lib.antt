@@ -8,4 +8,5 @@ pub mod Pulls
 pub mod Refusals
 pub mod Session
 pub mod Sliced
+pub mod Told
 pub mod World

@@ -28,8 +28,8 @@ IsSpoiltAt store files (Ok s) file offset =
     × ((view : ℕ) → IsRoute store.forest.schema.views store.forest.body.counts s view → IsJudged store s view files (Err (answers.Damaged file offset)))
 
 -- damage that is told is there
-abbrev pub TellsDamage : Store → Files → Result Slice SliceRefusal → Stop → Type 0
-TellsDamage store files read (stops.Damaged file offset) = IsSpoiltAt store files read file offset
-TellsDamage store files read stops.Disk = Unit {0}
-TellsDamage store files read stops.Output = Unit {0}
-TellsDamage store files read stops.Memory = Unit {0}
+abbrev pub TellsSliceDamage : Store → Files → Result Slice SliceRefusal → Stop → Type 0
+TellsSliceDamage store files read (stops.Damaged file offset) = IsSpoiltAt store files read file offset
+TellsSliceDamage store files read stops.Disk = Unit {0}
+TellsSliceDamage store files read stops.Output = Unit {0}
+TellsSliceDamage store files read stops.Memory = Unit {0}

@@ -29,8 +29,7 @@ pub fn declare<T: Site>(
         → IfOk result (IsAnswer (T.disk site.new) (declare world block)) }
     ensures any_moment { IsTrue T.tells → (world : World) → Stands state (T.disk site.old) world
         → Between (T.disk site.old) (T.disk site.new) world (declare world block).0 }
-    ensures undamaged { IsTrue T.tells → (world : World) → Stands state (T.disk site.old) world
-        → IfErr result IsNoDamage }
+    ensures undamaged { IfErr result IsNoDamage }
     ensures unwritten { IsTrue T.tells → (world : World) → Stands state (T.disk site.old) world
         → (declare world block).0 ≡ world → OnOk result (T.writes site.new ≡ T.writes site.old) }
 

@@ -7,6 +7,7 @@ ghost use Rattle.forest_store.specs.Opened.{IsOpened};
 ghost use Rattle.cube_shell.specs.Ends.{IsNoDamage, StopCause};
 ghost use Rattle.cube_shell.specs.Machine.{accepted, load};
 ghost use Rattle.cube_shell.specs.Session.{Belongs, Between, IsAnswer, IsFit, IsRunning, Stands};
+ghost use Rattle.cube_shell.specs.Told.{LoadTells, TellsBatchDamage, TellsBlockDamage};
 ghost use Rattle.cube_shell.specs.World.{Warehouse, World};
 ghost use Rattle.reply_text.specs.Replies.{committed_text};
 ghost use Rattle.cube_shell.specs.Refusals.{measure_name, refusal_text};
@@ -39,6 +40,7 @@ pub fn load<T: Site>(
         → Between (T.disk site.old) (T.disk site.new) world (load world block).0 }
     ensures undamaged { IsTrue T.tells → (world : World) → Stands state (T.disk site.old) world
         → IfErr result IsNoDamage }
+    ensures damage { IsTrue T.tells → IfErr result (LoadTells state (T.disk site.old).files block) }
     ensures unwritten { IsTrue T.tells → (world : World) → Stands state (T.disk site.old) world
         → (load world block).0 ≡ world → OnOk result (T.writes site.new ≡ T.writes site.old) }
 
@@ -71,6 +73,7 @@ fn load_block<T: Site>(
         → Between (T.disk site.old) (T.disk site.new) (Some warehouse) (load (Some warehouse) block).0 }
     ensures undamaged { IsTrue T.tells → (warehouse : Warehouse) → Belongs store (T.disk site.old) warehouse
         → IfErr result IsNoDamage }
+    ensures damage { IsTrue T.tells → IfErr result (TellsBlockDamage store (T.disk site.old).files block) }
     ensures unwritten { IsTrue T.tells → (warehouse : Warehouse) → Belongs store (T.disk site.old) warehouse
         → (load (Some warehouse) block).0 ≡ Some warehouse → OnOk result (T.writes site.new ≡ T.writes site.old) }
 
@@ -112,6 +115,7 @@ fn take_in<T: Site>(
         → Between (T.disk site.old) (T.disk site.new) (Some warehouse) (accepted warehouse batch.now).0 }
     ensures undamaged { IsTrue T.tells → (warehouse : Warehouse) → Belongs store (T.disk site.old) warehouse
         → IfErr result IsNoDamage }
+    ensures damage { IsTrue T.tells → IfErr result (TellsBatchDamage store (T.disk site.old).files batch.now) }
     ensures unwritten { IsTrue T.tells → (warehouse : Warehouse) → Belongs store (T.disk site.old) warehouse
         → (accepted warehouse batch.now).0 ≡ Some warehouse → OnOk result (T.writes site.new ≡ T.writes site.old) }
 

@@ -5,11 +5,8 @@ ghost use Rattle.cube_shell.specs.Costs.{Costs};
 ghost use Rattle.cube_shell.specs.Ends.{IsNoDamage, StopCause};
 ghost use Rattle.cube_shell.specs.Machine.{act};
 ghost use Rattle.cube_shell.specs.Session.{Between, IsAnswer, IsFit, IsRunning, Stands, state_text};
-ghost use Rattle.cube_shell.specs.Sliced.{TellsDamage};
+ghost use Rattle.cube_shell.specs.Told.{TellsDamage};
 ghost use Rattle.cube_shell.specs.World.{World};
-ghost use Rattle.cube_shell.specs.declared.state.State.TheVariants as states;
-ghost use Rattle.forest_root.specs.declared.forest.Store.{Store};
-ghost use Rattle.slice_lang.specs.Reading.{slice_of};
 
 use crate::answered::{Answered, plain};
 use crate::declaring::declare;
@@ -42,8 +39,8 @@ pub fn act<T: Site>(
     ensures cost { IsTrue T.tells → (world : World) (text : List ℕ) (most : ℕ) → Stands state (T.disk site.old) world
         → command ≡ says.Slice text → Costs world text most → T.reads site.new ≤ T.reads site.old + most }
 
-    ensures damage { IsTrue T.tells → (store : Store) (text : List ℕ) → state ≡ states.Idle store → command ≡ says.Slice text
-        → IfErr result (TellsDamage store (T.disk site.old).files (slice_of store.forest.schema text)) }
+    // Whatever the files hold.
+    ensures damage { IsTrue T.tells → IfErr result (TellsDamage state (T.disk site.old).files command) }
     // Where nothing is to be changed, nothing is written.
     ensures unwritten { IsTrue T.tells → (world : World) → Stands state (T.disk site.old) world
         → (act world command).0 ≡ world → OnOk result (T.writes site.new ≡ T.writes site.old) }

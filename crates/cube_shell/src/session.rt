@@ -12,10 +12,8 @@ ghost use Rattle.cube_shell.specs.Headline.{Meanwhile};
 ghost use Rattle.cube_shell.specs.Keeps.{Keeps};
 ghost use Rattle.cube_shell.specs.Machine.{act};
 ghost use Rattle.cube_shell.specs.Session.{IsFit, IsRunning, Stands};
-ghost use Rattle.cube_shell.specs.Sliced.{TellsDamage};
+ghost use Rattle.cube_shell.specs.Told.{TellsDamage};
 ghost use Rattle.cube_shell.specs.World.{World};
-ghost use Rattle.forest_root.specs.declared.forest.Store.{Store};
-ghost use Rattle.slice_lang.specs.Reading.{slice_of};
 
 use crate::answered::Answered;
 use crate::machine::act;
@@ -102,8 +100,8 @@ impl Session {
         ensures cost { IsTrue T.tells → (world : World) (text : List ℕ) (most : ℕ) → Stands self.old.state (T.disk site.old) world
             → command ≡ says.Slice text → Costs world text most → T.reads site.new ≤ T.reads site.old + most }
 
-        ensures damage { IsTrue T.tells → (store : Store) (text : List ℕ) → self.old.state ≡ State.Idle store → command ≡ says.Slice text
-            → IfErr result (TellsDamage store (T.disk site.old).files (slice_of store.forest.schema text)) }
+        // Whatever the files hold.
+        ensures damage { IsTrue T.tells → IfErr result (TellsDamage self.old.state (T.disk site.old).files command) }
         // Where nothing is to be changed, nothing is written.
         ensures unwritten { IsTrue T.tells → (world : World) → Stands self.old.state (T.disk site.old) world
             → (act world command).0 ≡ world → OnOk result (T.writes site.new ≡ T.writes site.old) }

@@ -9,10 +9,9 @@ ghost use Rattle.cube_shell.specs.Costs.{Costs, MayRead};
 ghost use Rattle.cube_shell.specs.Ends.{IsNoDamage, StopCause};
 ghost use Rattle.cube_shell.specs.Machine.{rows_reply, slice, slice_reply};
 ghost use Rattle.cube_shell.specs.Session.{Between, IsAnswer, IsFit, IsRunning, Stands};
-ghost use Rattle.cube_shell.specs.Sliced.{AreRows, TellsDamage};
+ghost use Rattle.cube_shell.specs.Sliced.{AreRows, TellsSliceDamage};
+ghost use Rattle.cube_shell.specs.Told.{SliceTells};
 ghost use Rattle.cube_shell.specs.World.{World};
-ghost use Rattle.cube_shell.specs.declared.state.State.TheVariants as states;
-ghost use Rattle.forest_root.specs.declared.forest.Store.{Store};
 
 use crate::answered::{Answered, plain};
 use crate::state::State;
@@ -47,8 +46,7 @@ pub fn slice<T: Site>(
         → T.reads site.new ≤ T.reads site.old + most }
 
     // Whatever the files hold.
-    ensures damage { IsTrue T.tells → (store : Store) → state ≡ states.Idle store
-        → IfErr result (TellsDamage store (T.disk site.old).files (slice_of store.forest.schema text.now)) }
+    ensures damage { IsTrue T.tells → IfErr result (SliceTells state (T.disk site.old).files text.now) }
     ensures running { IfOk result (λ done. IsRunning done.state) }
     ensures fit { IsTrue T.tells → IfOk result (λ done. IsFit done.state (T.disk site.new)) }
     ensures told { IsTrue T.tells → (T.disk site.new).told ≡ (T.disk site.old).told }
@@ -88,7 +86,7 @@ fn reply_to<T: Site>(
         → T.reads site.new ≤ T.reads site.old + most }
 
     // Whatever the files hold.
-    ensures damage { IsTrue T.tells → IfErr result (TellsDamage store.now (T.disk site.old).files (slice_of store.now.forest.schema text.now)) }
+    ensures damage { IsTrue T.tells → IfErr result (TellsSliceDamage store.now (T.disk site.old).files (slice_of store.now.forest.schema text.now)) }
     ensures disk { IsTrue T.tells → Rests (T.disk site.old) (T.disk site.new) }
     ensures cache { pages.new ≡ pages.old }
     ensures cause { IfErr result (StopCause (T.disk_faults site.old) (T.disk_faults site.new) (T.told_faults site.old) (T.told_faults site.new)) }
@@ -120,7 +118,7 @@ fn rows_text<T: Site>(
         → MayRead store.now.forest.schema accepted (Ok slice.now) most → T.reads site.new ≤ T.reads site.old + most }
 
     // Whatever the files hold.
-    ensures damage { IsTrue T.tells → IfErr result (TellsDamage store.now (T.disk site.old).files (Ok slice.now)) }
+    ensures damage { IsTrue T.tells → IfErr result (TellsSliceDamage store.now (T.disk site.old).files (Ok slice.now)) }
     ensures disk { IsTrue T.tells → Rests (T.disk site.old) (T.disk site.new) }
     ensures cache { pages.new ≡ pages.old }
     ensures cause { IfErr result (StopCause (T.disk_faults site.old) (T.disk_faults site.new) (T.told_faults site.old) (T.told_faults site.new)) }
@@ -153,7 +151,7 @@ fn rows_of<T: Site>(
         → MayRead store.now.forest.schema accepted (Ok slice.now) most → T.reads site.new ≤ T.reads site.old + most }
 
     // Whatever the files hold.
-    ensures damage { IsTrue T.tells → IfErr result (TellsDamage store.now (T.disk site.old).files (Ok slice.now)) }
+    ensures damage { IsTrue T.tells → IfErr result (TellsSliceDamage store.now (T.disk site.old).files (Ok slice.now)) }
     ensures disk { IsTrue T.tells → Rests (T.disk site.old) (T.disk site.new) }
     ensures cache { pages.new ≡ pages.old }
     ensures cause { IfErr result (StopCause (T.disk_faults site.old) (T.disk_faults site.new) (T.told_faults site.old) (T.told_faults site.new)) }

@@ -6,6 +6,7 @@ use Rattle.cube_shell.proofs.Acts.{nothing_added}
 use Rattle.cube_shell.proofs.Answering.{answers, answers_as, quiet}
 use Rattle.cube_shell.proofs.Limits.{none_accepted}
 use Rattle.cube_shell.proofs.Takings.{load_moments, committed_belongs, committed_facts, committed_answer, committed_grows, refused_belongs, refused_answer}
+use Rattle.cube_shell.proofs.Told.{batch_tells}
 use Rattle.cube_shell.proofs.loading.take_in.Goals as goal
 
 pub returns-then-is_empty-clause-answer : goal.returns-then-is_empty-clause-answer
@@ -73,3 +74,7 @@ returns-in-Ok-Refused-clause-any_moment g c = λ t warehouse is.
 pub returns-in-Err-clause-any_moment : goal.returns-in-Err-clause-any_moment
 returns-in-Err-clause-any_moment g c = λ t warehouse is.
     load_moments c.args.store _ _ warehouse c.args.batch.now is c.requires.agree (c.load.ensures.any_moment t warehouse.facts)
+
+pub returns-in-Err-clause-damage : goal.returns-in-Err-clause-damage
+returns-in-Err-clause-damage g c = λ t.
+    batch_tells c.args.store (g.T.Site.disk c.args.site.now).files c.args.batch.now c.in-Err.stop c.from.result c.from.ensures (c.in-Err.ensures.damaged t)

@@ -1,8 +1,11 @@
-use Rattle.std.proofs.Common.{◌∙◌, sym, ap}
+use Rattle.std.proofs.Common.{◌∙◌, ℕ, List, IfErr, sym, ap, subst}
 use Rattle.cube_shell.specs.Machine.{Answer, act, slice}
 use Rattle.cube_shell.specs.Session.{state_text}
 use Rattle.cube_shell.proofs.Acts.{act_schema, act_load, act_slice, act_status, act_long_line, act_open_block, act_others}
 use Rattle.cube_shell.proofs.Answering.{answers_as, between_as, quiet, status_known, told_only}
+use Rattle.cube_shell.specs.Told.{SliceTells, TellsDamage}
+use Rattle.script_lang.specs.declared.command.Command.{Command}
+use Rattle.cube_shell.proofs.Told.{memory_tells}
 use Rattle.cube_shell.proofs.machine.act.Goals as goal
 
 pub returns-in-Schema-clause-answer : goal.returns-in-Schema-clause-answer
@@ -68,3 +71,29 @@ returns-clause-answer g c = λ t world stands.
 pub returns-clause-any_moment : goal.returns-clause-any_moment
 returns-clause-any_moment g c = λ t world stands.
     quiet c.args.state (g.T.Site.disk c.args.site.now) world _ stands (λ told files. g.met.T.Site.only_now c.args.site.now told files t)
+
+pub returns-in-Schema-clause-damage : goal.returns-in-Schema-clause-damage
+returns-in-Schema-clause-damage g c = λ t.
+    subst (λ (k : Command). IfErr c.declare.result (TellsDamage c.args.state (g.T.Site.disk c.args.site.now).files k)) (sym c.in-Schema.is) c.declare.ensures.undamaged
+
+pub returns-in-Load-clause-damage : goal.returns-in-Load-clause-damage
+returns-in-Load-clause-damage g c = λ t.
+    subst (λ (k : Command). IfErr c.load.result (TellsDamage c.args.state (g.T.Site.disk c.args.site.now).files k)) (sym c.in-Load.is) (c.load.ensures.damage t)
+
+pub returns-in-Slice-clause-damage : goal.returns-in-Slice-clause-damage
+returns-in-Slice-clause-damage g c = λ t.
+    let files = (g.T.Site.disk c.args.site.now).files in
+    subst (λ (k : Command). IfErr c.slice.result (TellsDamage c.args.state files k)) (sym c.in-Slice.is)
+    (subst (λ (text : List ℕ). IfErr c.slice.result (SliceTells c.args.state files text)) c.as_bytes.ensures (c.slice.ensures.damage t))
+
+pub returns-in-Status-clause-damage : goal.returns-in-Status-clause-damage
+returns-in-Status-clause-damage g c = λ t. memory_tells c.status.result c.args.state (g.T.Site.disk c.args.site.now).files c.args.command c.status.ensures.memory
+
+pub returns-in-LongLine-clause-damage : goal.returns-in-LongLine-clause-damage
+returns-in-LongLine-clause-damage g c = λ t. memory_tells c.plain.result c.args.state (g.T.Site.disk c.args.site.now).files c.args.command c.plain.ensures.memory
+
+pub returns-in-OpenBlock-clause-damage : goal.returns-in-OpenBlock-clause-damage
+returns-in-OpenBlock-clause-damage g c = λ t. memory_tells c.plain-in-OpenBlock.result c.args.state (g.T.Site.disk c.args.site.now).files c.args.command c.plain-in-OpenBlock.ensures.memory
+
+pub returns-clause-damage : goal.returns-clause-damage
+returns-clause-damage g c = λ t. memory_tells c.plain-in-Begin.result c.args.state (g.T.Site.disk c.args.site.now).files c.args.command c.plain-in-Begin.ensures.memory

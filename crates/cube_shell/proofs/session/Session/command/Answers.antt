@@ -1,7 +1,10 @@
-use Rattle.std.proofs.Common.{◌∙◌, sym, subst}
+use Rattle.std.proofs.Common.{◌∙◌, rules, sym, subst}
 use Rattle.cube_shell.specs.declared.state.State.{State}
 use Rattle.cube_shell.specs.Session.{Stands}
 use Rattle.cube_shell.proofs.Commanded.{untold, telling}
+use Rattle.cube_shell.specs.Told.{TellsDamage}
+use Rattle.cube_shell.specs.declared.stop.Stop.TheVariants as stops
+use Rattle.cube_shell.proofs.Told.{tells_none}
 use Rattle.cube_shell.proofs.session.Session.command.Goals as goal
 
 pub returns-in_err-state-clause-any_moment : goal.returns-in_err-state-clause-any_moment
@@ -20,3 +23,13 @@ returns-in-Err-clause-any_moment g c = λ t world stands.
     let is = subst (λ (s : State). Stands s (g.T.Site.disk c.args.site.now) world) (sym c.replace-state.ensures.value) stands in
     let answer = c.in_ok-state.ensures.answer t world is in
     telling world c.args.command _ _ (c.act.ensures.any_moment t world is) _ c.in_ok-state.field-0.state _ (c.act.ensures.told t) answer.stands (c.deref.ensures.value ∙ answer.reply) (c.emit.ensures.disk t)
+
+pub returns-in_err-state-clause-damage : goal.returns-in_err-state-clause-damage
+returns-in_err-state-clause-damage g c = λ t.
+    let files = (g.T.Site.disk c.args.site.now).files in
+    let h : TellsDamage c.args.self.now.state files c.args.command c.in_err-state.field-0.0 =
+    subst (λ (s : State). TellsDamage s files c.args.command c.in_err-state.field-0.0) c.replace-state.ensures.value (c.in_err-state.ensures.damage t) in
+    search rules
+
+pub returns-in-Err-clause-damage : goal.returns-in-Err-clause-damage
+returns-in-Err-clause-damage g c = λ t. tells_none c.args.self.now.state (g.T.Site.disk c.args.site.now).files c.args.command stops.Output tt

@@ -1,0 +1,62 @@
+-- Where the damage lies that a command tells.
+use Rattle.std.specs.Prelude.{ℕ, List, Result, Ok, Err}
+use Rattle.site_core.specs.Disk.{Files}
+use Rattle.fact_csv.specs.Batch.{batch_of}
+use Rattle.fact_csv.specs.declared.refusal.RowRefusal.{RowRefusal}
+use Rattle.fact_model.specs.declared.fact.Fact.{Fact}
+use Rattle.forest_root.specs.declared.forest.Store.{Store}
+use Rattle.forest_store.specs.Next.{TellsLoadDamage}
+use Rattle.forest_store.specs.declared.stop.StoreStop.TheVariants as store
+use Rattle.script_lang.specs.declared.command.Block.{Block}
+use Rattle.script_lang.specs.declared.command.Block.TheVariants.{Whole, Long}
+use Rattle.script_lang.specs.declared.command.Command.{Command}
+use Rattle.script_lang.specs.declared.command.Command.TheVariants as says
+use Rattle.slice_lang.specs.Reading.{slice_of}
+use Rattle.cube_shell.specs.declared.state.State.{State}
+use Rattle.cube_shell.specs.declared.state.State.TheVariants.{Stopped, Empty, Idle}
+use Rattle.cube_shell.specs.declared.stop.Stop.{Stop}
+use Rattle.cube_shell.specs.declared.stop.Stop.TheVariants as stops
+use Rattle.cube_shell.specs.Ends.{IsNoDamage}
+use Rattle.cube_shell.specs.Sliced.{TellsSliceDamage}
+
+-- the place at which the store finds these files damaged when it takes in a batch
+abbrev pub TellsBatchDamage : Store → Files → List Fact → Stop → Type 0
+TellsBatchDamage kept files batch (stops.Damaged file offset) = TellsLoadDamage kept files batch (store.Damaged file offset)
+TellsBatchDamage kept files batch stops.Disk = Unit {0}
+TellsBatchDamage kept files batch stops.Output = Unit {0}
+TellsBatchDamage kept files batch stops.Memory = Unit {0}
+
+-- the same of the batch that was read; where none was, no damage is told
+abbrev pub TellsReadDamage : Store → Files → Result (List Fact) RowRefusal → Stop → Type 0
+TellsReadDamage kept files (Ok batch) stop = TellsBatchDamage kept files batch stop
+TellsReadDamage kept files (Err refusal) stop = IsNoDamage stop
+
+abbrev pub TellsBlockDamage : Store → Files → Block → Stop → Type 0
+TellsBlockDamage kept files (Whole bytes) stop = TellsReadDamage kept files (batch_of kept.forest.schema bytes) stop
+TellsBlockDamage kept files Long stop = IsNoDamage stop
+
+-- a slice, and a load, of a session that has this; without a schema neither tells damage
+abbrev pub SliceTells : State → Files → List ℕ → Stop → Type 0
+SliceTells Stopped files text stop = IsNoDamage stop
+SliceTells Empty files text stop = IsNoDamage stop
+SliceTells (Idle kept) files text stop = TellsSliceDamage kept files (slice_of kept.forest.schema text) stop
+
+abbrev pub LoadTells : State → Files → Block → Stop → Type 0
+LoadTells Stopped files block stop = IsNoDamage stop
+LoadTells Empty files block stop = IsNoDamage stop
+LoadTells (Idle kept) files block stop = TellsBlockDamage kept files block stop
+
+-- damage that a command tells is there; no command but these two tells any
+abbrev pub TellsDamage : State → Files → Command → Stop → Type 0
+TellsDamage state files (says.Slice text) stop = SliceTells state files text stop
+TellsDamage state files (says.Load block) stop = LoadTells state files block stop
+TellsDamage state files (says.Schema block) stop = IsNoDamage stop
+TellsDamage state files says.Status stop = IsNoDamage stop
+TellsDamage state files says.LongLine stop = IsNoDamage stop
+TellsDamage state files says.OpenBlock stop = IsNoDamage stop
+TellsDamage state files (says.Begin block) stop = IsNoDamage stop
+TellsDamage state files (says.Step n) stop = IsNoDamage stop
+TellsDamage state files says.Finish stop = IsNoDamage stop
+TellsDamage state files says.Abandon stop = IsNoDamage stop
+TellsDamage state files (says.Generate start rows) stop = IsNoDamage stop
+TellsDamage state files says.Unknown stop = IsNoDamage stop
