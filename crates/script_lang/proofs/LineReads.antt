@@ -1,9 +1,9 @@
 -- A reading that goes on by one line, or by what is there of it.
-use Rattle.std.proofs.Common.{◌≡◌, ◌<◌, ◌≤◌, ◌≢◌, ℕ, ◌+◌, Bool, true, cond, Option, List, [], ◌∷◌, ◌++◌, length, take, drop, sym, ◌∙◌, ap, subst, append-nil, arith, option_to_list, drop-drop, length-drop, Result, Ok, Err, OnErr, IfOk}
+use Rattle.std.proofs.Common.{◌≡◌, ◌<◌, ◌≤◌, ◌≢◌, ℕ, ◌+◌, Bool, true, false, cond, Option, List, [], ◌∷◌, ◌++◌, length, take, drop, sym, ◌∙◌, ap, subst, append-nil, arith, option_to_list, drop-drop, length-drop, Result, Ok, Err, OnErr, IfOk}
 use Rattle.script_lang.specs.declared.command.Command.{Command}
 use Rattle.script_lang.specs.Script.{lines_from, after_line, commands_in}
 use Rattle.script_lang.specs.Place.{Place}
-use Rattle.script_lang.specs.Reading.{Reading, commands_from, to_come, ready}
+use Rattle.script_lang.specs.Reading.{Reading, commands_from, to_come, whole_with, ready}
 use Rattle.script_lang.proofs.Feeds.{to_feed, line_goes_on, feed_there}
 
 pub on_err : {T E : Type 0} (r : Result T E) (P : Type 0) → P → OnErr r P
@@ -47,6 +47,9 @@ module _ (now : Reading) (over : Bool) (place next : Place) (fed slice rest fron
   moved_ready = ap ready (sym view) ∙ ap (commands_from over place) (sym (append-nil (drop at fed))) ∙ from over []
       ∙ ap (commands_from over next) (append-nil (drop (at + count) fed))
 
+  pub moved_whole : (more : List ℕ) → whole_with now more ≡ whole_with (reading over next (drop (at + count) fed)) more
+  moved_whole more = ap (λ (r : Reading). whole_with r more) (sym view) ∙ from false more
+
   module _ (length_is : ℕ) (is_length : length_is ≡ length fed) (inside : at + count ≢ length_is)
       (fits : count ≤ length rest) (within : at ≤ length fed)
       (last : Place) (command : Option Command) (gives : command ≡ (after_line next.block next.line).0)
@@ -71,6 +74,10 @@ module _ (now : Reading) (over : Bool) (place next : Place) (fed slice rest fron
     pub gave : (more : List ℕ)
         → to_come now more ≡ option_to_list command ++ to_come (reading over last (drop (at + count + 1) fed)) more
     gave more = ap (λ (r : Reading). to_come r more) (sym view) ∙ given true (cond over [] more)
+
+    pub gave_whole : (more : List ℕ)
+        → whole_with now more ≡ option_to_list command ++ whole_with (reading over last (drop (at + count + 1) fed)) more
+    gave_whole more = ap (λ (r : Reading). whole_with r more) (sym view) ∙ given false more
 
     pub gave_ready : ready now ≡ option_to_list command ++ ready (reading over last (drop (at + count + 1) fed))
     gave_ready = ap ready (sym view) ∙ ap (commands_from over place) (sym (append-nil (drop at fed))) ∙ given over []

@@ -27,6 +27,10 @@ commands_from over place bytes = commands_in over place.block (lines_from over p
 abbrev pub to_come : Reading → List ℕ → List Command
 to_come reading more = commands_from true reading.place (reading.rest ++ cond reading.over [] more)
 
+-- the commands not yet given that are whole when these bytes are fed, whatever follows
+abbrev pub whole_with : Reading → List ℕ → List Command
+whole_with reading more = commands_from false reading.place (reading.rest ++ more)
+
 -- the commands that are whole by now and not given
 abbrev pub ready : Reading → List Command
 ready reading = commands_from reading.over reading.place reading.rest
@@ -38,6 +42,10 @@ Gives old new command = (more : List ℕ) → to_come old more ≡ option_to_lis
 -- the command, if there is one, is the first of those that are whole
 abbrev pub IsFirstReady : Reading → Reading → Option Command → Type 0
 IsFirstReady old new command = ready old ≡ option_to_list command ++ ready new
+
+-- the command, if there is one, is the first of those that are whole, whatever is still fed
+abbrev pub IsFirstWhole : Reading → Reading → Option Command → Type 0
+IsFirstWhole old new command = (more : List ℕ) → whole_with old more ≡ option_to_list command ++ whole_with new more
 
 -- the same commands are still to come, whatever is still fed
 abbrev pub StillToCome : Reading → Reading → Type 0

@@ -1,5 +1,5 @@
 -- A script as a list of commands: its bytes are cut into lines, and the lines are read as commands and blocks.
-use Rattle.std.specs.Prelude.{ℕ, Bool, true, cond, List, [], ◌∷◌, ◌++◌, ◌==◌, length, nat_lt, ◌≤◌, Option, Some, None, option_to_list, is_some}
+use Rattle.std.specs.Prelude.{ℕ, Bool, true, false, cond, List, [], ◌∷◌, ◌++◌, ◌==◌, length, nat_lt, ◌≤◌, Option, Some, None, option_to_list, is_some}
 use Rattle.script_lang.specs.declared.command.Block.{Block}
 use Rattle.script_lang.specs.declared.command.Block.TheVariants.{Whole, Long}
 use Rattle.script_lang.specs.declared.command.Command.{Command}
@@ -69,6 +69,10 @@ commands_in over block (line ∷ lines) = option_to_list (after_line block line)
 -- the commands of a script
 abbrev pub commands : List ℕ → List Command
 commands bytes = commands_in true None (lines_from true [] bytes)
+
+-- the commands that are whole in the first bytes of a script, whatever follows
+abbrev pub whole : List ℕ → List Command
+whole bytes = commands_in false None (lines_from false [] bytes)
 
 -- a block that is whole keeps the limit
 abbrev pub IsWithin : Block → Type 0

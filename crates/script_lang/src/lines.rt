@@ -1,7 +1,7 @@
 //! The commands of a script that is fed in pieces.
 ghost use Rattle.std.specs.Prelude.{◌≡◌, ◌==◌, ◌<◌, [], true, false, IfOk, IfSome, OnOk, OnErr, length, None};
 ghost use Rattle.script_lang.specs.Script.{KeepsLimit};
-ghost use Rattle.script_lang.specs.Reading.{nothing_read, with_more, Gives, IsFirstReady, StillToCome, StillReady, ready};
+ghost use Rattle.script_lang.specs.Reading.{nothing_read, with_more, Gives, IsFirstReady, IsFirstWhole, StillToCome, StillReady, ready};
 
 use crate::command::Command;
 use crate::cuts::{after, front, place_of};
@@ -80,6 +80,7 @@ impl Lines {
         ensures given { IfOk result (Gives self.old self.new) }
         ensures fits { IfOk result (λ command. IfSome command KeepsLimit) }
         ensures ready { IfOk result (IsFirstReady self.old self.new) }
+        ensures whole { self.old.over ≡ false → IfOk result (IsFirstWhole self.old self.new) }
         ensures none { IfOk result (λ command. command ≡ None → ready self.new ≡ []) }
         ensures kept { OnErr result (StillToCome self.old self.new) }
         ensures kept_ready { OnErr result (StillReady self.old self.new) }
@@ -112,6 +113,7 @@ impl Lines {
         ensures given { IfOk result (Gives self.old self.new) }
         ensures fits { IfOk result (λ command. IfSome command KeepsLimit) }
         ensures ready { IfOk result (IsFirstReady self.old self.new) }
+        ensures whole { IfOk result (IsFirstWhole self.old self.new) }
         ensures kept { OnErr result (StillToCome self.old self.new) }
         ensures kept_ready { OnErr result (StillReady self.old self.new) }
     {

@@ -1,5 +1,5 @@
 use Rattle.std.proofs.Common.{◌∙◌, sym, arith}
-use Rattle.script_lang.proofs.LineReads.{on_err, moved, moved_back, moved_ready, gave, gave_ready}
+use Rattle.script_lang.proofs.LineReads.{on_err, moved, moved_back, moved_ready, moved_whole, gave, gave_ready, gave_whole}
 use Rattle.script_lang.proofs.lines.Lines.read_line.Goals as goal
 
 pub returns-then-self-len-clause-given : goal.returns-then-self-len-clause-given
@@ -10,6 +10,11 @@ returns-then-self-len-clause-given c =
 pub returns-then-self-len-clause-ready : goal.returns-then-self-len-clause-ready
 returns-then-self-len-clause-ready c =
     moved_ready _ _ _ _ _ _ _ _ _ _ c.self.view_is c.as_slice.ensures.value c.after-rest.ensures
+    c.place_of-count.ensures.place c.front.ensures c.in_ok-extend.ensures.ok
+
+pub returns-then-self-len-clause-whole : goal.returns-then-self-len-clause-whole
+returns-then-self-len-clause-whole c =
+    moved_whole _ _ _ _ _ _ _ _ _ _ c.self.view_is c.as_slice.ensures.value c.after-rest.ensures
     c.place_of-count.ensures.place c.front.ensures c.in_ok-extend.ensures.ok
 
 pub returns-in_err-command-clause-kept : goal.returns-in_err-command-clause-kept
@@ -32,6 +37,13 @@ returns-clause-given c =
 pub returns-clause-ready : goal.returns-clause-ready
 returns-clause-ready c =
     gave_ready _ _ _ _ _ _ _ _ _ _ c.self.view_is c.as_slice.ensures.value c.after-rest.ensures
+    c.place_of-count.ensures.place c.front.ensures c.in_ok-extend.ensures.ok
+    c.len.result (omega (arith, c.len.ensures)) c.if-self-len.false c.place_of-count.ensures.within c.self.invariant
+    _ _ c.in_ok-command.ensures.command c.in_ok-command.ensures.ok
+
+pub returns-clause-whole : goal.returns-clause-whole
+returns-clause-whole c =
+    gave_whole _ _ _ _ _ _ _ _ _ _ c.self.view_is c.as_slice.ensures.value c.after-rest.ensures
     c.place_of-count.ensures.place c.front.ensures c.in_ok-extend.ensures.ok
     c.len.result (omega (arith, c.len.ensures)) c.if-self-len.false c.place_of-count.ensures.within c.self.invariant
     _ _ c.in_ok-command.ensures.command c.in_ok-command.ensures.ok
