@@ -1,5 +1,6 @@
 -- How a session goes on from command to command.
 use Rattle.std.proofs.Common.{◌≡◌, inl, inr, ℕ, List, [], ◌∷◌, ◌++◌, length, take, refl, sym, ◌∙◌, ap, subst, append-nil, arith, Result, Ok, Err, OnOk}
+use Rattle.std.proofs.Math.Seq.{take-append_seam}
 use Rattle.site_core.specs.Disk.{Files, Disk}
 use Rattle.site_core.specs.Moments.{LeavesOnly}
 use Rattle.site_core.proofs.Run.{each_moment, started, joined, wider}
@@ -95,10 +96,6 @@ finished_at (Ok x) session disk w cs rest ready before all onward none is same =
     subst (λ (l : List Command). Finished disk w l before) (sym same) (all_done session disk w cs rest before onward (is none))
 finished_at (Err e) session disk w cs rest ready before all onward none is same = tt
 
-take_front : (front rest : List ℕ) → take (length front) (front ++ rest) ≡ front
-take_front [] rest = refl
-take_front (b ∷ front) rest = ap (λ bs. b ∷ bs) (take_front front rest)
-
 -- what was told in the end
 pub told_front : (old new : Disk) (w : World) (cs : List Command) → LeavesOnly old new (AfterRun w cs old)
     → new.left_since old.clock new.told new.files → TellsFront (replies_from w cs) old.told new.told
@@ -106,7 +103,7 @@ told_front old new w cs run now = elim (run.each new.told new.files now) [
   | inl a ↦ (
     length a.front,
     a.tells
-        ∙ ap (λ (l : List ℕ). old.told ++ l) (sym (ap (take (length a.front)) a.prefix ∙ take_front a.front a.rest)),
+        ∙ ap (λ (l : List ℕ). old.told ++ l) (sym (ap (take (length a.front)) a.prefix ∙ take-append_seam a.front a.rest)),
   )
   | inr same ↦ (0, same.0 ∙ sym (append-nil old.told))
 ]

@@ -1,5 +1,6 @@
 -- Pieces that a source gives, and the commands that are then to come.
-use Rattle.std.proofs.Common.{◌≡◌, ◌≤◌, ◌+◌, ℕ, List, [], ◌++◌, length, take, sym, ◌∙◌, ap, arith, length-append, length-take}
+use Rattle.std.proofs.Common.{◌≡◌, ◌≤◌, ◌+◌, ℕ, List, [], ◌++◌, length, take, sym, ◌∙◌, ap, arith, append_assoc, length-append, length-take}
+use Rattle.std.proofs.Math.Seq.{take-append_seam}
 use Rattle.site_core.specs.Pull.{Gives}
 use Rattle.script_lang.specs.Reading.{Reading, to_come}
 
@@ -8,6 +9,38 @@ module _ (old new into : List ℕ) (count : ℕ) (gives : Gives old new count in
   pub given_more : (taken all : ℕ) → count ≤ length into → all ≡ taken + length old → all ≡ taken + count + length new
   given_more taken all short given =
       omega (arith, given, ap length gives.bytes, length-append (take count into) new, length-take count into)
+
+  -- these bytes of the script were given before, and the others were left
+  module _ (script : List ℕ) (taken : ℕ) (fits : count ≤ length into) (cut : script ≡ take taken script ++ old)
+      (given : length script ≡ taken + length old) where
+    abbrev front : List ℕ
+    front = take taken script ++ take count into
+
+    all : script ≡ front ++ new
+    all = cut ∙ ap (λ (l : List ℕ). take taken script ++ l) gives.bytes ∙ sym (append_assoc (take taken script) (take count into) new)
+
+    -- the bytes that were given with this pull too
+    front_is : take (taken + count) script ≡ front
+    front_is =
+        let long : length front ≡ taken + count = omega (
+          arith,
+          given,
+          fits,
+          ap length cut,
+          length-append (take taken script) old,
+          length-append (take taken script) (take count into),
+          length-take count into,
+        ) in
+        ap (λ n. take n script) (sym long) ∙ ap (take (length front)) all ∙ take-append_seam front new
+
+    pub piece_left : script ≡ take (taken + count) script ++ new
+    piece_left = all ∙ ap (λ (l : List ℕ). l ++ new) (sym front_is)
+
+    pub piece_taken : (buffer more : List ℕ) → buffer ≡ into
+        → take taken script ++ (take count buffer ++ more) ≡ take (taken + count) script ++ more
+    piece_taken buffer more same =
+        sym (append_assoc (take taken script) (take count buffer) more)
+        ∙ ap (λ (l : List ℕ). (take taken script ++ take count l) ++ more) same ∙ ap (λ (l : List ℕ). l ++ more) (sym front_is)
 
   -- the piece is still to be fed, and then what is left
   pub piece_to_come : (reading : Reading) (buffer : List ℕ) → buffer ≡ into

@@ -1,5 +1,5 @@
 -- What a load of the store makes of the plain machine's world.
-use Rattle.std.proofs.Common.{◌≡◌, ◌<◌, ◌+◌, ◌++◌, ℕ, List, length, inl, inr, Some, sym, ◌∙◌, ap, subst, arith, length-append}
+use Rattle.std.proofs.Common.{◌≡◌, ◌<◌, ◌+◌, ◌++◌, List, length, inl, inr, Some, sym, ◌∙◌, ap, subst, arith, length-append}
 use Rattle.site_core.specs.Disk.{Files, Disk}
 use Rattle.site_core.specs.Moments.{LeavesOnly, IsStable}
 use Rattle.site_core.proofs.Run.{wider}

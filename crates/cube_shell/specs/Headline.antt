@@ -1,11 +1,11 @@
 -- The headline: what a run over a script tells, and what a stop at any moment of it may leave.
-use Rattle.std.specs.Prelude.{◌≡◌, ◌⊎◌, ℕ, ◌+◌, ◌-◌, ◌≤◌, Bool, cond, List, [], ◌∷◌, ◌++◌, length, nat_lt, nat_le, Some, None, slice_get}
+use Rattle.std.specs.Prelude.{◌≡◌, ◌⊎◌, ℕ, ◌+◌, ◌-◌, ◌≤◌, ◌<◌, Bool, cond, List, [], ◌∷◌, ◌++◌, length, take, nat_lt, nat_le, Some, None, slice_get}
 use Rattle.site_core.specs.Disk.{Files, Disk}
 use Rattle.site_core.specs.Calls.{TellsFront}
 use Rattle.site_core.specs.Moments.{LeavesOnly}
 use Rattle.cube_shell.specs.declared.status.Status.{Status}
 use Rattle.cube_shell.specs.declared.status.Status.TheVariants.{Done}
-use Rattle.script_lang.specs.Script.{commands}
+use Rattle.script_lang.specs.Script.{commands, whole}
 use Rattle.script_lang.specs.declared.command.Command.{Command}
 use Rattle.cube_shell.specs.Machine.{act}
 use Rattle.cube_shell.specs.World.{World}
@@ -93,3 +93,11 @@ pub record Headline (world : World) (script left : List ℕ) (start now : Disk) 
   pub read : status ≡ Done → left ≡ []
   -- a stop at any moment leaves a front of the replies, and files that keep what is acknowledged
   pub any_stop : LeavesOnly start now (AfterRun world (commands script) start)
+
+-- A run that passed its limit: the commands that are whole in the bytes before the pull that passed it were carried out, and of
+-- that pull no byte was looked at. A pull gives at most 65,536 bytes.
+pub record LeftOff (now : Disk) (world : World) (script : List ℕ) (limit : ℕ) (before : List ℕ) : Type 0 where
+  pub looked_at : ℕ
+  pub within : looked_at ≤ limit
+  pub last_pull : limit < looked_at + 65536
+  pub finished : Finished now world (whole (take looked_at script)) before

@@ -1,10 +1,10 @@
 //! The commands of a script, carried out one after the other while its pieces come.
 ghost use Rattle.std.specs.Prelude.{◌≡◌, ◌≤◌, ◌+◌, ◌^◌, ◌↔◌, ◌++◌, ℕ, List, [], false, IsTrue, OnOk, IfErr, IsErrOf};
 ghost use Rattle.site_core.specs.Moments.{LeavesOnly};
-ghost use Rattle.script_lang.specs.Reading.{ready, to_come};
+ghost use Rattle.script_lang.specs.Reading.{ready, to_come, whole_with};
 ghost use Rattle.script_lang.specs.Script.{commands};
 ghost use Rattle.cube_shell.specs.Ends.{EndCause, StopCause, Stayed, IsNoDamage, IsUndamaged, faults};
-ghost use Rattle.cube_shell.specs.Headline.{AfterStop, Finished};
+ghost use Rattle.cube_shell.specs.Headline.{AfterStop, Finished, LeftOff};
 ghost use Rattle.cube_shell.specs.Pulls.{Gave, GaveAtMost};
 ghost use Rattle.cube_shell.specs.Session.{IsFit, IsRunning, Onward, Stands};
 ghost use Rattle.cube_shell.specs.World.{World};
@@ -39,6 +39,8 @@ pub fn serve<S: Source, T: Site>(
     ensures read { IsTrue S.tells → OnOk result (S.left source.new ≡ []) }
     ensures too_long { IsTrue S.tells
         → (IsErrOf result Status.TooLong ↔ Gave (S.left source.old) (S.left source.new) (limit + 1)) }
+    ensures left_off { IsTrue S.tells → IsTrue T.tells → (world : World) → Stands session.old.state (T.disk site.old) world
+        → IsErrOf result Status.TooLong → LeftOff (T.disk site.new) world (S.left source.old) limit (T.disk site.old).told }
     ensures bounded { IsTrue S.tells → GaveAtMost (S.left source.old) (S.left source.new) (limit + 1) }
     ensures no_usage { IsErrOf result Status.Usage → ⊥ }
     ensures cause { IfErr result (EndCause (faults (S.faults source.old) (T.disk_faults site.old) (T.told_faults site.old))
@@ -77,6 +79,10 @@ fn take_piece<T: Site>(
     ensures onward { IsTrue T.tells → (world : World) (more : List ℕ) → Stands session.old.state (T.disk site.old) world
         → OnOk result (Onward session.new.state (T.disk site.new) world (to_come lines.old (piece.now ++ more))
         (T.disk site.old).told (to_come lines.new more)) }
+    ensures whole { IsTrue T.tells → (world : World) (more : List ℕ) → Stands session.old.state (T.disk site.old) world
+        → OnOk result (Onward session.new.state (T.disk site.new) world (whole_with lines.old (piece.now ++ more))
+        (T.disk site.old).told (whole_with lines.new more)) }
+    ensures ready { OnOk result (ready lines.new ≡ []) }
     ensures any_moment { IsTrue T.tells → (world : World) (more : List ℕ) → Stands session.old.state (T.disk site.old) world
         → LeavesOnly (T.disk site.old) (T.disk site.new)
         (AfterStop world (to_come lines.old (piece.now ++ more)) (T.disk site.old).told) }
@@ -123,6 +129,9 @@ fn carry_out<T: Site>(session: &mut Session, lines: &mut Lines, site: &mut T) ->
     ensures onward { IsTrue T.tells → (world : World) (more : List ℕ) → Stands session.old.state (T.disk site.old) world
         → OnOk result (Onward session.new.state (T.disk site.new) world (to_come lines.old more) (T.disk site.old).told
         (to_come lines.new more)) }
+    ensures whole { IsTrue T.tells → lines.old.over ≡ false → (world : World) (more : List ℕ)
+        → Stands session.old.state (T.disk site.old) world → OnOk result (Onward session.new.state (T.disk site.new) world
+        (whole_with lines.old more) (T.disk site.old).told (whole_with lines.new more)) }
     ensures any_moment { IsTrue T.tells → (world : World) (more : List ℕ) → Stands session.old.state (T.disk site.old) world
         → LeavesOnly (T.disk site.old) (T.disk site.new) (AfterStop world (to_come lines.old more) (T.disk site.old).told) }
     ensures undamaged { IsTrue T.tells → (world : World) → Stands session.old.state (T.disk site.old) world

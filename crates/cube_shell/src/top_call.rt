@@ -7,7 +7,7 @@ ghost use Rattle.forest_store.specs.Opening.{Place};
 ghost use Rattle.script_lang.specs.Script.{commands};
 ghost use Rattle.cube_shell.specs.Damage.{EndsAt};
 ghost use Rattle.cube_shell.specs.Ends.{EndCause, StatusCause, Stayed, IsDoneOrMemory, IsUndamaged, faults};
-ghost use Rattle.cube_shell.specs.Headline.{AfterRun, Finished, Headline};
+ghost use Rattle.cube_shell.specs.Headline.{AfterRun, Finished, Headline, LeftOff};
 ghost use Rattle.cube_shell.specs.Keeps.{Keeps};
 ghost use Rattle.cube_shell.specs.Pulls.{Gave, GaveAtMost};
 ghost use Rattle.cube_shell.specs.World.{World};
@@ -49,6 +49,8 @@ pub fn run<S: Source, T: Site>(
     ensures untouched { result ≡ Status.Usage → site.new ≡ site.old }
     ensures too_long { IsTrue S.tells
         → ((result ≡ Status.TooLong) ↔ Gave (S.left source.old) (S.left source.new) (2 ^ 30 + 1)) }
+    ensures left_off { IsTrue S.tells → IsTrue T.tells → (world : World) → Keeps (T.disk site.old).files world
+        → result ≡ Status.TooLong → LeftOff (T.disk site.new) world (S.left source.old) (2 ^ 30) (T.disk site.old).told }
     ensures bounded { IsTrue S.tells → GaveAtMost (S.left source.old) (S.left source.new) (2 ^ 30 + 1) }
     ensures cause { StatusCause (faults (S.faults source.old) (T.disk_faults site.old) (T.told_faults site.old))
         (faults (S.faults source.new) (T.disk_faults site.new) (T.told_faults site.new)) result }
@@ -87,6 +89,8 @@ pub fn run_within<S: Source, T: Site>(
     ensures untouched { result ≡ Status.Usage → site.new ≡ site.old }
     ensures too_long { IsTrue S.tells
         → ((result ≡ Status.TooLong) ↔ Gave (S.left source.old) (S.left source.new) (limit + 1)) }
+    ensures left_off { IsTrue S.tells → IsTrue T.tells → (world : World) → Keeps (T.disk site.old).files world
+        → result ≡ Status.TooLong → LeftOff (T.disk site.new) world (S.left source.old) limit (T.disk site.old).told }
     ensures bounded { IsTrue S.tells → GaveAtMost (S.left source.old) (S.left source.new) (limit + 1) }
     ensures cause { StatusCause (faults (S.faults source.old) (T.disk_faults site.old) (T.told_faults site.old))
         (faults (S.faults source.new) (T.disk_faults site.new) (T.told_faults site.new)) result }
@@ -124,6 +128,8 @@ fn attempt<S: Source, T: Site>(
     ensures untouched { words.now ≢ [] → site.new ≡ site.old }
     ensures too_long { IsTrue S.tells
         → (IsErrOf result Status.TooLong ↔ Gave (S.left source.old) (S.left source.new) (limit + 1)) }
+    ensures left_off { IsTrue S.tells → IsTrue T.tells → (world : World) → Keeps (T.disk site.old).files world
+        → IsErrOf result Status.TooLong → LeftOff (T.disk site.new) world (S.left source.old) limit (T.disk site.old).told }
     ensures bounded { IsTrue S.tells → GaveAtMost (S.left source.old) (S.left source.new) (limit + 1) }
     ensures cause { IfErr result (EndCause (faults (S.faults source.old) (T.disk_faults site.old) (T.told_faults site.old))
         (faults (S.faults source.new) (T.disk_faults site.new) (T.told_faults site.new))) }

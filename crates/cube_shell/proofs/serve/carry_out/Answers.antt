@@ -1,6 +1,6 @@
 use Rattle.std.proofs.Common.{◌∙◌, ◌++◌, refl, ap, Option, option_to_list, [], rules}
 use Rattle.script_lang.specs.declared.command.Command.{Command}
-use Rattle.script_lang.specs.Reading.{to_come}
+use Rattle.script_lang.specs.Reading.{to_come, whole_with}
 use Rattle.cube_shell.specs.Ends.{IsNoDamage}
 use Rattle.cube_shell.proofs.Going.{started_moments, started_onward, more_moments, more_onward}
 use Rattle.cube_shell.proofs.serve.carry_out.Goals as goal
@@ -12,6 +12,8 @@ loop-command-init g c = record {
   over = refl;
   onward = λ t world more stands.
       started_onward c.args.session.now.state (g.T.Site.disk c.args.site.now) world (to_come c.args.lines.now more) stands;
+  whole = λ t over world more stands.
+      started_onward c.args.session.now.state (g.T.Site.disk c.args.site.now) world (whole_with c.args.lines.now more) stands;
   any_moment = λ t world more stands.
       started_moments c.args.session.now.state (g.T.Site.disk c.args.site.now) world (to_come c.args.lines.now more) stands
       (λ told files. g.met.T.Site.only_now c.args.site.now told files t);
@@ -30,6 +32,14 @@ loop-command-preserved g c = record {
       more_onward (g.T.Site.disk c.args.site.now) (g.T.Site.disk c.loop-command.site) (g.T.Site.disk c.command.new.site) _ world _
       c.in-Some.command _ rest o
       (c.in_ok-command.ensures.given more ∙ ap (λ (o : Option Command). option_to_list o ++ rest) c.in-Some.is)
+      c.command.new.self.state (c.in_ok-command-2.ensures.stands t o.now o.stands) (c.in_ok-command-2.ensures.told t o.now o.stands);
+  whole = λ t over world more stands.
+      let o = c.loop-command.invariant.whole t over world more stands in
+      let rest = whole_with c.next_command.new.self more in
+      more_onward (g.T.Site.disk c.args.site.now) (g.T.Site.disk c.loop-command.site) (g.T.Site.disk c.command.new.site) _ world _
+      c.in-Some.command _ rest o
+      (c.in_ok-command.ensures.whole (c.loop-command.invariant.over ∙ over) more
+      ∙ ap (λ (o : Option Command). option_to_list o ++ rest) c.in-Some.is)
       c.command.new.self.state (c.in_ok-command-2.ensures.stands t o.now o.stands) (c.in_ok-command-2.ensures.told t o.now o.stands);
   any_moment = λ t world more stands.
       let o = c.loop-command.invariant.onward t world more stands in

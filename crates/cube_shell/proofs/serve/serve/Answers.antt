@@ -1,9 +1,11 @@
-use Rattle.std.proofs.Common.{◌∙◌, refl, sym, ap, subst, [], arith}
-use Rattle.script_lang.specs.Script.{commands}
-use Rattle.script_lang.specs.Reading.{Reading, to_come}
+use Rattle.std.proofs.Common.{◌∙◌, ◌++◌, ℕ, List, take, refl, sym, ap, subst, [], arith, append-nil}
+use Rattle.script_lang.specs.Script.{commands, whole}
+use Rattle.script_lang.proofs.Feeding.{none_whole}
+use Rattle.script_lang.specs.Reading.{Reading, to_come, whole_with}
+use Rattle.cube_shell.specs.Headline.{Finished}
 use Rattle.cube_shell.specs.Session.{Onward}
-use Rattle.cube_shell.proofs.Going.{started_moments, started_onward, then_moments, then_onward}
-use Rattle.cube_shell.proofs.Pieces.{given_more, piece_to_come, end_to_come}
+use Rattle.cube_shell.proofs.Going.{all_done, started_moments, started_onward, then_moments, then_onward}
+use Rattle.cube_shell.proofs.Pieces.{given_more, piece_left, piece_taken, piece_to_come, end_to_come}
 use Rattle.cube_shell.proofs.Statuses.{not_too_long}
 use Rattle.cube_shell.proofs.serve.serve.Goals as goal
 
@@ -28,6 +30,11 @@ loop-buffer-init g c =
       onward = λ s t world stands.
           subst (λ (r : Reading). Onward c.args.session.now.state disk world (commands left) disk.told (to_come r left))
           (sym c.new-lines.ensures) (started_onward c.args.session.now.state disk world (commands left) stands);
+      left = λ s. refl;
+      whole = λ s t world more stands.
+          subst (λ (r : Reading). Onward c.args.session.now.state disk world (whole more) disk.told (whole_with r more))
+          (sym c.new-lines.ensures) (started_onward c.args.session.now.state disk world (whole more) stands);
+      none = ap (λ (r : Reading). whole_with r []) c.new-lines.ensures;
       any_moment = λ s t world stands. started_moments c.args.session.now.state disk world (commands left) stands
           (λ told files. g.met.T.Site.only_now c.args.site.now told files t);
       faults = refl;
@@ -67,6 +74,19 @@ loop-buffer-preserved g c = record {
       then_onward (g.T.Site.disk c.args.site.now) (g.T.Site.disk c.loop-buffer.site) (g.T.Site.disk c.take_piece.new.site) _ world _ _ _ _
       o (piece_to_come _ _ _ _ (c.in_ok-count.ensures.bytes s) c.loop-buffer.lines c.deref.result.now c.deref.ensures.value)
       c.take_piece.new.session.state (c.in_ok-take_piece.ensures.onward t o.now (g.S.Source.left c.pull.new.source) o.stands);
+  left = λ s. piece_left _ _ _ c.in_ok-count.count (c.in_ok-count.ensures.bytes s) (g.S.Source.left c.args.source.now) c.loop-buffer.taken
+      (omega (arith, c.in_ok-count.ensures.bound)) (c.loop-buffer.invariant.left s) (c.loop-buffer.invariant.given s);
+  whole = λ s t world more stands.
+      let script = g.S.Source.left c.args.source.now in
+      let o = c.loop-buffer.invariant.whole s t world (take c.in_ok-count.count c.deref.result.now ++ more) stands in
+      subst (λ (bytes : List ℕ). Onward c.take_piece.new.session.state (g.T.Site.disk c.take_piece.new.site) world (whole bytes)
+      (g.T.Site.disk c.args.site.now).told (whole_with c.take_piece.new.lines more))
+      (piece_taken _ _ _ c.in_ok-count.count (c.in_ok-count.ensures.bytes s) script c.loop-buffer.taken
+      (omega (arith, c.in_ok-count.ensures.bound)) (c.loop-buffer.invariant.left s) (c.loop-buffer.invariant.given s)
+      c.deref.result.now more c.deref.ensures.value)
+      (then_onward (g.T.Site.disk c.args.site.now) (g.T.Site.disk c.loop-buffer.site) (g.T.Site.disk c.take_piece.new.site) _ world _ _ _ _
+      o refl c.take_piece.new.session.state (c.in_ok-take_piece.ensures.whole t o.now more o.stands));
+  none = none_whole c.take_piece.new.lines c.take_piece.ensures.goes_on c.in_ok-take_piece.ensures.ready;
   any_moment = λ s t world stands.
       let o = c.loop-buffer.invariant.onward s t world stands in
       then_moments (g.T.Site.disk c.args.site.now) (g.T.Site.disk c.loop-buffer.site) (g.T.Site.disk c.take_piece.new.site) _ world _ _ _ []
@@ -93,3 +113,24 @@ returns-in_err-take_piece-clause-too_long g c = λ s.
       λ h. absurd (not_too_long _ c.in_err-take_piece.field-0.0 c.from_residual-in_err-take_piece.ensures.1 h),
       λ h. absurd (omega (arith, given, h, c.if-taken-limit.false)),
     )
+
+pub returns-then-taken-limit-clause-left_off : goal.returns-then-taken-limit-clause-left_off
+returns-then-taken-limit-clause-left_off g c = λ s t world stands is.
+    let script = g.S.Source.left c.args.source.now in
+    let seen = take c.loop-buffer.taken script in
+    let o = c.loop-buffer.invariant.whole s t world [] stands in
+    record {
+      looked_at = c.loop-buffer.taken;
+      within = c.loop-buffer.invariant.taken;
+      last_pull = omega (arith, c.if-taken-limit.true, c.in_ok-count.ensures.bound, c.pull.ensures.room, c.truncate.ensures.len, c.loop-buffer.invariant.piece);
+      finished = subst (λ (bytes : List ℕ). Finished (g.T.Site.disk c.loop-buffer.site) world (whole bytes) (g.T.Site.disk c.args.site.now).told)
+          (append-nil seen) (all_done _ (g.T.Site.disk c.loop-buffer.site) world (whole (seen ++ [])) _ _ o c.loop-buffer.invariant.none);
+    }
+
+pub returns-in_err-take_end-clause-left_off : goal.returns-in_err-take_end-clause-left_off
+returns-in_err-take_end-clause-left_off g c = λ s t world stands is.
+    absurd (not_too_long _ c.in_err-take_end.field-0.0 c.from_residual-in_err-take_end.ensures.1 is)
+
+pub returns-in_err-take_piece-clause-left_off : goal.returns-in_err-take_piece-clause-left_off
+returns-in_err-take_piece-clause-left_off g c = λ s t world stands is.
+    absurd (not_too_long _ c.in_err-take_piece.field-0.0 c.from_residual-in_err-take_piece.ensures.1 is)

@@ -1,7 +1,7 @@
-use Rattle.std.proofs.Common.{◌≡◌, ◌≤◌, ◌<◌, ◌+◌, ◌-◌, IsTrue, false, length, vec_len}
+use Rattle.std.proofs.Common.{◌≡◌, ◌≤◌, ◌<◌, ◌+◌, ◌-◌, ◌++◌, ℕ, List, [], IsTrue, false, take, length, vec_len}
 use Rattle.site_core.specs.Moments.{LeavesOnly}
-use Rattle.script_lang.specs.Reading.{to_come}
-use Rattle.script_lang.specs.Script.{commands}
+use Rattle.script_lang.specs.Reading.{to_come, whole_with}
+use Rattle.script_lang.specs.Script.{commands, whole}
 use Rattle.cube_shell.specs.Headline.{AfterStop}
 use Rattle.cube_shell.specs.Session.{IsFit, IsRunning, Onward, Stands}
 use Rattle.cube_shell.specs.World.{World}
@@ -23,6 +23,12 @@ invariant-loop-buffer g l = record {
       → Stands l.fn.session.state (g.T.Site.disk l.fn.site) world
       → Onward l.session.state (g.T.Site.disk l.site) world (commands (g.S.Source.left l.fn.source))
       (g.T.Site.disk l.fn.site).told (to_come l.lines (g.S.Source.left l.source));
+  left : IsTrue g.S.Source.tells → g.S.Source.left l.fn.source ≡ take l.taken (g.S.Source.left l.fn.source) ++ g.S.Source.left l.source;
+  whole : IsTrue g.S.Source.tells → IsTrue g.T.Site.tells → (world : World) (more : List ℕ)
+      → Stands l.fn.session.state (g.T.Site.disk l.fn.site) world
+      → Onward l.session.state (g.T.Site.disk l.site) world (whole (take l.taken (g.S.Source.left l.fn.source) ++ more))
+      (g.T.Site.disk l.fn.site).told (whole_with l.lines more);
+  none : whole_with l.lines [] ≡ [];
   any_moment : IsTrue g.S.Source.tells → IsTrue g.T.Site.tells → (world : World)
       → Stands l.fn.session.state (g.T.Site.disk l.fn.site) world
       → LeavesOnly (g.T.Site.disk l.fn.site) (g.T.Site.disk l.site)
