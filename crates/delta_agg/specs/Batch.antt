@@ -20,7 +20,7 @@ HasPlace view coordinates = All (λ a. 1 ≤ slice_index coordinates a) view
 abbrev pub HasNumbers : ℕ → Fact → Type 0
 HasNumbers measures x = length x.measures ≡ measures
 
--- the sums of all measures fit, over whichever of the facts
+-- the masses of the first four measures are within the limit
 abbrev pub KeepMasses : List Fact → Type 0
 KeepMasses facts = (m : ℕ) → m < 4 → mass m facts ≤ mass_limit
 

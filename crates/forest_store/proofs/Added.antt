@@ -12,11 +12,11 @@ use Rattle.leaf_points.specs.Storable.{AreStorable}
 use Rattle.select_map.specs.declared.mapping.Mapping.{Mapping}
 use Rattle.select_map.specs.Views.{selected}
 use Rattle.select_map.specs.Selection.{no_tree, tree_of}
+use Rattle.delta_agg.specs.Batch.{KeepMasses}
 use Rattle.delta_agg.specs.Trees.{named_tree}
 use Rattle.forest_root.specs.declared.forest.Forest.{Forest}
 use Rattle.forest_root.specs.Forest.{place_of, shape_of}
 use Rattle.forest_pages.proofs.Deltas.{delta-few, delta-points}
-use Rattle.forest_store.specs.Held.{HasMasses}
 use Rattle.forest_store.specs.Next.{added}
 use Rattle.forest_store.specs.Trees.{AreAdded, AreAllAdded, deltas_of}
 
@@ -49,5 +49,5 @@ at_four f (suc (suc (suc zero))) low = refl
 at_four f (suc (suc (suc (suc k)))) low = absurd (omega arith)
 
 -- where the masses of old facts and a batch are within the limit, so are those of the batch
-pub batch-masses : (old masses : List ℕ) (batch : List Fact) → masses ≡ added old batch → ((m : ℕ) → m < 4 → slice_index masses m ≤ mass_limit) → HasMasses batch
+pub batch-masses : (old masses : List ℕ) (batch : List Fact) → masses ≡ added old batch → ((m : ℕ) → m < 4 → slice_index masses m ≤ mass_limit) → KeepMasses batch
 batch-masses old masses batch is within = λ m low. omega (arith, within m low, ap (λ (l : List ℕ). slice_index l m) is, at_four (λ k. slice_index old k + mass k batch) m low)

@@ -20,9 +20,10 @@ use Rattle.view_points.specs.Codes.{names, names_of}
 use Rattle.view_points.specs.Points.{Names}
 use Rattle.view_points.specs.Agree.{IsCoded}
 use Rattle.view_points.proofs.Codes.{own-names}
+use Rattle.delta_agg.specs.Batch.{KeepMasses}
 use Rattle.leaf_points.specs.Storable.{AreStorable}
 use Rattle.forest_root.specs.Body.{max_facts}
-use Rattle.forest_store.specs.Held.{AreAccepted, HasMasses}
+use Rattle.forest_store.specs.Held.{AreAccepted}
 
 -- the kind of an attribute, from the list of kinds
 kinds_same : (schema : Schema) (a : ℕ) → a < length schema.attrs → (get_or schema.attrs a no_attr).kind ≡ kind_at (no_names schema) a
@@ -32,7 +33,7 @@ kinds_same schema a low = sym (get_or-map (λ (attr : Attr). attr.kind) schema.a
 
 -- facts of the schema whose codes are small
 pub storable_by : (schema : Schema) (names : Names) (facts : List Fact) → All (Agrees schema) facts → All (IsCoded names) facts → All (HasSmallCodes names) facts
-    → length facts ≤ max_facts → HasMasses facts → AreStorable names (measure_count schema) facts
+    → length facts ≤ max_facts → KeepMasses facts → AreStorable names (measure_count schema) facts
 storable_by schema names facts agree coded small few masses = record {
   coded = coded;
   narrow = λ i d low. λ a. omega (arith, small i d low a);

@@ -1,15 +1,16 @@
 -- What the files of a warehouse hold of a list of facts.
-use Rattle.std.specs.Prelude.{ℕ, ◌<◌, ◌≤◌, List, [], ◌∷◌, ◌++◌, length, map}
+use Rattle.std.specs.Prelude.{ℕ, ◌≤◌, List, [], ◌∷◌, ◌++◌, length, map}
 use Rattle.std.specs.List.{All}
 use Rattle.site_core.specs.Disk.{Files}
 use Rattle.fact_model.specs.declared.fact.Fact.{Fact}
-use Rattle.fact_model.specs.Fact.{mass, mass_limit}
+use Rattle.fact_model.specs.Fact.{mass}
 use Rattle.view_points.specs.Codes.{names, names_of}
 use Rattle.cube_schema.specs.declared.schema.Schema.{Schema}
 use Rattle.cube_schema.specs.Agreeing.{Agrees}
 use Rattle.cube_schema.specs.Kinds.{max_at}
 use Rattle.cube_schema.specs.Writing.{canonical}
 use Rattle.attr_dict.specs.Admitting.{entries_text}
+use Rattle.delta_agg.specs.Batch.{KeepMasses}
 use Rattle.forest_root.specs.declared.body.Body.{Body}
 use Rattle.forest_root.specs.Body.{max_facts}
 use Rattle.forest_root.specs.Keeps.{Held, LiveAt, Keeps}
@@ -23,16 +24,12 @@ masses_of facts = map (λ m. mass m facts) (0 ∷ 1 ∷ 2 ∷ 3 ∷ [])
 abbrev pub HasNames : Schema → List Fact → Type 0
 HasNames schema facts = (a : ℕ) → length (names_of facts a) ≤ max_at schema a
 
--- all masses are within the limit
-abbrev pub HasMasses : List Fact → Type 0
-HasMasses facts = (m : ℕ) → m < 4 → mass m facts ≤ mass_limit
-
 -- facts that the schema accepts: they agree with it, and keep its limits
 pub record AreAccepted (schema : Schema) (facts : List Fact) : Type 0 where
   pub each : All (Agrees schema) facts
   pub few : length facts ≤ max_facts
   pub named : HasNames schema facts
-  pub masses : HasMasses facts
+  pub masses : KeepMasses facts
 
 -- the schema's text, and an entry for each name
 abbrev pub names_text : Schema → List Fact → List ℕ

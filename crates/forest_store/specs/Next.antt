@@ -17,7 +17,7 @@ use Rattle.attr_dict.specs.Admitting.{HasSmallCodes, Lists, entries_text, fresh,
 use Rattle.attr_dict.specs.Book.{Book, names_at}
 use Rattle.attr_dict.specs.declared.admit.DictRefusal.{DictRefusal}
 use Rattle.attr_dict.specs.declared.admit.DictRefusal.TheVariants as dicts
-use Rattle.delta_agg.specs.Batch.{AreCodedBy}
+use Rattle.delta_agg.specs.Batch.{AreCodedBy, KeepMasses}
 use Rattle.delta_agg.specs.Trees.{HasCoordinates}
 use Rattle.view_points.specs.Agree.{IsCoded}
 use Rattle.view_points.specs.Codes.{Text, named, names, same_entry}
@@ -31,7 +31,7 @@ use Rattle.forest_store.specs.declared.plan.PlanStop.{PlanStop}
 use Rattle.forest_store.specs.declared.plan.PlanStop.TheVariants as stops
 use Rattle.forest_commit.specs.Commit.{IsPages, slot_of}
 use Rattle.forest_pages.specs.Forest.{body_counts, forest}
-use Rattle.forest_store.specs.Held.{AreAccepted, HasMasses, held, names_text}
+use Rattle.forest_store.specs.Held.{AreAccepted, held, names_text}
 use Rattle.forest_store.specs.Opening.{page_total, side_of}
 use Rattle.forest_store.specs.Opened.{IsNoDamage, NamesPlace}
 use Rattle.forest_store.specs.Loading.{IsRefused}
@@ -169,4 +169,4 @@ first_body schema = record {
 -- all facts are few enough, and their masses are within the limit
 pub record KeepsLimits (all : List Fact) : Type 0 where
   pub few : length all ≤ max_facts
-  pub masses : HasMasses all
+  pub masses : KeepMasses all
