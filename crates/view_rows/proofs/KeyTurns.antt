@@ -9,8 +9,8 @@ use Rattle.fact_model.specs.Value.{Key, key_cmp}
 use Rattle.fact_model.proofs.ValueOrder.{key_cmp-IsAntisymmetric}
 use Rattle.cube_point.specs.declared.point.Entry.{Entry}
 use Rattle.view_points.specs.Points.{View}
+use Rattle.view_points.specs.Squeezed.{squeezed}
 use Rattle.view_points.proofs.Cells.{join-assoc}
-use Rattle.view_points.proofs.Sorts.{squeezed}
 use Rattle.attr_dict.specs.Book.{Book}
 use Rattle.delta_agg.proofs.Squeezing.{squeezed-same, squeezed-other}
 use Rattle.delta_agg.specs.Joins.{both}
