@@ -2,7 +2,7 @@
 ghost use Rattle.std.specs.Prelude.{◌≡◌, IsTrue, OnOk, IfOk, IfErr, Ok, Some, length};
 ghost use Rattle.std.specs.List.{All};
 ghost use Rattle.cube_schema.specs.Agreeing.{Agrees};
-ghost use Rattle.cube_schema.specs.Kinds.{name_at};
+ghost use Rattle.cube_schema.specs.Kinds.{name_at, measure_name_at};
 ghost use Rattle.forest_store.specs.Opened.{IsOpened};
 ghost use Rattle.cube_shell.specs.Ends.{IsNoDamage, StopCause};
 ghost use Rattle.cube_shell.specs.Machine.{accepted, load};
@@ -10,7 +10,7 @@ ghost use Rattle.cube_shell.specs.Session.{Belongs, Between, IsAnswer, IsFit, Is
 ghost use Rattle.cube_shell.specs.Told.{LoadTells, TellsBatchDamage, TellsBlockDamage};
 ghost use Rattle.cube_shell.specs.World.{Warehouse, World};
 ghost use Rattle.reply_text.specs.Replies.{committed_text};
-ghost use Rattle.cube_shell.specs.Refusals.{measure_name, refusal_text};
+ghost use Rattle.cube_shell.specs.Refusals.{refusal_text};
 
 use crate::answered::{Answered, plain};
 use crate::state::State;
@@ -172,7 +172,7 @@ fn refuse(alloc: Global, store: Store, refusal: Refusal) -> Result<Answered, Sto
 
 /// The name of a measure; empty where there is none.
 fn measure_name(schema: &Schema, measure: u32) -> &[u8]
-    ensures { result.now ≡ measure_name schema.now measure }
+    ensures { result.now ≡ measure_name_at schema.now measure }
 {
     match schema.measures.get(measure as usize) {
         Some(name) => name.as_bytes(),

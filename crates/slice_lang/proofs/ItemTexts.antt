@@ -15,7 +15,7 @@ use Rattle.fact_model.specs.declared.slice.Column.{Column}
 use Rattle.fact_model.specs.declared.slice.Column.TheVariants.{Count, Sum, Min, Max}
 use Rattle.fact_model.specs.declared.slice.Cond.{Cond}
 use Rattle.fact_model.specs.Slice.{attr_of}
-use Rattle.cube_schema.specs.Kinds.{name_at, kind_at, arity, measure_count}
+use Rattle.cube_schema.specs.Kinds.{name_at, kind_at, measure_name_at, arity, measure_count}
 use Rattle.cube_schema.specs.Lawful.{IsSchema}
 use Rattle.cube_schema.specs.Reading.{are_distinct, is_attr, number_of}
 use Rattle.cube_schema.specs.Words.{begins, is_name, is_name_byte}
@@ -31,7 +31,7 @@ use Rattle.slice_lang.specs.Names.{Named, name_in, behind_name, is_measure, meas
 use Rattle.slice_lang.specs.Parts.{Part, byte_of}
 use Rattle.slice_lang.specs.Reading.{column_over, measured_rules, measured_in, count_in, column_in, attr_rules, named_in, attr_in, group_rules, name_of_group, is_on, end_rules, value_in, cond_rules, cond_in}
 use Rattle.slice_lang.specs.Values.{meaning}
-use Rattle.slice_lang.specs.Writing.{measure_name_at, over_text, column_text}
+use Rattle.slice_lang.specs.Writing.{over_text, column_text}
 use Rattle.slice_lang.specs.declared.refusal.SliceRefusal.TheVariants as refused
 use Rattle.slice_lang.proofs.Agreed.{AreAttrs, AreConds, Fits, eq-flip}
 use Rattle.slice_lang.proofs.Answered.{judged-all}

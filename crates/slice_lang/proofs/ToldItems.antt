@@ -14,7 +14,7 @@ use Rattle.fact_model.specs.declared.slice.Column.TheVariants.{Count, Sum, Min, 
 use Rattle.fact_model.specs.declared.slice.Cond.{Cond}
 use Rattle.fact_model.specs.declared.slice.Cond.TheVariants.{Equal, Between}
 use Rattle.fact_model.specs.Slice.{attr_of}
-use Rattle.cube_schema.specs.Kinds.{name_at, kind_at}
+use Rattle.cube_schema.specs.Kinds.{name_at, kind_at, measure_name_at}
 use Rattle.cube_schema.specs.Words.{begins, is_name_byte}
 use Rattle.cube_schema.specs.declared.schema.Kind.{Kind}
 use Rattle.cube_schema.specs.declared.schema.Kind.TheVariants.{Word, Number}
@@ -26,7 +26,7 @@ use Rattle.slice_lang.specs.Names.{Named, name_in, behind_name, is_measure, meas
 use Rattle.slice_lang.specs.Parts.{Part, byte_of, is_quote}
 use Rattle.slice_lang.specs.Reading.{is_fold, column_over, count_rules, count_in, measured_rules, measured_in, column_in, attr_rules, named_in, attr_in, group_rules, name_of_group, end_rules, value_in, cond_rules, cond_in}
 use Rattle.slice_lang.specs.Values.{Written, is_value_byte, after_byte, within_quotes, as_quoted, quoted_in, plain_in, plain_rules, written_in, in_range, coordinate_in, place_of_dots, equal_to, between, number_cond, meaning}
-use Rattle.slice_lang.specs.Writing.{measure_name_at, over_text, column_text, doubled}
+use Rattle.slice_lang.specs.Writing.{over_text, column_text, doubled}
 use Rattle.slice_lang.specs.declared.refusal.SliceRefusal.TheVariants as refused
 use Rattle.slice_lang.proofs.Agreed.{value-fits}
 use Rattle.slice_lang.proofs.Answered.{judged-ok, bound-ok, some-ok, chosen-ok}

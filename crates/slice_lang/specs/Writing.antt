@@ -1,5 +1,5 @@
 -- The text of a slice.
-use Rattle.std.specs.Prelude.{ℕ, List, [], ◌∷◌, ◌++◌, map, flat_map, get_or, codes, decimal, if◌then◌else◌}
+use Rattle.std.specs.Prelude.{ℕ, List, [], ◌∷◌, ◌++◌, map, flat_map, codes, decimal, if◌then◌else◌}
 use Rattle.std.specs.List.{join_with_byte}
 use Rattle.fact_model.specs.declared.fact.Value.{Value}
 use Rattle.fact_model.specs.declared.fact.Value.TheVariants.{Word, Number}
@@ -8,12 +8,9 @@ use Rattle.fact_model.specs.declared.slice.Column.TheVariants.{Count, Sum, Min, 
 use Rattle.fact_model.specs.declared.slice.Cond.{Cond}
 use Rattle.fact_model.specs.declared.slice.Cond.TheVariants.{Equal, Between}
 use Rattle.fact_model.specs.declared.slice.Slice.{Slice}
-use Rattle.cube_schema.specs.Kinds.{name_at}
+use Rattle.cube_schema.specs.Kinds.{name_at, measure_name_at}
 use Rattle.cube_schema.specs.declared.schema.Schema.{Schema}
 use Rattle.slice_lang.specs.Parts.{is_quote}
-
-abbrev pub measure_name_at : Schema → ℕ → List ℕ
-measure_name_at s measure = get_or s.measures measure []
 
 -- the word of a column, with the measure in parentheses
 abbrev pub over_text : List ℕ → List ℕ → List ℕ

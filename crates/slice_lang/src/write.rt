@@ -1,9 +1,10 @@
 //! Writing a slice as text.
 ghost use Rattle.std.specs.Prelude.{◌≡◌, ◌∷◌, ◌++◌, IfOk, OnOk, map, flat_map, codes, decimal};
+ghost use Rattle.cube_schema.specs.Kinds.{measure_name_at};
 ghost use Rattle.cube_schema.specs.Lawful.{IsSchema};
 ghost use Rattle.slice_lang.specs.Agreeing.{SliceAgrees};
 ghost use Rattle.slice_lang.specs.Reading.{slice_of};
-ghost use Rattle.slice_lang.specs.Writing.{measure_name_at, over_text, column_text, columns_text, by_text, doubled, value_text, cond_text, where_text, slice_text};
+ghost use Rattle.slice_lang.specs.Writing.{over_text, column_text, columns_text, by_text, doubled, value_text, cond_text, where_text, slice_text};
 
 use cube_schema::Schema;
 use fact_model::{Column, Cond, Memory, Slice, Text, Value};
