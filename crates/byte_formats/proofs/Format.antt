@@ -1,12 +1,12 @@
 -- Formats of numbers, of pairs, of many of a kind, and of other types seen as these.
-use Rattle.std.proofs.Common.{◌≡◌, ◌≤◌, ◌<◌, ◌+◌, ◌*◌, ◌^◌, ℕ, zero, suc, List, [], ◌∷◌, ◌++◌, length, take, drop, slice_index, refl, sym, ap, ◌∙◌, arith, append_assoc, SFits}
+use Rattle.std.proofs.Common.{◌≡◌, ◌≤◌, ◌<◌, ◌+◌, ◌*◌, ◌^◌, ℕ, zero, suc, List, [], ◌∷◌, ◌++◌, length, take, drop, refl, sym, ap, ◌∙◌, arith, append_assoc, SFits}
 use Rattle.std.specs.Prelude.{flat_map}
 use Rattle.std.proofs.Common.{inl, inr}
 use Rattle.std.proofs.lemmas.Bool.{cases_lt}
 use Rattle.std.specs.Int.{w128, cast_signed, cast_unsigned}
 use Rattle.std.proofs.lemmas.Int.{of_z-to_z}
 use Rattle.std.proofs.Math.Facts.{Fits-of_z, to_z-of_z, sfits_to_z}
-use Rattle.std.proofs.lemmas.List.{drop_at, drop-take, take-take, take-append-drop, take_at, length-append, length-drop, length-take-le, get_or-drop, get_or-take, get_or_past}
+use Rattle.std.proofs.lemmas.List.{drop_at, drop-take, take-take, take-append-drop, length-append, length-drop, length-take-le, get_or-drop, get_or-take, get_or_past}
 use Rattle.byteorder.specs.Endian.{big_bytes, big_number, big_from}
 use Rattle.byteorder.specs.Numbers.{big_from-lt, big_from-take, big_number-reads_back, length-bytes_high_first}
 use Rattle.byte_formats.specs.Numbers.{coded, number, signed_coded, signed}
@@ -103,36 +103,6 @@ is_seen m w r P f g Q form to fg gf from = record {
   again = λ y rest fits. ap f (form.again (g y) rest (to y fits)) ∙ fg y fits;
   back = λ bytes are le. ap w (gf (r bytes) (form.fits bytes are le)) ∙ form.back bytes are le;
   fits = λ bytes are le. from (r bytes) (form.fits bytes are le);
-}
-
--- one byte, and bytes as they are
-
-abbrev pub single : ℕ → List ℕ
-single b = b ∷ []
-
-abbrev pub first : List ℕ → ℕ
-first bytes = slice_index bytes 0
-
-pub is_byte : IsFormat 1 single first (λ b. b < 256)
-is_byte = record {
-  long = λ x fits. refl;
-  again = λ x rest fits. refl;
-  back = λ bytes are le. one bytes le;
-  fits = λ bytes are le. are 0;
-} where
-  one : (bytes : List ℕ) → 1 ≤ length bytes → slice_index bytes 0 ∷ [] ≡ take 1 bytes
-  one [] le = absurd (omega arith)
-  one (b ∷ bytes) le = refl
-
-abbrev pub raw : List ℕ → List ℕ
-raw bytes = bytes
-
-pub is_raw : (n : ℕ) → IsFormat n raw (take n) (λ b. length b ≡ n)
-is_raw n = record {
-  long = λ x fits. fits;
-  again = λ x rest fits. take_at x rest n fits;
-  back = λ bytes are le. refl;
-  fits = λ bytes are le. length-take-le n bytes le;
 }
 
 -- signed numbers

@@ -16,7 +16,6 @@ pub use fact::{Fact, FactList, NumberList, Value, ValueList};
 pub use list::ListOf;
 pub use memory::Memory;
 pub use number::read_number;
-pub use order::sort_distinct;
 pub use slice::{AttrList, Column, ColumnList, Cond, CondList, Row, Rows, Slice};
 pub use slow::slow_slice;
 pub use text::Text;
