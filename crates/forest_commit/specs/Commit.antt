@@ -10,7 +10,7 @@ use Rattle.forest_root.specs.Keeps.{Held, IsBodyOf, LiveAt, Keeps}
 abbrev pub page_size : ℕ
 page_size = 4096
 
--- the most pages of a side
+-- the most pages that may stand in front of those that one call writes
 abbrev pub max_pages : ℕ
 max_pages = 2 ^ 44
 
