@@ -3,35 +3,8 @@ use cube_point::Shape;
 use fact_model::Memory;
 use forest_root::Body;
 use leaf_pack::LeafBuffer;
-use page_fmt::{BadPage, Head, Node, take_page};
 use std::alloc::Global;
 use std::test::Fail;
-
-/// The text of the dumped schema.
-pub const DUMPED_NAMES: &str = "attr a number\nmeasure m\nview a\n";
-
-const SHAPE: Shape = Shape {
-    dims: 1,
-    measures: 1,
-};
-
-/// A leaf of the coordinate 2 with one fact of -2, and of the coordinate 4 with two facts, which are 5 and 4.
-pub fn dumped_leaf() -> [u8; 4096] {
-    let mut page = [0; 4096];
-    page[..4].copy_from_slice(&[1, 1, 0, 2]);
-    page[11] = 2;
-    page[19] = 1;
-    page[20..68].copy_from_slice(&[255; 48]);
-    page[35] = 254;
-    page[51] = 254;
-    page[67] = 254;
-    page[71] = 4;
-    page[79] = 2;
-    page[95] = 9;
-    page[111] = 4;
-    page[127] = 5;
-    page
-}
 
 /// A body of generation 0 with these lengths of the schema's text and of all names, and no facts.
 fn body_of(views: u8, schema: u8, names: u8) -> [u8; 1024] {
@@ -66,11 +39,6 @@ pub fn root_of(
     root[2048] = 1;
     root[2049] = 1;
     root
-}
-
-/// The root file of the dumped schema, with three facts of mass 11 at two points.
-pub fn dumped_root() -> [u8; 2050] {
-    root_of(1, [31, 31], 3, [0, 11], [2, 0, 0])
 }
 
 /// The coordinates of a point, of which the first are used; its count; and the sum, the least and the greatest of its measure.
@@ -118,49 +86,12 @@ fn push_page(side: &mut Vec<u8>, bytes: &[u8]) -> Result<(), Memory> {
 }
 
 #[test]
-fn a_dumped_leaf_is_read(rt: HostRuntime) -> Result<(), Fail> {
-    let page = dumped_leaf();
-    let head = take_page(&page, &SHAPE, 0);
-    let wanted = Head {
-        node: Node::Leaf,
-        arity: 1,
-        count: 2,
-    };
-    assert_eq!(rt; head, Ok(wanted));
-    Ok(())
-}
-
-#[test]
-fn a_changed_leaf_is_refused_by_the_first_broken_rule(rt: HostRuntime) -> Result<(), Fail> {
-    for (place, byte, refusal) in [
-        (0usize, 3u8, BadPage::Kind),
-        (1, 2, BadPage::Kind),
-        (3, 0, BadPage::Count),
-        (3, 69, BadPage::Count),
-        (5, 1, BadPage::Padding),
-        (4095, 1, BadPage::Padding),
-        (128, 1, BadPage::Padding),
-        (11, 0, BadPage::Zero),
-        (11, 4, BadPage::Order),
-        (11, 5, BadPage::Order),
-        (19, 0, BadPage::Cell),
-        (111, 6, BadPage::Cell),
-    ] {
-        let mut page = dumped_leaf();
-        page[place % 4096] = byte;
-        assert_eq!(rt;
-            take_page(&page, &SHAPE, 0),
-            Err(refusal),
-            "byte {byte} at {place}"
-        );
-    }
-    Ok(())
-}
-
-#[test]
 fn a_new_leaf_buffer_is_empty(rt: HostRuntime) -> Result<(), Fail> {
     let mut buffer = LeafBuffer::new(rt.alloc())?;
-    buffer.start(SHAPE);
+    buffer.start(Shape {
+        dims: 1,
+        measures: 1,
+    });
     assert_eq!(rt; buffer.len(), 0);
     assert_eq!(rt; buffer.is_full(), false);
     assert_eq!(rt; buffer.arity(), None);

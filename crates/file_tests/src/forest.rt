@@ -1,31 +1,34 @@
 //! Forests of packed trees: their files byte by byte, worked out by hand, and the runs that open them again.
-use crate::bytes::{DUMPED_NAMES, Row, dumped_leaf, dumped_root, push_inner, push_leaf, root_of};
+use crate::bytes::{Row, push_inner, push_leaf, root_of};
 use crate::ran::{run_over, tells_again, tells_behind};
 use cube_shell::Status;
-use fact_model::Text;
 use site_mem::MemorySite;
 use std::alloc::Global;
 use std::process::Abort;
 use std::test::Fail;
 
 /// The schema of state A.
-pub const SCHEMA_A: &str =
+const SCHEMA_A: &str =
     "attr part text\nattr year number\nmeasure qty\nview part,year\nview year\nview\n";
 
 /// The load of state A.
-pub const BATCH_A: &str = "load\nbolt,1997,5\nnut,1997,-2\nbolt,1998,4\nend\n";
-
-const LOAD: &str = "load\n3,5\n1,-2\n3,4\nend\n";
+const BATCH_A: &str = "load\nbolt,1997,5\nnut,1997,-2\nbolt,1998,4\nend\n";
 
 /// State A: its schema and its load over empty files.
-pub fn state_a(rt: &impl Abort, alloc: Global) -> Result<MemorySite, Fail> {
+fn state_a(rt: &impl Abort, alloc: Global) -> Result<MemorySite, Fail> {
     tells_behind(rt, alloc, SCHEMA_A, BATCH_A, "committed 3\n")
 }
 
 #[test]
 fn second_run(rt: HostRuntime) -> Result<(), Fail> {
     let alloc = rt.alloc();
-    let site = tells_behind(&rt, alloc, DUMPED_NAMES, LOAD, "committed 3\n")?;
+    let site = tells_behind(
+        &rt,
+        alloc,
+        "attr a number\nmeasure m\nview a\n",
+        "load\n3,5\n1,-2\n3,4\nend\n",
+        "committed 3\n",
+    )?;
     tells_again(
         &rt,
         alloc,
@@ -33,38 +36,6 @@ fn second_run(rt: HostRuntime) -> Result<(), Fail> {
         "slice sum(m) by a\nload\n2,6\n3,1\nend\nslice sum(m) by a\n",
         b"1,-2\n3,9\nrows 2\ncommitted 5\n1,-2\n2,6\n3,10\nrows 3\n",
     )?;
-    Ok(())
-}
-
-#[test]
-fn list_load_and_slice(rt: HostRuntime) -> Result<(), Fail> {
-    let alloc = rt.alloc();
-    // A stop within a first load may have left generation 1 under a gate that is not raised yet.
-    let mut root = dumped_root();
-    root[2049] = 0;
-    let files = [
-        Text::from_bytes(alloc, &root)?,
-        Text::from_bytes(alloc, DUMPED_NAMES.as_bytes())?,
-        Text::from_bytes(alloc, b"")?,
-        Text::from_bytes(alloc, &dumped_leaf())?,
-    ];
-    let mut site = MemorySite::from_files(alloc, files)?;
-    let script = format!(in alloc; "{LOAD}slice sum(m) by a\n")?;
-    let ended = run_over(alloc, &mut site, script.as_bytes())?;
-    assert_eq!(rt; ended, Status::Done);
-    let told = b"committed 3\n1,-2\n3,9\nrows 2\n".as_slice();
-    assert_eq!(rt; site.told(), told);
-    Ok(())
-}
-
-#[test]
-fn one_leaf_bytes(rt: HostRuntime) -> Result<(), Fail> {
-    let alloc = rt.alloc();
-    let site = tells_behind(&rt, alloc, DUMPED_NAMES, LOAD, "committed 3\n")?;
-    assert_eq!(rt; site.file(0), dumped_root().as_slice());
-    assert_eq!(rt; site.file(1), DUMPED_NAMES.as_bytes());
-    assert_eq!(rt; site.file(2), b"".as_slice());
-    assert_eq!(rt; site.file(3), dumped_leaf().as_slice());
     Ok(())
 }
 

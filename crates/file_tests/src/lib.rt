@@ -1,17 +1,9 @@
-//! The bytes of files that runs leave, damage of them, and slices over their pages.
+//! The bytes of the files that runs leave, and what later runs tell of them.
 #![tactic(auto)]
 
 #[cfg(test)]
-mod answers;
-#[cfg(test)]
 mod bytes;
-#[cfg(test)]
-mod damage;
 #[cfg(test)]
 mod forest;
 #[cfg(test)]
-mod images;
-#[cfg(test)]
 mod ran;
-#[cfg(test)]
-mod texts;

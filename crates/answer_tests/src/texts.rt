@@ -1,7 +1,5 @@
 //! Whole runs over texts: the names that the files keep of them, their limits, and the rows of slices by them.
-use crate::forest::SCHEMA_A;
-use crate::images::put;
-use crate::ran::{run_over, tells_again, tells_behind};
+use crate::ran::{SCHEMA_A, put, run_over, tells_again, tells_behind};
 use cube_shell::Status;
 use site_mem::{Call, MemorySite};
 use std::alloc::Global;

@@ -1,8 +1,7 @@
 //! What a stop leaves of a warehouse of two trees, as a later run finds it.
-use crate::runs::run_over;
-use cube_shell::Status;
-use fact_model::Text;
-use site_mem::{Call, MemorySite};
+use cube_shell::{Status, run};
+use fact_model::{Memory, Text};
+use site_mem::{Call, MemorySite, MemorySource};
 use std::alloc::Global;
 use std::process::Abort;
 use std::test::Fail;
@@ -21,6 +20,12 @@ const STAGES: [&str; 4] = [
     "facts 3\na,2,-2\nb,1,5\nb,2,4\nrows 3\n1,5\n2,2\nrows 2\na,-2\nb,9\nrows 2\n",
     "facts 5\na,2,-2\naa,2,6\nb,1,6\nb,2,4\nrows 4\n1,6\n2,8\nrows 2\na,-2\naa,6\nb,10\nrows 3\n",
 ];
+
+/// Runs a script over the files of a site.
+fn run_over(alloc: Global, site: &mut MemorySite, script: &[u8]) -> Result<Status, Memory> {
+    let mut source = MemorySource::new(Text::from_bytes(alloc, script)?, 64);
+    Ok(run(alloc, &[], &mut source, site))
+}
 
 #[test]
 fn first_write_fails(rt: HostRuntime) -> Result<(), Fail> {

@@ -11,7 +11,7 @@ fn text(alloc: Global, bytes: &[u8]) -> Result<Text, Memory> {
 }
 
 /// Writes bytes at a place that the file has or ends at.
-pub fn put(
+fn put(
     rt: &impl Abort,
     site: &mut MemorySite,
     file: u32,

@@ -1,9 +1,7 @@
 //! Files that were made by hand, and the places where they are damaged.
-use crate::bytes::{DUMPED_NAMES, dumped_leaf, dumped_root, root_of};
-use crate::forest::{BATCH_A, state_a};
-use crate::images::put;
-use crate::ran::{run_over, tells_behind};
-use cube_shell::{Status, run};
+use crate::dumped::{DUMPED_NAMES, dumped_leaf, dumped_root, root_of};
+use crate::ran::{BATCH_A, put, run_from, run_over, state_a, tells_behind};
+use cube_shell::Status;
 use fact_model::Text;
 use site_mem::{MemorySite, MemorySource};
 use std::alloc::Global;
@@ -122,14 +120,14 @@ fn is_damaged(
 ) -> Result<(), Fail> {
     let mut site = changed(alloc, change)?;
     let mut source = MemorySource::new(Text::from_bytes(alloc, b"status\n")?, 64);
-    let ended = run(alloc, &[], &mut source, &mut site);
+    let ended = run_from(alloc, &mut site, &mut source);
     let wanted = Status::Damaged { file, offset };
     assert_eq!(rt; ended, wanted, "{:?} {:?}", change.0, change.1);
     assert_eq!(rt; ended.code(), 6);
     assert_eq!(rt; site.told(), b"".as_slice(), "file {file} at {offset}");
     // The same source gives the whole script, so nothing had been pulled.
     let mut other = MemorySite::new(alloc);
-    assert_eq!(rt; run(alloc, &[], &mut source, &mut other), Status::Done);
+    assert_eq!(rt; run_from(alloc, &mut other, &mut source), Status::Done);
     assert_eq!(rt; other.told(), b"no schema\n".as_slice());
     Ok(())
 }
@@ -298,7 +296,7 @@ fn short_side(rt: HostRuntime) -> Result<(), Fail> {
 fn facts_limit(rt: HostRuntime) -> Result<(), Fail> {
     let alloc = rt.alloc();
     // 2^40 facts.
-    let mut root = root_of(1, [29, 29], 0, [0, 0], [1, 0, 0]);
+    let mut root = root_of(29, 0, 0, 1);
     root[1058] = 1;
     let mut leaf = [0; 4096];
     leaf[..8].copy_from_slice(&[1, 0, 0, 1, 0, 0, 0, 0]);

@@ -1,7 +1,5 @@
 //! Slices answered from the pages of a forest: the rows, and how many pages are read.
-use crate::forest::state_a;
-use crate::images::put;
-use crate::ran::tells_behind;
+use crate::ran::{put, state_a, tells_behind};
 use fact_model::Rows;
 use forest_root::Store;
 use forest_store::open;
