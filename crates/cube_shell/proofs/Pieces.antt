@@ -1,8 +1,9 @@
 -- Pieces that a source gives, and the commands that are then to come.
-use Rattle.std.proofs.Common.{◌≡◌, ◌≤◌, ◌+◌, ℕ, List, [], ◌++◌, length, take, sym, ◌∙◌, ap, arith, append_assoc, length-append, length-take}
+use Rattle.std.proofs.Common.{◌≡◌, ◌≤◌, ◌+◌, ℕ, Option, Some, option_to_list, List, [], ◌++◌, length, take, sym, ◌∙◌, ap, arith, append_assoc, length-append, length-take}
 use Rattle.std.proofs.Math.Seq.{take-append_seam}
 use Rattle.site_core.specs.Pull.{Gives}
-use Rattle.script_lang.specs.Reading.{Reading, to_come}
+use Rattle.script_lang.specs.declared.command.Command.{Command}
+use Rattle.script_lang.specs.Reading.{Reading, ready, to_come}
 
 module _ (old new into : List ℕ) (count : ℕ) (gives : Gives old new count into) where
   -- how many bytes were given with this pull
@@ -50,3 +51,9 @@ module _ (old new into : List ℕ) (count : ℕ) (gives : Gives old new count in
   -- no piece, and so the end
   pub end_to_come : (reading : Reading) → count ≡ 0 → to_come reading old ≡ to_come reading []
   end_to_come reading none = ap (to_come reading) (gives.end none)
+
+-- where no command is whole, none is given
+pub none_given : (old new : Reading) (given : Option Command) (command : Command) → ready old ≡ []
+    → ready old ≡ option_to_list given ++ ready new → given ≡ Some command → ⊥
+none_given old new given command none first is =
+    omega (arith, ap length none, ap length first, ap (λ (o : Option Command). length (option_to_list o ++ ready new)) is)

@@ -1,13 +1,14 @@
 -- The statuses of stops.
 use Rattle.std.proofs.Common.{◌≡◌, sym, subst, Result, Ok, Err, OnOk, IfErr}
 use Rattle.std.specs.Result.{IsErrAnd, IsErrOf}
+use Rattle.site_core.specs.Disk.{Files}
 use Rattle.cube_shell.specs.declared.stop.Stop.{Stop}
 use Rattle.cube_shell.specs.declared.stop.Stop.TheVariants as stops
 use Rattle.cube_shell.specs.declared.status.Status.{Status}
-use Rattle.cube_shell.specs.declared.status.Status.TheVariants.{TooLong}
+use Rattle.cube_shell.specs.declared.status.Status.TheVariants.{Done, Usage, Input, Disk, Output, Damaged, Memory, TooLong}
 use Rattle.forest_store.specs.Opening.{Place}
-use Rattle.cube_shell.specs.Damage.{StopsAt, EndsAt}
-use Rattle.cube_shell.specs.Ends.{status_of}
+use Rattle.cube_shell.specs.Damage.{StopsAt, EndsAt, EndsForBreak, TellsBreak}
+use Rattle.cube_shell.specs.Ends.{IsNoDamage, IsUndamaged, status_of}
 
 never_too_long : (stop : Stop) → status_of stop ≡ TooLong → ⊥
 never_too_long stops.Disk is = cc
@@ -31,3 +32,42 @@ pub named : {A : Type 0} (r : Result A Status) (stop : Stop) (place : Place) →
     → StopsAt place stop → IfErr r (EndsAt place) × OnOk r ⊥
 named (Ok x) stop place from is = absurd from
 named (Err e) stop place from is = (subst (EndsAt place) (sym from) (ends_at place stop is), tt)
+
+as_status : (stop : Stop) → IsNoDamage stop → IsUndamaged (status_of stop)
+as_status stops.Disk is = tt
+as_status stops.Output is = tt
+as_status (stops.Damaged file offset) is = is
+as_status stops.Memory is = tt
+
+-- where the session tells no damage, the run tells none
+pub undamaged_as : {A : Type 0} (r : Result A Status) (stop : Stop) → IsErrAnd r (λ status. status ≡ status_of stop)
+    → IsNoDamage stop → IfErr r IsUndamaged
+undamaged_as (Ok x) stop from is = absurd from
+undamaged_as (Err e) stop from is = subst IsUndamaged (sym from) (as_status stop is)
+
+break_as : (files : Files) (stop : Stop) → TellsBreak files stop → EndsForBreak files (status_of stop)
+break_as files stops.Disk is = tt
+break_as files stops.Output is = tt
+break_as files (stops.Damaged file offset) is = is
+break_as files stops.Memory is = tt
+
+-- where the session tells a rule that is broken, the run does
+pub broken_as : {A : Type 0} (r : Result A Status) (files : Files) (stop : Stop) → IsErrAnd r (λ status. status ≡ status_of stop)
+    → TellsBreak files stop → IfErr r (EndsForBreak files)
+broken_as (Ok x) files stop from is = absurd from
+broken_as (Err e) files stop from is = subst (EndsForBreak files) (sym from) (break_as files stop is)
+
+-- where no damage is told, none is told that is no broken rule
+pub none_told : (files : Files) (status : Status) → IsUndamaged status → EndsForBreak files status
+none_told files Done is = tt
+none_told files Usage is = tt
+none_told files Input is = tt
+none_told files Disk is = tt
+none_told files Output is = tt
+none_told files (Damaged file offset) is = absurd is
+none_told files Memory is = tt
+none_told files TooLong is = tt
+
+pub none_told_as : {A : Type 0} (r : Result A Status) (files : Files) → IfErr r IsUndamaged → IfErr r (EndsForBreak files)
+none_told_as (Ok x) files is = tt
+none_told_as (Err e) files is = none_told files e is

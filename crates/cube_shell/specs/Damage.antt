@@ -32,3 +32,14 @@ EndsAt place Usage = ⊥
 EndsAt place Input = ⊥
 EndsAt place Output = ⊥
 EndsAt place TooLong = ⊥
+
+-- damage that ends a run is a place where the files break a rule of opening
+abbrev pub EndsForBreak : Files → Status → Type 0
+EndsForBreak files (Damaged file offset) = BreaksAt files (file, offset)
+EndsForBreak files Disk = Unit {0}
+EndsForBreak files Memory = Unit {0}
+EndsForBreak files Done = Unit {0}
+EndsForBreak files Usage = Unit {0}
+EndsForBreak files Input = Unit {0}
+EndsForBreak files Output = Unit {0}
+EndsForBreak files TooLong = Unit {0}

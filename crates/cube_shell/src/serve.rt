@@ -1,7 +1,7 @@
 //! The commands of a script, carried out one after the other while its pieces come.
 ghost use Rattle.std.specs.Prelude.{◌≡◌, ◌≤◌, ◌+◌, ◌^◌, ◌↔◌, ◌++◌, ℕ, List, [], false, IsTrue, OnOk, IfErr, IsErrOf};
 ghost use Rattle.site_core.specs.Moments.{LeavesOnly};
-ghost use Rattle.script_lang.specs.Reading.{ready, to_come, whole_with};
+ghost use Rattle.script_lang.specs.Reading.{nothing_read, ready, to_come, whole_with};
 ghost use Rattle.script_lang.specs.Script.{commands};
 ghost use Rattle.cube_shell.specs.Ends.{EndCause, StopCause, Stayed, IsNoDamage, IsUndamaged, faults};
 ghost use Rattle.cube_shell.specs.Headline.{AfterStop, Finished, LeftOff};
@@ -36,6 +36,7 @@ pub fn serve<S: Source, T: Site>(
         → LeavesOnly (T.disk site.old) (T.disk site.new) (AfterStop world (commands (S.left source.old)) (T.disk site.old).told) }
     ensures undamaged { IsTrue T.tells → (world : World) → Stands session.old.state (T.disk site.old) world
         → IfErr result IsUndamaged }
+    ensures unpulled { IsTrue S.tells → Gave (S.left source.old) (S.left source.new) 0 → IfErr result IsUndamaged }
     ensures read { IsTrue S.tells → OnOk result (S.left source.new ≡ []) }
     ensures too_long { IsTrue S.tells
         → (IsErrOf result Status.TooLong ↔ Gave (S.left source.old) (S.left source.new) (limit + 1)) }
@@ -112,6 +113,7 @@ fn take_end<T: Site>(session: &mut Session, lines: &mut Lines, site: &mut T) -> 
         → LeavesOnly (T.disk site.old) (T.disk site.new) (AfterStop world (to_come lines.old []) (T.disk site.old).told) }
     ensures undamaged { IsTrue T.tells → (world : World) → Stands session.old.state (T.disk site.old) world
         → IfErr result IsNoDamage }
+    ensures nothing { lines.old ≡ nothing_read → IfErr result IsNoDamage }
 
     ensures cause { IfErr result (StopCause (T.disk_faults site.old) (T.disk_faults site.new) (T.told_faults site.old) (T.told_faults site.new)) }
     ensures disk_faults { OnOk result (T.disk_faults site.new ≡ T.disk_faults site.old) }
@@ -136,6 +138,7 @@ fn carry_out<T: Site>(session: &mut Session, lines: &mut Lines, site: &mut T) ->
         → LeavesOnly (T.disk site.old) (T.disk site.new) (AfterStop world (to_come lines.old more) (T.disk site.old).told) }
     ensures undamaged { IsTrue T.tells → (world : World) → Stands session.old.state (T.disk site.old) world
         → IfErr result IsNoDamage }
+    ensures nothing { ready lines.old ≡ [] → IfErr result IsNoDamage }
     ensures ready { OnOk result (ready lines.new ≡ []) }
     ensures over { lines.new.over ≡ lines.old.over }
 

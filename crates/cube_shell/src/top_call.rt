@@ -5,7 +5,7 @@ ghost use Rattle.site_core.specs.Moments.{LeavesOnly};
 ghost use Rattle.forest_store.specs.Breaks.{BreaksAt};
 ghost use Rattle.forest_store.specs.Opening.{Place};
 ghost use Rattle.script_lang.specs.Script.{commands};
-ghost use Rattle.cube_shell.specs.Damage.{EndsAt};
+ghost use Rattle.cube_shell.specs.Damage.{EndsAt, EndsForBreak};
 ghost use Rattle.cube_shell.specs.Ends.{EndCause, StatusCause, Stayed, IsDoneOrMemory, IsUndamaged, faults};
 ghost use Rattle.cube_shell.specs.Headline.{AfterRun, Finished, Headline, LeftOff};
 ghost use Rattle.cube_shell.specs.Keeps.{Keeps};
@@ -44,6 +44,8 @@ pub fn run<S: Source, T: Site>(
         → source.new ≡ source.old }
     ensures untold { IsTrue T.tells → words.now ≡ [] → (place : Place) → BreaksAt (T.disk site.old).files place
         → (T.disk site.new).told ≡ (T.disk site.old).told }
+    ensures damaged { IsTrue S.tells → IsTrue T.tells → Gave (S.left source.old) (S.left source.new) 0
+        → EndsForBreak (T.disk site.old).files result }
     ensures usage { (result ≡ Status.Usage) ↔ (words.now ≢ []) }
     ensures unread { result ≡ Status.Usage → source.new ≡ source.old }
     ensures untouched { result ≡ Status.Usage → site.new ≡ site.old }
@@ -84,6 +86,8 @@ pub fn run_within<S: Source, T: Site>(
         → source.new ≡ source.old }
     ensures untold { IsTrue T.tells → words.now ≡ [] → (place : Place) → BreaksAt (T.disk site.old).files place
         → (T.disk site.new).told ≡ (T.disk site.old).told }
+    ensures damaged { IsTrue S.tells → IsTrue T.tells → Gave (S.left source.old) (S.left source.new) 0
+        → EndsForBreak (T.disk site.old).files result }
     ensures usage { (result ≡ Status.Usage) ↔ (words.now ≢ []) }
     ensures unread { result ≡ Status.Usage → source.new ≡ source.old }
     ensures untouched { result ≡ Status.Usage → site.new ≡ site.old }
@@ -122,6 +126,8 @@ fn attempt<S: Source, T: Site>(
         → source.new ≡ source.old }
     ensures untold { IsTrue T.tells → words.now ≡ [] → (place : Place) → BreaksAt (T.disk site.old).files place
         → (T.disk site.new).told ≡ (T.disk site.old).told }
+    ensures damaged { IsTrue S.tells → IsTrue T.tells → Gave (S.left source.old) (S.left source.new) 0
+        → IfErr result (EndsForBreak (T.disk site.old).files) }
     ensures read { IsTrue S.tells → OnOk result (S.left source.new ≡ []) }
     ensures usage { IsErrOf result Status.Usage ↔ (words.now ≢ []) }
     ensures unread { words.now ≢ [] → source.new ≡ source.old }

@@ -3,6 +3,7 @@ use Rattle.script_lang.specs.declared.command.Command.{Command}
 use Rattle.script_lang.specs.Reading.{to_come, whole_with}
 use Rattle.cube_shell.specs.Ends.{IsNoDamage}
 use Rattle.cube_shell.proofs.Going.{started_moments, started_onward, more_moments, more_onward}
+use Rattle.cube_shell.proofs.Pieces.{none_given}
 use Rattle.cube_shell.proofs.serve.carry_out.Goals as goal
 
 pub loop-command-init : goal.loop-command-init
@@ -10,6 +11,7 @@ loop-command-init g c = record {
   running = c.requires.running;
   fit = c.requires.fit;
   over = refl;
+  nothing = λ none. none;
   onward = λ t world more stands.
       started_onward c.args.session.now.state (g.T.Site.disk c.args.site.now) world (to_come c.args.lines.now more) stands;
   whole = λ t over world more stands.
@@ -26,6 +28,7 @@ loop-command-preserved g c = record {
   running = c.in_ok-command-2.ensures.running;
   fit = λ t. c.in_ok-command-2.ensures.fit t;
   over = c.next_command.ensures.over ∙ c.loop-command.invariant.over;
+  nothing = λ none. absurd (none_given c.loop-command.lines c.next_command.new.self _ c.in-Some.command (c.loop-command.invariant.nothing none) c.in_ok-command.ensures.ready c.in-Some.is);
   onward = λ t world more stands.
       let o = c.loop-command.invariant.onward t world more stands in
       let rest = to_come c.next_command.new.self more in
@@ -66,3 +69,7 @@ returns-in_err-command-2-clause-undamaged g c = λ t world stands.
     let o = c.loop-command.invariant.onward t world [] stands in
     let h : IsNoDamage c.in_err-command-2.field-0.0 = c.in_err-command-2.ensures.undamaged t o.now o.stands in
     search rules
+
+pub returns-in_err-command-2-clause-nothing : goal.returns-in_err-command-2-clause-nothing
+returns-in_err-command-2-clause-nothing g c = λ none.
+    absurd (none_given c.loop-command.lines c.next_command.new.self _ c.in-Some.command (c.loop-command.invariant.nothing none) c.in_ok-command.ensures.ready c.in-Some.is)

@@ -1,4 +1,4 @@
-use Rattle.std.proofs.Common.{◌≡◌, ℕ, List, IsTrue, false, length}
+use Rattle.std.proofs.Common.{◌≡◌, ℕ, List, [], IsTrue, false, length}
 use Rattle.site_core.specs.Moments.{LeavesOnly}
 use Rattle.script_lang.specs.Reading.{ready, to_come, whole_with}
 use Rattle.cube_shell.specs.Headline.{AfterStop}
@@ -12,6 +12,7 @@ invariant-loop-command g l = record {
   running : IsRunning l.session.state;
   fit : IsTrue g.T.Site.tells → IsFit l.session.state (g.T.Site.disk l.site);
   over : l.lines.over ≡ l.fn.lines.over;
+  nothing : ready l.fn.lines ≡ [] → ready l.lines ≡ [];
   onward : IsTrue g.T.Site.tells → (world : World) (more : List ℕ) → Stands l.fn.session.state (g.T.Site.disk l.fn.site) world
       → Onward l.session.state (g.T.Site.disk l.site) world (to_come l.fn.lines more) (g.T.Site.disk l.fn.site).told (to_come l.lines more);
   whole : IsTrue g.T.Site.tells → l.fn.lines.over ≡ false → (world : World) (more : List ℕ)

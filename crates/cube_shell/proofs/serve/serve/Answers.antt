@@ -6,7 +6,7 @@ use Rattle.cube_shell.specs.Headline.{Finished}
 use Rattle.cube_shell.specs.Session.{Onward}
 use Rattle.cube_shell.proofs.Going.{all_done, started_moments, started_onward, then_moments, then_onward}
 use Rattle.cube_shell.proofs.Pieces.{given_more, piece_left, piece_taken, piece_to_come, end_to_come}
-use Rattle.cube_shell.proofs.Statuses.{not_too_long}
+use Rattle.cube_shell.proofs.Statuses.{not_too_long, undamaged_as}
 use Rattle.cube_shell.proofs.serve.serve.Goals as goal
 
 pub returns-in_err-buffer-clause-any_moment : goal.returns-in_err-buffer-clause-any_moment
@@ -24,6 +24,7 @@ loop-buffer-init g c =
       over = ap (λ (r : Reading). r.over) c.new-lines.ensures;
       some = omega (arith, c.in_ok-buffer.ensures);
       piece = omega (arith, c.in_ok-buffer.ensures);
+      start = λ none. c.new-lines.ensures;
       taken = omega arith;
       given = λ s. omega arith;
       stands = λ t world stands. (world, stands);
@@ -63,6 +64,7 @@ loop-buffer-preserved g c = record {
   over = c.take_piece.ensures.goes_on;
   some = omega (arith, c.pull.ensures.room, c.truncate.ensures.len, c.loop-buffer.invariant.some, c.if-taken-limit.false);
   piece = omega (arith, c.pull.ensures.room, c.truncate.ensures.len, c.loop-buffer.invariant.piece);
+  start = λ none. absurd (omega (arith, none, c.if-count-eq0.false));
   taken = omega (arith, c.if-taken-limit.false);
   given = λ s. given_more _ _ _ c.in_ok-count.count (c.in_ok-count.ensures.bytes s) c.loop-buffer.taken _
       (omega (arith, c.in_ok-count.ensures.bound)) (c.loop-buffer.invariant.given s);
@@ -134,3 +136,16 @@ returns-in_err-take_end-clause-left_off g c = λ s t world stands is.
 pub returns-in_err-take_piece-clause-left_off : goal.returns-in_err-take_piece-clause-left_off
 returns-in_err-take_piece-clause-left_off g c = λ s t world stands is.
     absurd (not_too_long _ c.in_err-take_piece.field-0.0 c.from_residual-in_err-take_piece.ensures.1 is)
+
+pub returns-in_err-take_end-clause-unpulled : goal.returns-in_err-take_end-clause-unpulled
+returns-in_err-take_end-clause-unpulled g c = λ s none.
+    let given = given_more _ _ _ c.in_ok-count.count (c.in_ok-count.ensures.bytes s) c.loop-buffer.taken _
+    (omega (arith, c.in_ok-count.ensures.bound)) (c.loop-buffer.invariant.given s) in
+    let start = c.loop-buffer.invariant.start (omega (arith, given, none, c.if-count-eq0.true)) in
+    undamaged_as _ c.in_err-take_end.field-0.0 c.from_residual-in_err-take_end.ensures.1 (c.in_err-take_end.ensures.nothing start)
+
+pub returns-in_err-take_piece-clause-unpulled : goal.returns-in_err-take_piece-clause-unpulled
+returns-in_err-take_piece-clause-unpulled g c = λ s none.
+    let given = given_more _ _ _ c.in_ok-count.count (c.in_ok-count.ensures.bytes s) c.loop-buffer.taken _
+    (omega (arith, c.in_ok-count.ensures.bound)) (c.loop-buffer.invariant.given s) in
+    absurd (omega (arith, given, none, c.if-count-eq0.false))

@@ -1,6 +1,6 @@
 use Rattle.std.proofs.Common.{◌≡◌, ◌≤◌, ◌<◌, ◌+◌, ◌-◌, ◌++◌, ℕ, List, [], IsTrue, false, take, length, vec_len}
 use Rattle.site_core.specs.Moments.{LeavesOnly}
-use Rattle.script_lang.specs.Reading.{to_come, whole_with}
+use Rattle.script_lang.specs.Reading.{nothing_read, to_come, whole_with}
 use Rattle.script_lang.specs.Script.{commands, whole}
 use Rattle.cube_shell.specs.Headline.{AfterStop}
 use Rattle.cube_shell.specs.Session.{IsFit, IsRunning, Onward, Stands}
@@ -15,6 +15,7 @@ invariant-loop-buffer g l = record {
   over : l.lines.over ≡ false;
   some : 0 < vec_len l.buffer;
   piece : vec_len l.buffer ≤ 65536;
+  start : l.taken ≡ 0 → l.lines ≡ nothing_read;
   taken : l.taken ≤ l.limit;
   given : IsTrue g.S.Source.tells → length (g.S.Source.left l.fn.source) ≡ l.taken + length (g.S.Source.left l.source);
   stands : IsTrue g.T.Site.tells → (world : World) → Stands l.fn.session.state (g.T.Site.disk l.fn.site) world

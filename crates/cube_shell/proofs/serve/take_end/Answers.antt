@@ -1,7 +1,7 @@
-use Rattle.std.proofs.Common.{◌∙◌, sym, subst, ap, List, []}
+use Rattle.std.proofs.Common.{◌∙◌, true, sym, subst, ap, List, []}
 use Rattle.site_core.specs.Moments.{LeavesOnly}
 use Rattle.script_lang.specs.declared.command.Command.{Command}
-use Rattle.script_lang.specs.Reading.{Reading}
+use Rattle.script_lang.specs.Reading.{Reading, ready}
 use Rattle.script_lang.proofs.Feeding.{ended, none_to_come}
 use Rattle.cube_shell.specs.Headline.{AfterStop}
 use Rattle.cube_shell.proofs.Going.{finished_at}
@@ -18,3 +18,7 @@ returns-clause-any_moment g c = λ t world stands.
     subst (λ (cs : List Command). LeavesOnly (g.T.Site.disk c.args.site.now) (g.T.Site.disk c.carry_out.new.site)
     (AfterStop world cs (g.T.Site.disk c.args.site.now).told))
     (sym (ended c.args.lines.now c.end.new.self c.requires.goes_on c.end.ensures)) (c.carry_out.ensures.any_moment t world [] stands)
+
+pub returns-clause-nothing : goal.returns-clause-nothing
+returns-clause-nothing g c = λ is.
+    c.carry_out.ensures.nothing (ap ready (c.end.ensures ∙ ap (λ (r : Reading). record { over = true; place = r.place; rest = r.rest }) is))

@@ -1,6 +1,6 @@
 use Rattle.script_lang.specs.Script.{commands}
 use Rattle.cube_shell.proofs.Going.{opened_moments}
-use Rattle.cube_shell.proofs.Statuses.{named}
+use Rattle.cube_shell.proofs.Statuses.{broken_as, named, none_told_as}
 use Rattle.cube_shell.proofs.top_call.attempt.Goals as goal
 
 pub returns-in_err-session-clause-broken : goal.returns-in_err-session-clause-broken
@@ -20,3 +20,10 @@ pub returns-clause-any_moment : goal.returns-clause-any_moment
 returns-clause-any_moment g c = λ s t world keeps.
     opened_moments (g.T.Site.disk c.args.site.now) (g.T.Site.disk c.start.new.site) (g.T.Site.disk c.serve.new.site) world (commands (g.S.Source.left c.args.source.now)) (c.in_ok-session.ensures.disk t)
     (λ told files. g.met.T.Site.only_now c.args.site.now told files t) (c.serve.ensures.any_moment s t world (c.in_ok-session.ensures.opened t world keeps))
+
+pub returns-in_err-session-clause-damaged : goal.returns-in_err-session-clause-damaged
+returns-in_err-session-clause-damaged g c = λ s t none.
+    broken_as _ (g.T.Site.disk c.args.site.now).files c.in_err-session.field-0.0 c.from_residual.ensures.1 (c.in_err-session.ensures.damaged t)
+
+pub returns-clause-damaged : goal.returns-clause-damaged
+returns-clause-damaged g c = λ s t none. none_told_as _ (g.T.Site.disk c.args.site.now).files (c.serve.ensures.unpulled s none)
