@@ -25,6 +25,10 @@ committed_text count = numbered (codes "committed ") count
 abbrev pub facts_text : ℕ → List ℕ
 facts_text count = numbered (codes "facts ") count
 
+-- there are so many facts, and so many are pending
+abbrev pub pending_text : ℕ → ℕ → List ℕ
+pending_text count pending = codes "facts " ++ decimal count ++ numbered (codes " pending ") pending
+
 -- the refusal of a schema; want of memory is none, and has no text
 abbrev pub schema_text : SchemaRefusal → List ℕ
 schema_text (schemas.Line n) = numbered (codes "refused schema line ") n

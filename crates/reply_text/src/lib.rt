@@ -5,6 +5,6 @@ mod line;
 mod refusal;
 mod rows;
 
-pub use line::{committed, facts, plain};
+pub use line::{committed, facts, pending, plain};
 pub use refusal::{refused_batch, refused_mass, refused_names, refused_schema, refused_slice};
 pub use rows::answer;

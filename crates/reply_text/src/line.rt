@@ -1,6 +1,6 @@
 //! Replies of one line.
 ghost use Rattle.std.specs.Prelude.{◌≡◌, IfOk};
-ghost use Rattle.reply_text.specs.Replies.{line, numbered, committed_text, facts_text};
+ghost use Rattle.reply_text.specs.Replies.{line, numbered, committed_text, facts_text, pending_text};
 
 use fact_model::Memory;
 use std::alloc::Global;
@@ -24,6 +24,13 @@ pub fn facts(alloc: Global, count: u64) -> Result<Vec<u8>, Memory>
     ensures { IfOk result (λ reply. reply.items ≡ facts_text count) }
 {
     numbered(alloc, "facts ", count)
+}
+
+/// How many facts there are, and how many are pending.
+pub fn pending(alloc: Global, count: u64, pending: u64) -> Result<Vec<u8>, Memory>
+    ensures { IfOk result (λ reply. reply.items ≡ pending_text count pending) }
+{
+    Ok(format!(in alloc; "facts {count} pending {pending}\n")?.into_bytes())
 }
 
 /// One line of a text and a number behind it.
