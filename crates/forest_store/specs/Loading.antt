@@ -1,5 +1,5 @@
 -- What a load makes of the accepted facts.
-use Rattle.std.specs.Prelude.{◌≡◌, ◌⊎◌, ℕ, ◌+◌, ◌<◌, ◌≤◌, List, length}
+use Rattle.std.specs.Prelude.{◌≡◌, ◌⊎◌, ℕ, ◌+◌, ◌<◌, ◌≤◌, List, length, Option, Some, None}
 use Rattle.site_core.specs.Disk.{Files}
 use Rattle.fact_model.specs.declared.fact.Fact.{Fact}
 use Rattle.fact_model.specs.Fact.{mass, mass_limit}
@@ -31,6 +31,11 @@ abbrev pub IsRefused : Schema → List Fact → Refusal → Type 0
 IsRefused schema all refusals.Facts = max_facts < length all
 IsRefused schema all (refusals.Names a) = (length all ≤ max_facts) × IsFullAt schema all a
 IsRefused schema all (refusals.Mass m) = (length all ≤ max_facts) × HasNames schema all × IsHeavyAt all m
+
+-- all facts keep the limits; or this is the first limit that they pass
+abbrev pub IsJudged : Schema → List Fact → Option Refusal → Type 0
+IsJudged schema all None = AreAccepted schema all
+IsJudged schema all (Some refusal) = IsRefused schema all refusal
 
 -- the files keep the facts before the load, or all of them
 abbrev pub KeepsEither : Schema → List Fact → List Fact → Files → Type 0

@@ -1,6 +1,7 @@
 //! The views of a warehouse on disk, in packed trees: opening, the declaration of a schema, and the load of a batch.
 #![tactic(auto)]
 
+mod checking;
 mod committing;
 mod declaring;
 mod loading;
@@ -12,6 +13,7 @@ mod reading;
 mod schema_text;
 mod stop;
 
+pub use checking::refusal;
 pub use declaring::declare;
 pub use loading::{Loaded, Refusal, load};
 pub use opening::open;

@@ -189,7 +189,7 @@ fn names_len(live: &Body, entries: &Text) -> Result<u64, PlanStop>
 }
 
 /// The number of all facts, where it is within its limit.
-fn total(old: u64, more: usize) -> Result<u64, PlanStop>
+pub fn total(old: u64, more: usize) -> Result<u64, PlanStop>
     requires { old ≤ max_facts }
     ensures total { IfOk result (λ all. (all ≡ old + more) × (all ≤ max_facts)) }
     ensures refused { IfErr result (λ stop. (stop ≡ PlanStop.Refused Refusal.Facts) × (max_facts < old + more)) }
@@ -202,7 +202,7 @@ fn total(old: u64, more: usize) -> Result<u64, PlanStop>
 }
 
 /// The masses of all facts, where they are within their limit.
-fn masses(old: &[u128; 4], batch: &[Fact]) -> Result<[u128; 4], PlanStop>
+pub fn masses(old: &[u128; 4], batch: &[Fact]) -> Result<[u128; 4], PlanStop>
     ensures all { IfOk result (λ all. all ≡ added old.now batch.now) }
     ensures within { IfOk result (λ all. (m : ℕ) → m < 4 → slice_index all m ≤ mass_limit) }
     ensures refused { IfErr result (λ stop. (m : ℕ) × (stop ≡ PlanStop.Refused (Refusal.Mass m)) × HasMass old.now batch.now m) }
