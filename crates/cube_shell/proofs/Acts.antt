@@ -17,12 +17,12 @@ use Rattle.script_lang.specs.declared.command.Block.{Block}
 use Rattle.script_lang.specs.declared.command.Block.TheVariants.{Whole, Long}
 use Rattle.script_lang.specs.declared.command.Command.{Command}
 use Rattle.script_lang.specs.declared.command.Command.TheVariants as says
-use Rattle.cube_shell.specs.World.{World, Warehouse}
+use Rattle.cube_shell.specs.World.{Kept, World, Warehouse, idle}
 use Rattle.reply_text.specs.Replies.{line, numbered, schema_text, batch_text, slice_text, answer_text}
 use Rattle.slice_lang.specs.declared.refusal.SliceRefusal.{SliceRefusal}
 use Rattle.slice_lang.specs.declared.refusal.SliceRefusal.TheVariants as slices
 use Rattle.slice_lang.specs.Reading.{slice_of}
-use Rattle.cube_shell.specs.Machine.{status_text, Answer, act, declared, declare, fact_limit, first_full, first_heavy, within_masses, within_names, loaded, load, is_covered, rows_reply, slice, slice_reply, replies_with}
+use Rattle.cube_shell.specs.Machine.{Answer, abandon, accepted, act, begin, begun, begun_or_refused, block_read, committed, declare, declare_over, declared, fact_limit, facts_or_refusal, finish, first_full, first_heavy, full_refusal, heavy_refusal, is_covered, load, pending_over, read_by, refusal_of, replies_with, rows_reply, slice, slice_over, slice_reply, status_over, status_text, step, take_over, unless}
 use Rattle.cube_shell.specs.Headline.{size, makes_stage}
 
 -- ---- replies have a byte
@@ -35,10 +35,6 @@ behind text more some = omega (arith, some, length-append text more)
 
 some_number : (text : List ℕ) (n : ℕ) → 0 < length (numbered text n)
 some_number text n = behind text (line (decimal n)) (some_line (decimal n))
-
-either : (b : Bool) (x y : Answer) → 0 < length x.1 → 0 < length y.1 → 0 < length (cond b x y).1
-either true x y p q = p
-either false x y p q = q
 
 schema_some : (refusal : SchemaRefusal) → 0 < length (schema_text refusal)
 schema_some (schemas.Line n) = some_number (codes "refused schema line ") n
@@ -59,34 +55,73 @@ batch_some (rows.Number row field) = behind (codes "refused row ") _ (behind (de
 batch_some (rows.Long row field) = behind (codes "refused row ") _ (behind (decimal row) _ (some_number (codes " long ") field))
 batch_some rows.Memory = some_line []
 
-declared_some : (read : Result Schema SchemaRefusal) → 0 < length (declared read).1
-declared_some (Err refusal) = schema_some refusal
-declared_some (Ok schema) = some_line (codes "declared")
+declared_some : (world : World) (read : Result Schema SchemaRefusal) → 0 < length (declared world read).1
+declared_some world (Err refusal) = schema_some refusal
+declared_some world (Ok schema) = some_line (codes "declared")
 
-declare_some : (world : World) (block : Block) → 0 < length (declare world block).1
-declare_some (Some warehouse) block = some_line (codes "refused declared")
-declare_some None Long = some_line (codes "refused schema block")
-declare_some None (Whole bytes) = declared_some (schema_of bytes)
+declare_some : (world : World) (kept : Kept) (block : Block) → 0 < length (declare_over world kept block).1
+declare_some world (Some warehouse) block = some_line (codes "refused declared")
+declare_some world None Long = some_line (codes "refused schema block")
+declare_some world None (Whole bytes) = declared_some world (schema_of bytes)
 
-within_masses_some : (warehouse : Warehouse) (all : List Fact) (heavy : Option (List ℕ)) → 0 < length (within_masses warehouse all heavy).1
-within_masses_some warehouse all (Some name) = behind (codes "refused mass ") _ (some_line name)
-within_masses_some warehouse all None = some_number (codes "committed ") (length all)
+-- each refusal has a byte
+abbrev HasByte : Option (List ℕ) → Type 0
+HasByte None = Unit {0}
+HasByte (Some text) = 0 < length text
 
-within_names_some : (warehouse : Warehouse) (all : List Fact) (full : Option (List ℕ)) → 0 < length (within_names warehouse all full).1
-within_names_some warehouse all (Some name) = behind (codes "refused names ") _ (some_line name)
-within_names_some warehouse all None = within_masses_some warehouse all (first_heavy 0 warehouse.schema.measures all)
+heavy_some : (heavy : Option (List ℕ)) → HasByte (heavy_refusal heavy)
+heavy_some (Some name) = behind (codes "refused mass ") _ (some_line name)
+heavy_some None = tt
 
-loaded_some : (warehouse : Warehouse) (read : Result (List Fact) RowRefusal) → 0 < length (loaded warehouse read).1
-loaded_some warehouse (Err refusal) = batch_some refusal
-loaded_some warehouse (Ok batch) =
-    either (nat_le (length (warehouse.facts ++ batch)) fact_limit) _ _
-    (within_names_some warehouse (warehouse.facts ++ batch) (first_full 0 warehouse.schema.attrs (warehouse.facts ++ batch)))
-    (some_line (codes "refused facts"))
+full_some : (schema : Schema) (all : List Fact) (full : Option (List ℕ)) → HasByte (full_refusal schema all full)
+full_some schema all (Some name) = behind (codes "refused names ") _ (some_line name)
+full_some schema all None = heavy_some (first_heavy 0 schema.measures all)
 
-load_some : (world : World) (block : Block) → 0 < length (load world block).1
-load_some None block = some_line (codes "refused no schema")
-load_some (Some warehouse) Long = some_line (codes "refused block")
-load_some (Some warehouse) (Whole bytes) = loaded_some warehouse (batch_of warehouse.schema bytes)
+refusal_some : (schema : Schema) (all : List Fact) → HasByte (refusal_of schema all)
+refusal_some schema all = by (nat_le (length all) fact_limit)
+  where
+    by : (b : Bool) → HasByte (cond b (full_refusal schema all (first_full 0 schema.attrs all)) (Some (line (codes "refused facts"))))
+    by true = full_some schema all (first_full 0 schema.attrs all)
+    by false = some_line (codes "refused facts")
+
+unless_some : (world : World) (answer : Answer) (refusal : Option (List ℕ)) → 0 < length answer.1 → HasByte refusal → 0 < length (unless world answer refusal).1
+unless_some world answer None some byte = some
+unless_some world answer (Some text) some byte = byte
+
+committed_some : (warehouse : Warehouse) (batch : List Fact) → 0 < length (committed warehouse batch).1
+committed_some warehouse batch = some_number (codes "committed ") (length (warehouse.facts ++ batch))
+
+accepted_some : (world : World) (warehouse : Warehouse) (batch : List Fact) → 0 < length (accepted world warehouse batch).1
+accepted_some world warehouse batch =
+    unless_some world (committed warehouse batch) (refusal_of warehouse.schema (warehouse.facts ++ batch)) (committed_some warehouse batch)
+    (refusal_some warehouse.schema (warehouse.facts ++ batch))
+
+begun_some : (world : World) (warehouse : Warehouse) (batch : List Fact) → 0 < length (begun_or_refused world warehouse batch).1
+begun_some world warehouse batch =
+    unless_some world (begun warehouse batch) (refusal_of warehouse.schema (warehouse.facts ++ batch)) (some_line (codes "begun"))
+    (refusal_some warehouse.schema (warehouse.facts ++ batch))
+
+read_some : (world : World) (taken : List Fact → Answer) (read : Result (List Fact) RowRefusal) → ((batch : List Fact) → 0 < length (taken batch).1)
+    → 0 < length (read_by world taken (facts_or_refusal read)).1
+read_some world taken (Err refusal) each = batch_some refusal
+read_some world taken (Ok batch) each = each batch
+
+block_some : (world : World) (taken : List Fact → Answer) (schema : Schema) (block : Block) → ((batch : List Fact) → 0 < length (taken batch).1)
+    → 0 < length (read_by world taken (block_read schema block)).1
+block_some world taken schema Long each = some_line (codes "refused block")
+block_some world taken schema (Whole bytes) each = read_some world taken (batch_of schema bytes) each
+
+take_some : (world : World) (taken : Warehouse → List Fact → Answer) (kept : Kept) (pending : Option (List Fact)) (block : Block)
+    → ((warehouse : Warehouse) (batch : List Fact) → 0 < length (taken warehouse batch).1) → 0 < length (take_over world taken kept pending block).1
+take_some world taken None pending block each = some_line (codes "refused no schema")
+take_some world taken (Some warehouse) (Some batch) block each = some_line (codes "refused pending")
+take_some world taken (Some warehouse) None block each = block_some world (taken warehouse) warehouse.schema block (each warehouse)
+
+pending_some : (world : World) (answer : Warehouse → List Fact → Answer) (kept : Kept) (pending : Option (List Fact))
+    → ((warehouse : Warehouse) (batch : List Fact) → 0 < length (answer warehouse batch).1) → 0 < length (pending_over world answer kept pending).1
+pending_some world answer None pending each = some_line (codes "refused nothing pending")
+pending_some world answer (Some warehouse) None each = some_line (codes "refused nothing pending")
+pending_some world answer (Some warehouse) (Some batch) each = each warehouse batch
 
 answer_some : (found : List Row) → 0 < length (answer_text found)
 answer_some found = behind (rows_text (map row_fields found)) _ (some_number (codes "rows ") (length found))
@@ -110,47 +145,45 @@ slice_reply_some : (schema : Schema) (facts : List Fact) (read : Result Slice Sl
 slice_reply_some schema facts (Err refusal) = refused_some refusal
 slice_reply_some schema facts (Ok s) = rows_some schema facts s
 
-slice_some : (world : World) (text : List ℕ) → 0 < length (slice world text).1
+slice_some : (kept : Kept) (text : List ℕ) → 0 < length (slice_over kept text)
 slice_some None text = some_line (codes "refused no schema")
 slice_some (Some warehouse) text = slice_reply_some warehouse.schema warehouse.facts (slice_of warehouse.schema text)
 
-status_some : (world : World) → 0 < length (status_text world)
-status_some None = some_line (codes "no schema")
-status_some (Some warehouse) = some_number (codes "facts ") (length warehouse.facts)
+status_some : (kept : Kept) (pending : Option (List Fact)) → 0 < length (status_over kept pending)
+status_some None pending = some_line (codes "no schema")
+status_some (Some warehouse) None = some_number (codes "facts ") (length warehouse.facts)
+status_some (Some warehouse) (Some batch) =
+    behind (codes "facts ") _ (behind (decimal (length warehouse.facts)) _ (some_number (codes " pending ") (length batch)))
 
 pub reply_some : (world : World) (command : Command) → 0 < length (act world command).1
 unfolding act
-reply_some world (says.Schema block) = declare_some world block
-reply_some world (says.Load block) = load_some world block
-reply_some world (says.Slice text) = slice_some world text
-reply_some world says.Status = status_some world
+reply_some world (says.Schema block) = declare_some world world.kept block
+reply_some world (says.Load block) = take_some world (accepted world) world.kept world.pending block (accepted_some world)
+reply_some world (says.Begin block) = take_some world (begun_or_refused world) world.kept world.pending block (begun_some world)
+reply_some world (says.Step n) = pending_some world _ world.kept world.pending (λ warehouse batch. some_line (codes "stepped"))
+reply_some world says.Finish = pending_some world committed world.kept world.pending committed_some
+reply_some world says.Abandon = pending_some world _ world.kept world.pending (λ warehouse batch. some_line (codes "abandoned"))
+reply_some world (says.Slice text) = slice_some world.kept text
+reply_some world says.Status = status_some world.kept world.pending
 reply_some world says.LongLine = some_line (codes "refused long line")
 reply_some world says.OpenBlock = some_line (codes "refused open block")
-reply_some world (says.Begin block) = some_line (codes "refused unknown")
-reply_some world (says.Step n) = some_line (codes "refused unknown")
-reply_some world says.Finish = some_line (codes "refused unknown")
-reply_some world says.Abandon = some_line (codes "refused unknown")
 reply_some world (says.Generate start rows) = some_line (codes "refused unknown")
 reply_some world says.Unknown = some_line (codes "refused unknown")
 
 -- ---- stages
 
--- where what is known does not grow, it stays
-abbrev StaysOrGrows : World → Answer → Type 0
-StaysOrGrows world answer = nat_lt (size world) (size answer.0) ≡ false → answer.0 ≡ world
+-- where what is accepted does not grow, it stays
+abbrev StaysOrGrows : Kept → Answer → Type 0
+StaysOrGrows kept answer = nat_lt (size kept) (size answer.0.kept) ≡ false → answer.0.kept ≡ kept
 
-stays_either : (world : World) (b : Bool) (x y : Answer) → StaysOrGrows world x → StaysOrGrows world y → StaysOrGrows world (cond b x y)
-stays_either world true x y p q = p
-stays_either world false x y p q = q
+declared_stage : (world : World) → world.kept ≡ None → (read : Result Schema SchemaRefusal) → StaysOrGrows None (declared world read)
+declared_stage world is (Err refusal) = λ h. is
+declared_stage world is (Ok schema) = λ h. absurd (cc)
 
-declared_stage : (read : Result Schema SchemaRefusal) → StaysOrGrows None (declared read)
-declared_stage (Err refusal) = λ h. refl
-declared_stage (Ok schema) = λ h. absurd (cc)
-
-declare_stage : (world : World) (block : Block) → StaysOrGrows world (declare world block)
-declare_stage (Some warehouse) block = λ h. refl
-declare_stage None Long = λ h. refl
-declare_stage None (Whole bytes) = declared_stage (schema_of bytes)
+declare_stage : (world : World) (kept : Kept) → world.kept ≡ kept → (block : Block) → StaysOrGrows kept (declare_over world kept block)
+declare_stage world (Some warehouse) is block = λ h. is
+declare_stage world None is Long = λ h. is
+declare_stage world None is (Whole bytes) = declared_stage world is (schema_of bytes)
 
 pub nothing_added : (batch : List Fact) → length batch ≡ 0 → batch ≡ []
 nothing_added [] h = refl
@@ -161,45 +194,51 @@ same_facts facts batch h =
     let none : batch ≡ [] = nothing_added batch (grind (arith, nat_tests, length-append facts batch)) in
     ap (λ (l : List Fact). facts ++ l) none ∙ append-nil facts
 
-within_masses_stage : (warehouse : Warehouse) (batch : List Fact) (heavy : Option (List ℕ))
-    → StaysOrGrows (Some warehouse) (within_masses warehouse (warehouse.facts ++ batch) heavy)
-within_masses_stage warehouse batch (Some name) = λ h. refl
-within_masses_stage warehouse batch None =
+committed_stage : (warehouse : Warehouse) (batch : List Fact) → StaysOrGrows (Some warehouse) (committed warehouse batch)
+committed_stage warehouse batch =
     λ h. ap (λ (l : List Fact). Some (record { schema = warehouse.schema; facts = l })) (same_facts warehouse.facts batch h)
 
-within_names_stage : (warehouse : Warehouse) (batch : List Fact) (full : Option (List ℕ))
-    → StaysOrGrows (Some warehouse) (within_names warehouse (warehouse.facts ++ batch) full)
-within_names_stage warehouse batch (Some name) = λ h. refl
-within_names_stage warehouse batch None = within_masses_stage warehouse batch (first_heavy 0 warehouse.schema.measures (warehouse.facts ++ batch))
+unless_stage : (world : World) (kept : Kept) → world.kept ≡ kept → (answer : Answer) (refusal : Option (List ℕ)) → StaysOrGrows kept answer
+    → StaysOrGrows kept (unless world answer refusal)
+unless_stage world kept is answer None stage = stage
+unless_stage world kept is answer (Some text) stage = λ h. is
 
-loaded_stage : (warehouse : Warehouse) (read : Result (List Fact) RowRefusal) → StaysOrGrows (Some warehouse) (loaded warehouse read)
-loaded_stage warehouse (Err refusal) = λ h. refl
-loaded_stage warehouse (Ok batch) =
-    stays_either (Some warehouse) (nat_le (length (warehouse.facts ++ batch)) fact_limit) _ _
-    (within_names_stage warehouse batch (first_full 0 warehouse.schema.attrs (warehouse.facts ++ batch)))
-    (λ h. refl)
+read_stage : (world : World) (kept : Kept) → world.kept ≡ kept → (taken : List Fact → Answer) (read : Result (List Fact) (List ℕ))
+    → ((batch : List Fact) → StaysOrGrows kept (taken batch)) → StaysOrGrows kept (read_by world taken read)
+read_stage world kept is taken (Err text) each = λ h. is
+read_stage world kept is taken (Ok batch) each = each batch
 
-load_stage : (world : World) (block : Block) → StaysOrGrows world (load world block)
-load_stage None block = λ h. refl
-load_stage (Some warehouse) Long = λ h. refl
-load_stage (Some warehouse) (Whole bytes) = loaded_stage warehouse (batch_of warehouse.schema bytes)
+take_stage : (world : World) (taken : Warehouse → List Fact → Answer) (kept : Kept) (pending : Option (List Fact)) → world.kept ≡ kept → (block : Block)
+    → ((warehouse : Warehouse) (batch : List Fact) → world.kept ≡ Some warehouse → StaysOrGrows (Some warehouse) (taken warehouse batch))
+    → StaysOrGrows kept (take_over world taken kept pending block)
+take_stage world taken None pending is block each = λ h. is
+take_stage world taken (Some warehouse) (Some batch) is block each = λ h. is
+take_stage world taken (Some warehouse) None is block each =
+    read_stage world (Some warehouse) is (taken warehouse) (block_read warehouse.schema block) (λ batch. each warehouse batch is)
 
-slice_stage : (world : World) (text : List ℕ) → StaysOrGrows world (slice world text)
-slice_stage None text = λ h. refl
-slice_stage (Some warehouse) text = λ h. refl
+pending_stage : (world : World) (answer : Warehouse → List Fact → Answer) (kept : Kept) (pending : Option (List Fact)) → world.kept ≡ kept
+    → ((warehouse : Warehouse) (batch : List Fact) → world.kept ≡ Some warehouse → StaysOrGrows (Some warehouse) (answer warehouse batch))
+    → StaysOrGrows kept (pending_over world answer kept pending)
+pending_stage world answer None pending is each = λ h. is
+pending_stage world answer (Some warehouse) None is each = λ h. is
+pending_stage world answer (Some warehouse) (Some batch) is each = each warehouse batch is
 
-pub no_stage : (world : World) (command : Command) → makes_stage world command ≡ false → (act world command).0 ≡ world
+pub no_stage : (world : World) (command : Command) → makes_stage world command ≡ false → (act world command).0.kept ≡ world.kept
 unfolding act
-no_stage world (says.Schema block) = declare_stage world block
-no_stage world (says.Load block) = load_stage world block
-no_stage world (says.Slice text) = slice_stage world text
+no_stage world (says.Schema block) = declare_stage world world.kept refl block
+no_stage world (says.Load block) =
+    take_stage world (accepted world) world.kept world.pending refl block
+    (λ warehouse batch is. unless_stage world (Some warehouse) is (committed warehouse batch) (refusal_of warehouse.schema (warehouse.facts ++ batch)) (committed_stage warehouse batch))
+no_stage world (says.Begin block) =
+    take_stage world (begun_or_refused world) world.kept world.pending refl block
+    (λ warehouse batch is. unless_stage world (Some warehouse) is (begun warehouse batch) (refusal_of warehouse.schema (warehouse.facts ++ batch)) (λ h. refl))
+no_stage world (says.Step n) = pending_stage world (λ warehouse batch. replies_with world (codes "stepped")) world.kept world.pending refl (λ warehouse batch is h. is)
+no_stage world says.Finish = pending_stage world committed world.kept world.pending refl (λ warehouse batch is. committed_stage warehouse batch)
+no_stage world says.Abandon = pending_stage world (λ warehouse batch. (idle warehouse, line (codes "abandoned"))) world.kept world.pending refl (λ warehouse batch is h. refl)
+no_stage world (says.Slice text) = λ h. refl
 no_stage world says.Status = λ h. refl
 no_stage world says.LongLine = λ h. refl
 no_stage world says.OpenBlock = λ h. refl
-no_stage world (says.Begin block) = λ h. refl
-no_stage world (says.Step n) = λ h. refl
-no_stage world says.Finish = λ h. refl
-no_stage world says.Abandon = λ h. refl
 no_stage world (says.Generate start rows) = λ h. refl
 no_stage world says.Unknown = λ h. refl
 
@@ -229,19 +268,19 @@ pub act_open_block : (world : World) → act world says.OpenBlock ≡ replies_wi
 unfolding act
 act_open_block world = refl
 
-pub act_begin : (world : World) (block : Block) → act world (says.Begin block) ≡ replies_with world (codes "refused unknown")
+pub act_begin : (world : World) (block : Block) → act world (says.Begin block) ≡ begin world block
 unfolding act
 act_begin world block = refl
 
-pub act_step : (world : World) (n : ℕ) → act world (says.Step n) ≡ replies_with world (codes "refused unknown")
+pub act_step : (world : World) (n : ℕ) → act world (says.Step n) ≡ step world
 unfolding act
 act_step world n = refl
 
-pub act_finish : (world : World) → act world says.Finish ≡ replies_with world (codes "refused unknown")
+pub act_finish : (world : World) → act world says.Finish ≡ finish world
 unfolding act
 act_finish world = refl
 
-pub act_abandon : (world : World) → act world says.Abandon ≡ replies_with world (codes "refused unknown")
+pub act_abandon : (world : World) → act world says.Abandon ≡ abandon world
 unfolding act
 act_abandon world = refl
 
@@ -253,14 +292,9 @@ pub act_unknown : (world : World) → act world says.Unknown ≡ replies_with wo
 unfolding act
 act_unknown world = refl
 
--- the commands that are not known yet, and a line that is none
+-- the command that is not known yet, and a line that is none
 pub act_others : (world : World) (command : Command)
-    → ((block : Block) × (command ≡ says.Begin block)) ⊎ (((n : ℕ) × (command ≡ says.Step n)) ⊎ ((command ≡ says.Finish) ⊎ ((command ≡ says.Abandon)
-    ⊎ (((start : ℕ) × (rows : ℕ) × (command ≡ says.Generate start rows)) ⊎ (command ≡ says.Unknown)))))
+    → ((start : ℕ) × (rows : ℕ) × (command ≡ says.Generate start rows)) ⊎ (command ≡ says.Unknown)
     → act world command ≡ replies_with world (codes "refused unknown")
-act_others world command (inl begin) = ap (act world) begin.1 ∙ act_begin world begin.0
-act_others world command (inr (inl step)) = ap (act world) step.1 ∙ act_step world step.0
-act_others world command (inr (inr (inl is))) = ap (act world) is ∙ act_finish world
-act_others world command (inr (inr (inr (inl is)))) = ap (act world) is ∙ act_abandon world
-act_others world command (inr (inr (inr (inr (inl generate))))) = ap (act world) generate.2 ∙ act_generate world generate.0 generate.1
-act_others world command (inr (inr (inr (inr (inr is))))) = ap (act world) is ∙ act_unknown world
+act_others world command (inl generate) = ap (act world) generate.2 ∙ act_generate world generate.0 generate.1
+act_others world command (inr is) = ap (act world) is ∙ act_unknown world

@@ -31,7 +31,7 @@ module _ (world : World) (command : Command) (old mid : Disk) (run : Between old
   pub telling : (new : Disk) (state : State) (reply : List ℕ) → mid.told ≡ old.told → Stands state mid (act world command).0 → reply ≡ (act world command).1 → Emits reply mid new
       → LeavesOnly old new (Meanwhile world command old.told)
   telling new state reply told is same emits = goes_on old mid new (Meanwhile world command old.told) untold emits.time (λ bytes files some after.
-      let kept = subst (λ (f : Files). Keeps f (act world command).0) (sym after.2) (stands_left state mid (act world command).0 is after.0 after.1) in
+      let kept = subst (λ (f : Files). Keeps f (act world command).0.kept) (sym after.2) (stands_left state mid (act world command).0 is after.0 after.1) in
       record {
         front = take some.0 reply;
         rest = drop some.0 reply;

@@ -13,6 +13,7 @@ use Rattle.forest_store.proofs.Declared.{none_accepted}
 use Rattle.cube_shell.specs.Keeps.{IsLawful}
 use Rattle.cube_shell.specs.Machine.{declared}
 use Rattle.cube_shell.specs.Session.{Belongs, Between, KeepsEither}
+use Rattle.cube_shell.specs.World.{bare}
 
 module _ (schema : Schema) (lawful : IsSchema schema) where
   -- no facts keep all limits
@@ -20,10 +21,10 @@ module _ (schema : Schema) (lawful : IsSchema schema) where
   empty_lawful = record { schema = lawful; accepted = none_accepted schema }
 
   pub declared_moments : (old new : Disk) → LeavesOnly old new (λ told files. (told ≡ old.told) × (KeepsNothing files ⊎ KeepsFacts schema [] files))
-      → Between old new None (declared (Ok schema)).0
+      → Between old new (bare None) (declared (bare None) (Ok schema)).0
   declared_moments old new run = wider old new _ _ (λ told files both. (both.0, by files both.1)) run
     where
-      by : (files : Files) → KeepsNothing files ⊎ KeepsFacts schema [] files → KeepsEither None (declared (Ok schema)).0 files
+      by : (files : Files) → KeepsNothing files ⊎ KeepsFacts schema [] files → KeepsEither (bare None) (declared (bare None) (Ok schema)).0 files
       by files (inl nothing) = inl nothing
       by files (inr kept) = inr (record { lawful = empty_lawful; kept = kept })
 

@@ -85,7 +85,7 @@ pub all_done : (session : State) (disk : Disk) (w : World) (cs rest : List Comma
 all_done session disk w cs rest before o none = record {
   told = o.carried.tells ∙ ap (λ (l : List ℕ). before ++ l)
       (sym (o.carried.replies ∙ ap (λ (l : List Command). o.carried.front ++ replies_from o.now l) none ∙ append-nil o.carried.front));
-  kept = subst (λ (v : World). Keeps disk.files v) (sym (o.carried.final ∙ ap (final o.now) none))
+  kept = subst (λ (v : World). Keeps disk.files v.kept) (sym (o.carried.final ∙ ap (final o.now) none))
       (stands_read session disk o.now o.stands);
 }
 

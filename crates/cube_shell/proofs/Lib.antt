@@ -1,10 +1,12 @@
 pub mod Acts
 pub mod Answering
+pub mod BlockReads
 pub mod Commanded
 pub mod Declarings
 pub mod Going
 pub mod Limits
 pub mod Openings
+pub mod Pendings
 pub mod Pieces
 pub mod Sliced
 pub mod Stages

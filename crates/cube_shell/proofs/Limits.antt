@@ -21,9 +21,9 @@ use Rattle.forest_store.specs.Loading.{IsRefused}
 use Rattle.forest_store.proofs.Openings.{mass_past}
 use Rattle.forest_store.proofs.Schemas.{few_measures}
 use Rattle.reply_text.specs.Replies.{committed_text}
-use Rattle.cube_shell.specs.Machine.{accepted, fact_limit, first_full, first_heavy, within_masses, within_names}
+use Rattle.cube_shell.specs.Machine.{accepted, begun, begun_or_refused, committed, fact_limit, first_full, first_heavy, full_refusal, heavy_refusal, refusal_of, unless}
 use Rattle.cube_shell.specs.Refusals.{refusal_text}
-use Rattle.cube_shell.specs.World.{Warehouse}
+use Rattle.cube_shell.specs.World.{Warehouse, World, idle}
 
 -- ---- the first attribute with too many names
 
@@ -87,21 +87,28 @@ module _ (warehouse : Warehouse) (batch : List Fact) (lawful : IsSchema warehous
   abbrev few : Bool
   few = nat_le (length (warehouse.facts ++ batch)) fact_limit
 
-  past_few : few ≡ true → accepted warehouse batch ≡ within_names warehouse all (first_full 0 warehouse.schema.attrs all)
+  past_few : few ≡ true → refusal_of schema all ≡ full_refusal schema all (first_full 0 schema.attrs all)
   past_few a = rw a refl
 
-  past_named : few ≡ true → HasNames warehouse.schema all → accepted warehouse batch ≡ within_masses warehouse all (first_heavy 0 warehouse.schema.measures all)
-  past_named a named = past_few a ∙ ap (within_names warehouse all)
-      (none_full 0 warehouse.schema.attrs all (λ c. subst (λ (n : ℕ). length (names_of all n) ≤ max_at warehouse.schema c) (omega arith) (named c)))
+  past_named : few ≡ true → HasNames schema all → refusal_of schema all ≡ heavy_refusal (first_heavy 0 schema.measures all)
+  past_named a named = past_few a ∙ ap (full_refusal schema all)
+      (none_full 0 schema.attrs all (λ c. subst (λ (n : ℕ). length (names_of all n) ≤ max_at schema c) (omega arith) (named c)))
 
-  -- a batch that keeps the limits is accepted
-  pub all_accepted : AreAccepted warehouse.schema (warehouse.facts ++ batch)
-      → accepted warehouse batch ≡ (Some (record { schema = warehouse.schema; facts = warehouse.facts ++ batch }), committed_text (length (warehouse.facts ++ batch)))
-  all_accepted fine =
+  -- a batch that keeps the limits is not refused
+  pub none_refused : AreAccepted warehouse.schema (warehouse.facts ++ batch) → refusal_of warehouse.schema (warehouse.facts ++ batch) ≡ None
+  none_refused fine =
       let long = fine.few in
       let a : few ≡ true = grind (arith, nat_tests) in
       past_named a fine.named
-      ∙ ap (within_masses warehouse all) (none_heavy 0 warehouse.schema.measures all (λ m below. fine.masses m (omega (arith, below, few_measures warehouse.schema lawful))))
+      ∙ ap heavy_refusal (none_heavy 0 schema.measures all (λ m below. fine.masses m (omega (arith, below, few_measures schema lawful))))
+
+  -- so it is accepted
+  pub all_accepted : (world : World) → AreAccepted warehouse.schema (warehouse.facts ++ batch) → accepted world warehouse batch ≡ committed warehouse batch
+  all_accepted world fine = ap (unless world (committed warehouse batch)) (none_refused fine)
+
+  -- or made pending
+  pub all_begun : (world : World) → AreAccepted warehouse.schema (warehouse.facts ++ batch) → begun_or_refused world warehouse batch ≡ begun warehouse batch
+  all_begun world fine = ap (unless world (begun warehouse batch)) (none_refused fine)
 
   -- a full attribute is declared
   full_declared : All (Agrees warehouse.schema) all → (a : ℕ) → max_at warehouse.schema a < length (names_of all a) → a < length warehouse.schema.attrs
@@ -124,26 +131,34 @@ module _ (warehouse : Warehouse) (batch : List Fact) (lawful : IsSchema warehous
     | inr past ↦ absurd (omega (arith, heavy, mass_past warehouse.schema all m each (grind (arith, nat_tests))))
   ]
 
-  -- a batch that passes a limit is refused
-  pub all_refused : All (Agrees warehouse.schema) (warehouse.facts ++ batch) → (refusal : Refusal) → IsRefused warehouse.schema (warehouse.facts ++ batch) refusal
-      → accepted warehouse batch ≡ (Some warehouse, refusal_text warehouse.schema refusal)
-  all_refused each refusals.Facts is = let a : few ≡ false = grind (arith, nat_tests) in rw a refl
-  all_refused each (refusals.Names c) is =
+  -- a batch that passes a limit is refused by it
+  pub one_refused : All (Agrees warehouse.schema) (warehouse.facts ++ batch) → (refusal : Refusal) → IsRefused warehouse.schema (warehouse.facts ++ batch) refusal
+      → refusal_of warehouse.schema (warehouse.facts ++ batch) ≡ Some (refusal_text warehouse.schema refusal)
+  one_refused each refusals.Facts is = let a : few ≡ false = grind (arith, nat_tests) in rw a refl
+  one_refused each (refusals.Names c) is =
       let long = is.0 in
       let a : few ≡ true = grind (arith, nat_tests) in
-      past_few a ∙ ap (within_names warehouse all) (one_full 0 c warehouse.schema.attrs all (full_declared each c is.1.passes)
-      (λ k below. subst (λ (n : ℕ). length (names_of all n) ≤ max_at warehouse.schema k) (omega arith) (is.1.first k below))
-      (subst (λ (n : ℕ). max_at warehouse.schema c < length (names_of all n)) (omega arith) is.1.passes))
-  all_refused each (refusals.Mass m) is =
+      past_few a ∙ ap (full_refusal schema all) (one_full 0 c schema.attrs all (full_declared each c is.1.passes)
+      (λ k below. subst (λ (n : ℕ). length (names_of all n) ≤ max_at schema k) (omega arith) (is.1.first k below))
+      (subst (λ (n : ℕ). max_at schema c < length (names_of all n)) (omega arith) is.1.passes))
+  one_refused each (refusals.Mass m) is =
       let long = is.0 in
       let a : few ≡ true = grind (arith, nat_tests) in
-      past_named a is.1 ∙ ap (within_masses warehouse all) (one_heavy 0 m warehouse.schema.measures all (heavy_declared each m is.2.passes)
+      past_named a is.1 ∙ ap heavy_refusal (one_heavy 0 m schema.measures all (heavy_declared each m is.2.passes)
       (λ j below. is.2.first j (omega (arith, below))) (subst (λ (n : ℕ). mass_limit < mass n all) (omega arith) is.2.passes))
 
+  pub all_refused : (world : World) → All (Agrees warehouse.schema) (warehouse.facts ++ batch) → (refusal : Refusal) → IsRefused warehouse.schema (warehouse.facts ++ batch) refusal
+      → accepted world warehouse batch ≡ (world, refusal_text warehouse.schema refusal)
+  all_refused world each refusal is = ap (unless world (committed warehouse batch)) (one_refused each refusal is)
+
+  pub none_begun : (world : World) → All (Agrees warehouse.schema) (warehouse.facts ++ batch) → (refusal : Refusal) → IsRefused warehouse.schema (warehouse.facts ++ batch) refusal
+      → begun_or_refused world warehouse batch ≡ (world, refusal_text warehouse.schema refusal)
+  none_begun world each refusal is = ap (unless world (begun warehouse batch)) (one_refused each refusal is)
+
 -- an empty batch is accepted
-pub none_accepted : (warehouse : Warehouse) (batch : List Fact) → IsSchema warehouse.schema → batch ≡ [] → AreAccepted warehouse.schema warehouse.facts
-    → accepted warehouse batch ≡ (Some warehouse, committed_text (length warehouse.facts))
-none_accepted warehouse batch lawful none fine =
+pub none_accepted : (world : World) (warehouse : Warehouse) (batch : List Fact) → IsSchema warehouse.schema → batch ≡ [] → AreAccepted warehouse.schema warehouse.facts
+    → accepted world warehouse batch ≡ (idle warehouse, committed_text (length warehouse.facts))
+none_accepted world warehouse batch lawful none fine =
     let same : warehouse.facts ++ batch ≡ warehouse.facts = ap (λ (l : List Fact). warehouse.facts ++ l) none ∙ append-nil warehouse.facts in
-    all_accepted warehouse batch lawful (subst (AreAccepted warehouse.schema) (sym same) fine)
-    ∙ ap (λ (l : List Fact). (Some (record { schema = warehouse.schema; facts = l }), committed_text (length l))) same
+    all_accepted warehouse batch lawful world (subst (AreAccepted warehouse.schema) (sym same) fine)
+    ∙ ap (λ (l : List Fact). (idle (record { schema = warehouse.schema; facts = l }), committed_text (length l))) same

@@ -19,13 +19,13 @@ use Rattle.cube_shell.specs.Damage.{StopsAt, TellsBreak}
 use Rattle.cube_shell.specs.Ends.{IsNoDamage, stop_of}
 use Rattle.cube_shell.specs.Keeps.{Keeps}
 use Rattle.cube_shell.specs.Session.{Belongs}
-use Rattle.cube_shell.specs.World.{World, Warehouse}
+use Rattle.cube_shell.specs.World.{Kept, Warehouse, bare, idle}
 
 -- what was opened is the warehouse that the files keep
-pub opened_stands : (found : Option Store) (store : Store) (files : Files) (disk : Disk) (world : World) → found ≡ Some store → MayBeOpened found disk → Keeps files world
+pub opened_stands : (found : Option Store) (store : Store) (files : Files) (disk : Disk) (kept : Kept) → found ≡ Some store → MayBeOpened found disk → Keeps files kept
     → (NoneRaised (files 0) → found ≡ None)
     → ((schema : Schema) (facts : List Fact) → IsSchema schema → AreAccepted schema facts → KeepsFacts schema facts files → IsWarehouse schema facts disk.files found)
-    → (warehouse : Warehouse) × (world ≡ Some warehouse) × Belongs store disk warehouse
+    → (warehouse : Warehouse) × (bare kept ≡ idle warehouse) × Belongs store disk warehouse
 opened_stands found store files disk None is fit keeps none given = let no : Some store ≡ None = sym is ∙ none keeps in absurd (cc)
 opened_stands found store files disk (Some warehouse) is fit keeps none given =
     let all = subst (IsWarehouse warehouse.schema warehouse.facts disk.files) is
@@ -55,7 +55,7 @@ clean stops.Disk is = tt
 clean (stops.Damaged file offset) is = is
 clean stops.Memory is = tt
 
-pub undamaged : (stop : StoreStop) (answer : Stop) (files : Files) (world : World) → answer ≡ stop_of stop → Keeps files world
+pub undamaged : (stop : StoreStop) (answer : Stop) (files : Files) (kept : Kept) → answer ≡ stop_of stop → Keeps files kept
     → (NoneRaised (files 0) → stores.IsNoDamage stop)
     → ((schema : Schema) (facts : List Fact) → IsSchema schema → AreAccepted schema facts → KeepsFacts schema facts files → stores.IsNoDamage stop) → IsNoDamage answer
 undamaged stop answer files None same keeps none given = subst IsNoDamage (sym same) (clean stop (none keeps))
@@ -72,8 +72,8 @@ pub tells_break : (files : Files) (stop : StoreStop) (answer : Stop) → answer 
 tells_break files stop answer same is = subst (TellsBreak files) (sym same) (broken_there files stop is)
 
 -- how many reads opening takes
-pub costs_no_more : (files : Files) (world : World) (old now : ℕ) → Keeps files world → (NoneRaised (files 0) → now ≤ old + 1)
+pub costs_no_more : (files : Files) (kept : Kept) (old now : ℕ) → Keeps files kept → (NoneRaised (files 0) → now ≤ old + 1)
     → ((schema : Schema) (facts : List Fact) → KeepsFacts schema facts files → now ≤ old + (1 + names_pages (length (names_text schema facts))))
-    → now ≤ old + open_cost world
+    → now ≤ old + open_cost kept
 costs_no_more files None old now keeps none given = none keeps
 costs_no_more files (Some warehouse) old now keeps none given = given warehouse.schema warehouse.facts keeps.kept

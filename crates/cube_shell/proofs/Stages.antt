@@ -3,7 +3,7 @@ use Rattle.std.proofs.Common.{◌≡◌, ◌⊎◌, inl, inr, ◌<◌, ◌≤◌
 use Rattle.std.proofs.lemmas.Bool.Decides.{nat_tests}
 use Rattle.site_core.specs.Disk.{Files}
 use Rattle.script_lang.specs.declared.command.Command.{Command}
-use Rattle.cube_shell.specs.World.{World}
+use Rattle.cube_shell.specs.World.{Kept, World}
 use Rattle.cube_shell.specs.Machine.{act}
 use Rattle.cube_shell.specs.Keeps.{Keeps}
 use Rattle.cube_shell.specs.Headline.{replies_from, final, makes_stage, stages_after, stages, acked, AfterStop, Meanwhile}
@@ -23,7 +23,7 @@ acked_none w (c ∷ cs) =
     ap (λ b. cond b (cond (makes_stage w c) 1 0 + acked (act w c).0 cs (0 - length (act w c).1)) 0) no
 
 -- nothing of these commands is begun
-pub at_rest : (w : World) (cs : List Command) (before told : List ℕ) (files : Files) → told ≡ before → Keeps files w
+pub at_rest : (w : World) (cs : List Command) (before told : List ℕ) (files : Files) → told ≡ before → Keeps files w.kept
     → AfterStop w cs before told files
 at_rest w cs before told files same kept = record {
   front = [];
@@ -31,7 +31,7 @@ at_rest w cs before told files same kept = record {
   tells = same ∙ sym (append-nil before);
   prefix = refl;
   stage = 0;
-  state = w;
+  state = w.kept;
   there = refl;
   kept = kept;
   acknowledged = omega (arith, acked_none w cs);
@@ -66,11 +66,11 @@ module _ (w : World) (c : Command) (cs : List Command) where
       let one : 1 + k ≡ suc k = omega arith in
       let zero : 0 + k ≡ k = omega arith in
       elim (which (makes_stage w c)) [
-        | inl made ↦ ap (λ b. slice_get (w ∷ (cond b ((act w c).0 ∷ []) [] ++ stages_after (act w c).0 cs)) (cond b 1 0 + k)) made
-            ∙ ap (λ n. slice_get (w ∷ ((act w c).0 ∷ stages_after (act w c).0 cs)) n) one
-        | inr kept ↦ ap (λ b. slice_get (w ∷ (cond b ((act w c).0 ∷ []) [] ++ stages_after (act w c).0 cs)) (cond b 1 0 + k)) kept
-            ∙ ap (λ n. slice_get (w ∷ stages_after (act w c).0 cs) n) zero
-            ∙ ap (λ (v : World). slice_get (v ∷ stages_after (act w c).0 cs) k) (sym (no_stage w c kept))
+        | inl made ↦ ap (λ b. slice_get (w.kept ∷ (cond b ((act w c).0.kept ∷ []) [] ++ stages_after (act w c).0 cs)) (cond b 1 0 + k)) made
+            ∙ ap (λ n. slice_get (w.kept ∷ ((act w c).0.kept ∷ stages_after (act w c).0 cs)) n) one
+        | inr kept ↦ ap (λ b. slice_get (w.kept ∷ (cond b ((act w c).0.kept ∷ []) [] ++ stages_after (act w c).0 cs)) (cond b 1 0 + k)) kept
+            ∙ ap (λ n. slice_get (w.kept ∷ stages_after (act w c).0 cs) n) zero
+            ∙ ap (λ (v : Kept). slice_get (v ∷ stages_after (act w c).0 cs) k) (sym (no_stage w c kept))
       ]
 
   goes_on : {before told : List ℕ} {files : Files} (m : Meanwhile w c before told files)
@@ -93,7 +93,7 @@ module _ (w : World) (c : Command) (cs : List Command) where
       tells = m.tells;
       prefix = goes_on m;
       stage = 0;
-      state = w;
+      state = w.kept;
       there = refl;
       kept = old;
       acknowledged = omega (arith, none);
@@ -105,7 +105,7 @@ module _ (w : World) (c : Command) (cs : List Command) where
       tells = m.tells;
       prefix = goes_on m;
       stage = cond (makes_stage w c) 1 0 + 0;
-      state = (act w c).0;
+      state = (act w c).0.kept;
       there = stage_past 0;
       kept = new;
       acknowledged = omega (arith, none);
@@ -128,7 +128,7 @@ module _ (w : World) (c : Command) (cs : List Command) where
           tells = m.tells;
           prefix = goes_on m;
           stage = cond (makes_stage w c) 1 0 + 0;
-          state = (act w c).0;
+          state = (act w c).0.kept;
           there = stage_past 0;
           kept = m.acknowledged is_whole;
           acknowledged = omega (arith, count, acked_none (act w c).0 cs);

@@ -16,13 +16,12 @@ use Rattle.forest_store.specs.Stored.{IsStoreOf}
 use Rattle.forest_store.specs.Loading.{IsLoaded, IsRefused}
 use Rattle.forest_store.specs.Loading as loading
 use Rattle.forest_store.proofs.Ready.{both_agree}
-use Rattle.reply_text.specs.Replies.{committed_text}
 use Rattle.cube_shell.specs.Headline.{size}
 use Rattle.cube_shell.specs.Keeps.{IsLawful, Keeps}
-use Rattle.cube_shell.specs.Machine.{Answer, accepted}
+use Rattle.cube_shell.specs.Machine.{Answer, accepted, committed}
 use Rattle.cube_shell.specs.Refusals.{refusal_text}
 use Rattle.cube_shell.specs.Session.{Belongs, Between, KeepsEither}
-use Rattle.cube_shell.specs.World.{Warehouse}
+use Rattle.cube_shell.specs.World.{Warehouse, idle}
 use Rattle.cube_shell.proofs.Limits.{all_accepted, all_refused}
 
 module _ (store : Store) (old new : Disk) (warehouse : Warehouse) (batch : List Fact) (is : Belongs store old warehouse) (each : All (Agrees store.forest.schema) batch) where
@@ -38,15 +37,15 @@ module _ (store : Store) (old new : Disk) (warehouse : Warehouse) (batch : List 
   -- a load keeps the world, or what the plain machine makes of it
   pub load_moments : (IsStoreOf store warehouse.facts old.files
       → LeavesOnly old new (λ told files. (told ≡ old.told) × loading.KeepsEither store.forest.schema warehouse.facts (warehouse.facts ++ batch) files))
-      → Between old new (Some warehouse) (accepted warehouse batch).0
+      → Between old new (idle warehouse) (accepted (idle warehouse) warehouse batch).0
   load_moments given =
       wider old new _ _
       (λ told files both. (both.0, by files (subst (λ (s : Schema). loading.KeepsEither s warehouse.facts (warehouse.facts ++ batch) files) is.schema both.1)))
       (given is.stored)
     where
-      by : (files : Files) → loading.KeepsEither warehouse.schema warehouse.facts (warehouse.facts ++ batch) files → KeepsEither (Some warehouse) (accepted warehouse batch).0 files
+      by : (files : Files) → loading.KeepsEither warehouse.schema warehouse.facts (warehouse.facts ++ batch) files → KeepsEither (idle warehouse) (accepted (idle warehouse) warehouse batch).0 files
       by files (inl kept) = inl (record { lawful = is.lawful; kept = kept })
-      by files (inr both) = inr (subst (Keeps files) (sym (ap (λ (a : Answer). a.0) (all_accepted warehouse batch is.lawful.schema both.0)))
+      by files (inr both) = inr (subst (Keeps files) (sym (ap (λ (a : Answer). a.0.kept) (all_accepted warehouse batch is.lawful.schema (idle warehouse) both.0)))
           (record { lawful = lawful both.0; kept = both.1 }))
 
   module _ (loaded : Loaded) (now : Store) (stable : IsStable new)
@@ -65,13 +64,13 @@ module _ (store : Store) (old new : Disk) (warehouse : Warehouse) (batch : List 
       pub committed_facts : now.forest.body.facts ≡ length (warehouse.facts ++ batch)
       committed_facts = committed_as.1.live.at.body_is.facts
 
-      pub committed_answer : accepted warehouse batch ≡ (Some next, committed_text (length (warehouse.facts ++ batch)))
-      committed_answer = all_accepted warehouse batch is.lawful.schema all_fine
+      pub committed_answer : accepted (idle warehouse) warehouse batch ≡ committed warehouse batch
+      committed_answer = all_accepted warehouse batch is.lawful.schema (idle warehouse) all_fine
 
       -- what is known grows
-      pub committed_grows : 0 < length batch → (accepted warehouse batch).0 ≡ Some warehouse → ⊥
+      pub committed_grows : 0 < length batch → (accepted (idle warehouse) warehouse batch).0.kept ≡ Some warehouse → ⊥
       committed_grows some stays =
-          let sizes : length (warehouse.facts ++ batch) + 1 ≡ length warehouse.facts + 1 = ap size (sym (ap (λ (a : Answer). a.0) committed_answer) ∙ stays) in
+          let sizes : length (warehouse.facts ++ batch) + 1 ≡ length warehouse.facts + 1 = ap size (sym (ap (λ (a : Answer). a.0.kept) committed_answer) ∙ stays) in
           omega (arith, some, sizes, length-append warehouse.facts batch)
 
     -- a batch that was refused
@@ -82,8 +81,8 @@ module _ (store : Store) (old new : Disk) (warehouse : Warehouse) (batch : List 
       pub refused_belongs : Belongs now new warehouse
       refused_belongs = record { lawful = is.lawful; schema = refused_as.0 ∙ is.schema; stored = refused_as.1; stable = stable }
 
-      pub refused_answer : accepted warehouse batch ≡ (Some warehouse, refusal_text now.forest.schema refusal)
+      pub refused_answer : accepted (idle warehouse) warehouse batch ≡ (idle warehouse, refusal_text now.forest.schema refusal)
       refused_answer =
-          all_refused warehouse batch is.lawful.schema agree refusal
+          all_refused warehouse batch is.lawful.schema (idle warehouse) agree refusal
           (subst (λ (s : Schema). IsRefused s (warehouse.facts ++ batch) refusal) is.schema refused_as.2)
-          ∙ ap (λ (s : Schema). (Some warehouse, refusal_text s refusal)) (sym (refused_as.0 ∙ is.schema))
+          ∙ ap (λ (s : Schema). (idle warehouse, refusal_text s refusal)) (sym (refused_as.0 ∙ is.schema))

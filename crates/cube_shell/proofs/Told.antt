@@ -17,12 +17,12 @@ use Rattle.slice_lang.specs.Reading.{slice_of}
 use Rattle.slice_lang.specs.declared.refusal.SliceRefusal.{SliceRefusal}
 use Rattle.cube_shell.specs.declared.answered.Answered.{Answered}
 use Rattle.cube_shell.specs.declared.state.State.{State}
-use Rattle.cube_shell.specs.declared.state.State.TheVariants.{Stopped, Empty, Idle}
+use Rattle.cube_shell.specs.declared.state.State.TheVariants.{Stopped, Empty, Idle, Pending}
 use Rattle.cube_shell.specs.declared.stop.Stop.{Stop}
 use Rattle.cube_shell.specs.declared.stop.Stop.TheVariants as stops
 use Rattle.cube_shell.specs.Ends.{IsNoDamage, stop_of}
 use Rattle.cube_shell.specs.Sliced.{TellsSliceDamage}
-use Rattle.cube_shell.specs.Told.{LoadTells, SliceTells, TellsBatchDamage, TellsBlockDamage, TellsDamage, TellsReadDamage}
+use Rattle.cube_shell.specs.Told.{FinishTells, LoadTells, SliceTells, TellsBatchDamage, TellsBlockDamage, TellsDamage, TellsReadDamage}
 
 -- ---- no damage is told
 
@@ -50,11 +50,19 @@ load_none : (state : State) (files : Files) (block : Block) (stop : Stop) → Is
 load_none Stopped files block stop is = is
 load_none Empty files block stop is = is
 load_none (Idle kept) files block stop is = block_none kept files block stop is
+load_none (Pending kept batch) files block stop is = is
+
+finish_none : (state : State) (files : Files) (stop : Stop) → IsNoDamage stop → FinishTells state files stop
+finish_none Stopped files stop is = is
+finish_none Empty files stop is = is
+finish_none (Idle kept) files stop is = is
+finish_none (Pending kept batch) files stop is = batch_none kept files batch stop is
 
 text_none : (state : State) (files : Files) (text : List ℕ) (stop : Stop) → IsNoDamage stop → SliceTells state files text stop
 text_none Stopped files text stop is = is
 text_none Empty files text stop is = is
 text_none (Idle kept) files text stop is = slice_none kept files (slice_of kept.forest.schema text) stop is
+text_none (Pending kept batch) files text stop is = slice_none kept files (slice_of kept.forest.schema text) stop is
 
 pub tells_none : (state : State) (files : Files) (command : Command) (stop : Stop) → IsNoDamage stop → TellsDamage state files command stop
 tells_none state files (says.Slice text) stop is = text_none state files text stop is
@@ -65,7 +73,7 @@ tells_none state files says.LongLine stop is = is
 tells_none state files says.OpenBlock stop is = is
 tells_none state files (says.Begin block) stop is = is
 tells_none state files (says.Step n) stop is = is
-tells_none state files says.Finish stop is = is
+tells_none state files says.Finish stop is = finish_none state files stop is
 tells_none state files says.Abandon stop is = is
 tells_none state files (says.Generate start rows) stop is = is
 tells_none state files says.Unknown stop is = is

@@ -11,10 +11,10 @@ use Rattle.slice_exec.specs.Costs.{visits_over}
 use Rattle.slice_lang.specs.declared.refusal.SliceRefusal.{SliceRefusal}
 use Rattle.slice_lang.specs.Reading.{slice_of}
 use Rattle.view_route.specs.Routes.{IsRoute}
-use Rattle.cube_shell.specs.World.{World}
+use Rattle.cube_shell.specs.World.{Kept, World}
 
--- of files that keep this world: the root file, and the pages of the names
-abbrev pub open_cost : World → ℕ
+-- of files that keep this: the root file, and the pages of the names
+abbrev pub open_cost : Kept → ℕ
 open_cost None = 1
 open_cost (Some warehouse) = 1 + names_pages (length (names_text warehouse.schema warehouse.facts))
 
@@ -29,6 +29,9 @@ MayRead schema facts (Err refusal) pages = pages ≡ 0
 MayRead schema facts (Ok s) pages = IsAnsweredFrom schema facts s pages ⊎ (IsUncovered schema s × (pages ≡ 0))
 
 -- what the text of a slice costs
+abbrev pub CostsOver : Kept → List ℕ → ℕ → Type 0
+CostsOver None text pages = pages ≡ 0
+CostsOver (Some warehouse) text pages = MayRead warehouse.schema warehouse.facts (slice_of warehouse.schema text) pages
+
 abbrev pub Costs : World → List ℕ → ℕ → Type 0
-Costs None text pages = pages ≡ 0
-Costs (Some warehouse) text pages = MayRead warehouse.schema warehouse.facts (slice_of warehouse.schema text) pages
+Costs world text pages = CostsOver world.kept text pages

@@ -8,7 +8,7 @@ use Rattle.cube_shell.specs.declared.status.Status.TheVariants.{Done}
 use Rattle.script_lang.specs.Script.{commands, whole}
 use Rattle.script_lang.specs.declared.command.Command.{Command}
 use Rattle.cube_shell.specs.Machine.{act}
-use Rattle.cube_shell.specs.World.{World}
+use Rattle.cube_shell.specs.World.{Kept, World, bare}
 use Rattle.cube_shell.specs.Keeps.{Keeps}
 
 -- the replies to all commands, joined
@@ -26,23 +26,23 @@ final world [] = world
 final world (command ∷ rest) = final (act world command).0 rest
 
 -- it grows with each stage: with the schema, and with each batch that is not empty
-abbrev pub size : World → ℕ
+abbrev pub size : Kept → ℕ
 size None = 0
 size (Some warehouse) = length warehouse.facts + 1
 
 -- the command declares the schema, or commits a batch that is not empty
 abbrev pub makes_stage : World → Command → Bool
-makes_stage world command = nat_lt (size world) (size (act world command).0)
+makes_stage world command = nat_lt (size world.kept) (size (act world command).0.kept)
 
--- what is known behind each command that makes a stage
-abbrev pub stages_after : World → List Command → List World
+-- what files keep behind each command that makes a stage
+abbrev pub stages_after : World → List Command → List Kept
 stages_after world [] = []
 stages_after world (command ∷ rest) =
-    cond (makes_stage world command) ((act world command).0 ∷ []) [] ++ stages_after (act world command).0 rest
+    cond (makes_stage world command) ((act world command).0.kept ∷ []) [] ++ stages_after (act world command).0 rest
 
--- what is known at the start, and behind each command that makes a stage
-abbrev pub stages : World → List Command → List World
-stages world commands = world ∷ stages_after world commands
+-- what they keep at the start, and behind each command that makes a stage
+abbrev pub stages : World → List Command → List Kept
+stages world commands = world.kept ∷ stages_after world commands
 
 -- of the commands that make a stage, those whose whole reply stands among the first so many bytes
 abbrev pub acked : World → List Command → ℕ → ℕ
@@ -58,7 +58,7 @@ pub record AfterStop (world : World) (commands : List Command) (before told : Li
   pub tells : told ≡ before ++ front
   pub prefix : replies_from world commands ≡ front ++ rest
   pub stage : ℕ
-  pub state : World
+  pub state : Kept
   pub there : slice_get (stages world commands) stage ≡ Some state
   pub kept : Keeps files state
   pub acknowledged : acked world commands (length front) ≤ stage
@@ -71,8 +71,8 @@ pub record Meanwhile (world : World) (command : Command) (before told : List ℕ
   pub rest : List ℕ
   pub tells : told ≡ before ++ front
   pub prefix : (act world command).1 ≡ front ++ rest
-  pub kept : Keeps files world ⊎ Keeps files (act world command).0
-  pub acknowledged : front ≡ (act world command).1 → Keeps files (act world command).0
+  pub kept : Keeps files world.kept ⊎ Keeps files (act world command).0.kept
+  pub acknowledged : front ≡ (act world command).1 → Keeps files (act world command).0.kept
 
 -- a stop leaves of a run what it leaves of its commands, or nothing told and what a stop at the start might have left
 abbrev pub AfterRun : World → List Command → Disk → List ℕ → Files → Type 0
@@ -82,9 +82,9 @@ AfterRun world commands start told files =
 -- all commands were carried out and their replies told, and the files keep what is known behind them
 pub record Finished (now : Disk) (world : World) (commands : List Command) (before : List ℕ) : Type 0 where
   pub told : now.told ≡ before ++ replies_from world commands
-  pub kept : Keeps now.files (final world commands)
+  pub kept : Keeps now.files (final world commands).kept
 
--- a run over this script, of which so much is left in the source, from files that keep this world
+-- a run over this script, of which so much is left in the source, from this world
 pub record Headline (world : World) (script left : List ℕ) (start now : Disk) (status : Status) : Type 0 where
   -- the told bytes are a front of the replies
   pub prefix : TellsFront (replies world script) start.told now.told

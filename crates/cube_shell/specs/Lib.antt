@@ -5,6 +5,7 @@ pub mod Headline
 pub mod Keeps
 pub mod Machine
 pub mod Pulls
+pub mod Reading
 pub mod Refusals
 pub mod Session
 pub mod Sliced

@@ -17,8 +17,8 @@ use Rattle.script_lang.specs.declared.command.Block.{Block}
 use Rattle.script_lang.specs.declared.command.Block.TheVariants.{Whole, Long}
 use Rattle.script_lang.specs.declared.command.Command.{Command}
 use Rattle.script_lang.specs.declared.command.Command.TheVariants as says
-use Rattle.cube_shell.specs.World.{World, Warehouse}
-use Rattle.reply_text.specs.Replies.{line, committed_text, facts_text, schema_text, batch_text, full_text, mass_text, slice_text, answer_text}
+use Rattle.cube_shell.specs.World.{Kept, World, Warehouse, bare, idle, begun_with}
+use Rattle.reply_text.specs.Replies.{line, committed_text, facts_text, pending_text, schema_text, batch_text, full_text, mass_text, slice_text, answer_text}
 use Rattle.slice_lang.specs.declared.refusal.SliceRefusal.{SliceRefusal}
 use Rattle.slice_lang.specs.Reading.{slice_of}
 use Rattle.view_route.specs.Routes.{covers}
@@ -27,6 +27,10 @@ use Rattle.view_route.specs.Routes.{covers}
 abbrev pub Answer : Type 0
 Answer = World × List ℕ
 
+-- a command that only answers with a line
+abbrev pub replies_with : World → List ℕ → Answer
+replies_with world text = (world, line text)
+
 -- the most facts
 abbrev pub fact_limit : ℕ
 fact_limit = 1099511627776
@@ -34,20 +38,23 @@ fact_limit = 1099511627776
 -- ---- schema
 
 -- a schema without facts
-abbrev pub empty : Schema → World
-empty schema = Some (record { schema = schema; facts = [] })
+abbrev pub empty : Schema → Warehouse
+empty schema = record { schema = schema; facts = [] }
 
 -- the schema of a block is declared, or the block is refused
-abbrev pub declared : Result Schema SchemaRefusal → Answer
-declared (Err refusal) = (None, schema_text refusal)
-declared (Ok schema) = (empty schema, line (codes "declared"))
+abbrev pub declared : World → Result Schema SchemaRefusal → Answer
+declared world (Err refusal) = (world, schema_text refusal)
+declared world (Ok schema) = (idle (empty schema), line (codes "declared"))
+
+abbrev pub declare_over : World → Kept → Block → Answer
+declare_over world (Some warehouse) block = replies_with world (codes "refused declared")
+declare_over world None Long = replies_with world (codes "refused schema block")
+declare_over world None (Whole bytes) = declared world (schema_of bytes)
 
 abbrev pub declare : World → Block → Answer
-declare (Some warehouse) block = (Some warehouse, line (codes "refused declared"))
-declare None Long = (None, line (codes "refused schema block"))
-declare None (Whole bytes) = declared (schema_of bytes)
+declare world block = declare_over world world.kept block
 
--- ---- load
+-- ---- load and begin
 
 -- the name of the first of these measures, the first of which is measure m, whose mass passes the limit
 abbrev pub first_heavy : ℕ → List (List ℕ) → List Fact → Option (List ℕ)
@@ -59,33 +66,84 @@ abbrev pub first_full : ℕ → List Attr → List Fact → Option (List ℕ)
 first_full a [] facts = None
 first_full a (attr ∷ attrs) facts = cond (nat_le (length (names_of facts a)) (max_of attr.kind)) (first_full (suc a) attrs facts) (Some attr.name)
 
--- all facts, where no mass passes the limit
-abbrev pub within_masses : Warehouse → List Fact → Option (List ℕ) → Answer
-within_masses warehouse all (Some name) = (Some warehouse, mass_text name)
-within_masses warehouse all None = (Some (record { schema = warehouse.schema; facts = all }), committed_text (length all))
+-- the refusal where a mass passes the limit
+abbrev pub heavy_refusal : Option (List ℕ) → Option (List ℕ)
+heavy_refusal (Some name) = Some (mass_text name)
+heavy_refusal None = None
 
--- all facts, where no attribute has too many distinct texts
-abbrev pub within_names : Warehouse → List Fact → Option (List ℕ) → Answer
-within_names warehouse all (Some name) = (Some warehouse, full_text name)
-within_names warehouse all None = within_masses warehouse all (first_heavy 0 warehouse.schema.measures all)
+-- the refusal where an attribute has too many distinct texts, and otherwise that of the masses
+abbrev pub full_refusal : Schema → List Fact → Option (List ℕ) → Option (List ℕ)
+full_refusal schema all (Some name) = Some (full_text name)
+full_refusal schema all None = heavy_refusal (first_heavy 0 schema.measures all)
 
--- a batch is accepted where all facts then keep the limits
-abbrev pub accepted : Warehouse → List Fact → Answer
-accepted warehouse batch =
-    let all = warehouse.facts ++ batch in
-    cond (nat_le (length all) fact_limit)
-    (within_names warehouse all (first_full 0 warehouse.schema.attrs all))
-    (Some warehouse, line (codes "refused facts"))
+-- the refusal by the first limit that all facts pass, if they pass one
+abbrev pub refusal_of : Schema → List Fact → Option (List ℕ)
+refusal_of schema all =
+    cond (nat_le (length all) fact_limit) (full_refusal schema all (first_full 0 schema.attrs all)) (Some (line (codes "refused facts")))
 
--- a batch with a faulty row is refused
-abbrev pub loaded : Warehouse → Result (List Fact) RowRefusal → Answer
-loaded warehouse (Err refusal) = (Some warehouse, batch_text refusal)
-loaded warehouse (Ok batch) = accepted warehouse batch
+-- this answer, or a refusal
+abbrev pub unless : World → Answer → Option (List ℕ) → Answer
+unless world answer None = answer
+unless world answer (Some text) = (world, text)
+
+-- the facts of a batch are accepted, and nothing is pending
+abbrev pub committed : Warehouse → List Fact → Answer
+committed warehouse batch =
+    (idle (record { schema = warehouse.schema; facts = warehouse.facts ++ batch }), committed_text (length (warehouse.facts ++ batch)))
+
+-- the batch is pending
+abbrev pub begun : Warehouse → List Fact → Answer
+begun warehouse batch = (begun_with warehouse batch, line (codes "begun"))
+
+-- a batch is accepted, or made pending, where all facts then keep the limits
+abbrev pub accepted : World → Warehouse → List Fact → Answer
+accepted world warehouse batch = unless world (committed warehouse batch) (refusal_of warehouse.schema (warehouse.facts ++ batch))
+
+abbrev pub begun_or_refused : World → Warehouse → List Fact → Answer
+begun_or_refused world warehouse batch = unless world (begun warehouse batch) (refusal_of warehouse.schema (warehouse.facts ++ batch))
+
+-- the facts of a block, or the refusal
+abbrev pub facts_or_refusal : Result (List Fact) RowRefusal → Result (List Fact) (List ℕ)
+facts_or_refusal (Err refusal) = Err (batch_text refusal)
+facts_or_refusal (Ok batch) = Ok batch
+
+abbrev pub block_read : Schema → Block → Result (List Fact) (List ℕ)
+block_read schema Long = Err (line (codes "refused block"))
+block_read schema (Whole bytes) = facts_or_refusal (batch_of schema bytes)
+
+-- the facts are taken so
+abbrev pub read_by : World → (List Fact → Answer) → Result (List Fact) (List ℕ) → Answer
+read_by world taken (Err text) = (world, text)
+read_by world taken (Ok batch) = taken batch
+
+-- a block of facts is taken so, where a schema is declared and no batch is pending
+abbrev pub take_over : World → (Warehouse → List Fact → Answer) → Kept → Option (List Fact) → Block → Answer
+take_over world taken None pending block = replies_with world (codes "refused no schema")
+take_over world taken (Some warehouse) (Some batch) block = replies_with world (codes "refused pending")
+take_over world taken (Some warehouse) None block = read_by world (taken warehouse) (block_read warehouse.schema block)
 
 abbrev pub load : World → Block → Answer
-load None block = (None, line (codes "refused no schema"))
-load (Some warehouse) Long = (Some warehouse, line (codes "refused block"))
-load (Some warehouse) (Whole bytes) = loaded warehouse (batch_of warehouse.schema bytes)
+load world block = take_over world (accepted world) world.kept world.pending block
+
+abbrev pub begin : World → Block → Answer
+begin world block = take_over world (begun_or_refused world) world.kept world.pending block
+
+-- ---- step, finish and abandon
+
+-- the pending batch is answered so, where there is one
+abbrev pub pending_over : World → (Warehouse → List Fact → Answer) → Kept → Option (List Fact) → Answer
+pending_over world answer None pending = replies_with world (codes "refused nothing pending")
+pending_over world answer (Some warehouse) None = replies_with world (codes "refused nothing pending")
+pending_over world answer (Some warehouse) (Some batch) = answer warehouse batch
+
+abbrev pub step : World → Answer
+step world = pending_over world (λ warehouse batch. replies_with world (codes "stepped")) world.kept world.pending
+
+abbrev pub finish : World → Answer
+finish world = pending_over world committed world.kept world.pending
+
+abbrev pub abandon : World → Answer
+abandon world = pending_over world (λ warehouse batch. (idle warehouse, line (codes "abandoned"))) world.kept world.pending
 
 -- ---- slice
 
@@ -102,33 +160,37 @@ abbrev pub slice_reply : Schema → List Fact → Result Slice SliceRefusal → 
 slice_reply schema facts (Err refusal) = slice_text refusal
 slice_reply schema facts (Ok s) = rows_reply schema facts s
 
+-- the rows of the accepted facts, also while a batch is pending
+abbrev pub slice_over : Kept → List ℕ → List ℕ
+slice_over None text = line (codes "refused no schema")
+slice_over (Some warehouse) text = slice_reply warehouse.schema warehouse.facts (slice_of warehouse.schema text)
+
 abbrev pub slice : World → List ℕ → Answer
-slice None text = (None, line (codes "refused no schema"))
-slice (Some warehouse) text = (Some warehouse, slice_reply warehouse.schema warehouse.facts (slice_of warehouse.schema text))
+slice world text = (world, slice_over world.kept text)
 
 -- ---- status
 
+abbrev pub status_over : Kept → Option (List Fact) → List ℕ
+status_over None pending = line (codes "no schema")
+status_over (Some warehouse) None = facts_text (length warehouse.facts)
+status_over (Some warehouse) (Some batch) = pending_text (length warehouse.facts) (length batch)
+
 abbrev pub status_text : World → List ℕ
-status_text None = line (codes "no schema")
-status_text (Some warehouse) = facts_text (length warehouse.facts)
+status_text world = status_over world.kept world.pending
 
 -- ---- all commands
-
--- a command that only answers with a line
-abbrev pub replies_with : World → List ℕ → Answer
-replies_with world text = (world, line text)
 
 -- what is known behind a command, and the reply
 unfoldable pub act : World → Command → Answer
 act world (says.Schema block) = declare world block
 act world (says.Load block) = load world block
+act world (says.Begin block) = begin world block
+act world (says.Step n) = step world
+act world says.Finish = finish world
+act world says.Abandon = abandon world
 act world (says.Slice text) = slice world text
 act world says.Status = (world, status_text world)
 act world says.LongLine = replies_with world (codes "refused long line")
 act world says.OpenBlock = replies_with world (codes "refused open block")
-act world (says.Begin block) = replies_with world (codes "refused unknown")
-act world (says.Step n) = replies_with world (codes "refused unknown")
-act world says.Finish = replies_with world (codes "refused unknown")
-act world says.Abandon = replies_with world (codes "refused unknown")
 act world (says.Generate start rows) = replies_with world (codes "refused unknown")
 act world says.Unknown = replies_with world (codes "refused unknown")

@@ -1,19 +1,22 @@
 -- A session that stands for a world, and how it goes on.
-use Rattle.std.specs.Prelude.{◌≡◌, ◌⊎◌, ℕ, List, [], ◌++◌, codes, Some, None}
+use Rattle.std.specs.Prelude.{◌≡◌, ◌⊎◌, ℕ, List, [], ◌++◌, codes, length, Some, None}
+use Rattle.std.specs.List.{All}
 use Rattle.script_lang.specs.declared.command.Command.{Command}
 use Rattle.site_core.specs.Disk.{Files, Disk}
 use Rattle.site_core.specs.Moments.{IsStable, LeavesOnly}
+use Rattle.cube_schema.specs.Agreeing.{Agrees}
 use Rattle.forest_root.specs.declared.forest.Store.{Store}
+use Rattle.forest_store.specs.Held.{AreAccepted}
 use Rattle.forest_store.specs.Opened.{IsEmpty, IsOpened}
 use Rattle.forest_store.specs.Stored.{IsStoreOf}
-use Rattle.reply_text.specs.Replies.{line, facts_text}
+use Rattle.reply_text.specs.Replies.{line, facts_text, pending_text}
 use Rattle.cube_shell.specs.declared.answered.Answered.{Answered}
 use Rattle.cube_shell.specs.declared.state.State.{State}
-use Rattle.cube_shell.specs.declared.state.State.TheVariants.{Stopped, Empty, Idle}
+use Rattle.cube_shell.specs.declared.state.State.TheVariants.{Stopped, Empty, Idle, Pending}
 use Rattle.cube_shell.specs.Headline.{replies_from, final, AfterStop}
 use Rattle.cube_shell.specs.Keeps.{IsLawful, Keeps}
 use Rattle.cube_shell.specs.Machine.{Answer}
-use Rattle.cube_shell.specs.World.{World, Warehouse}
+use Rattle.cube_shell.specs.World.{Kept, World, Warehouse, bare, begun_with, idle}
 
 -- the store is that of the warehouse which the files keep
 pub record Belongs (store : Store) (disk : Disk) (warehouse : Warehouse) : Type 0 where
@@ -23,33 +26,59 @@ pub record Belongs (store : Store) (disk : Disk) (warehouse : Warehouse) : Type 
   -- a stop now leaves what a read gives
   pub stable : IsStable disk
 
--- it has not stopped
+-- it has not stopped; a pending batch is of its schema
 abbrev pub IsRunning : State → Type 0
 IsRunning Stopped = ⊥
 IsRunning Empty = Unit {0}
 IsRunning (Idle store) = Unit {0}
+IsRunning (Pending store batch) = All (Agrees store.forest.schema) batch
 
 -- the files are those that it has opened, whatever they hold
 abbrev pub IsFit : State → Disk → Type 0
 IsFit Stopped disk = ⊥
 IsFit Empty disk = IsEmpty disk
 IsFit (Idle store) disk = IsOpened store.forest.body disk
+IsFit (Pending store batch) disk = IsOpened store.forest.body disk
 
 -- it stands for this world
 abbrev pub Stands : State → Disk → World → Type 0
 Stands Stopped disk world = ⊥
-Stands Empty disk world = (world ≡ None) × IsEmpty disk
-Stands (Idle store) disk world = (warehouse : Warehouse) × (world ≡ Some warehouse) × Belongs store disk warehouse
+Stands Empty disk world = (world ≡ bare None) × IsEmpty disk
+Stands (Idle store) disk world = (warehouse : Warehouse) × (world ≡ idle warehouse) × Belongs store disk warehouse
+Stands (Pending store batch) disk world =
+    (warehouse : Warehouse) × (world ≡ begun_with warehouse batch) × Belongs store disk warehouse
+    × AreAccepted warehouse.schema (warehouse.facts ++ batch)
 
 -- how many facts it knows
 abbrev pub state_text : State → List ℕ
 state_text Stopped = []
 state_text Empty = line (codes "no schema")
 state_text (Idle store) = facts_text store.forest.body.facts
+state_text (Pending store batch) = pending_text store.forest.body.facts (length batch)
 
--- the files keep this world or that
+-- the reply to a step
+abbrev pub step_text : State → List ℕ
+step_text Stopped = []
+step_text Empty = line (codes "refused nothing pending")
+step_text (Idle store) = line (codes "refused nothing pending")
+step_text (Pending store batch) = line (codes "stepped")
+
+-- what there is when a pending batch is dropped, and the reply
+abbrev pub abandoned : State → State
+abandoned Stopped = Stopped
+abandoned Empty = Empty
+abandoned (Idle store) = Idle store
+abandoned (Pending store batch) = Idle store
+
+abbrev pub abandon_text : State → List ℕ
+abandon_text Stopped = []
+abandon_text Empty = line (codes "refused nothing pending")
+abandon_text (Idle store) = line (codes "refused nothing pending")
+abandon_text (Pending store batch) = line (codes "abandoned")
+
+-- the files keep what this world has accepted, or that one
 abbrev pub KeepsEither : World → World → Files → Type 0
-KeepsEither world next files = Keeps files world ⊎ Keeps files next
+KeepsEither world next files = Keeps files world.kept ⊎ Keeps files next.kept
 
 -- Of these commands some are carried out, and the others are left. What a stop leaves that is right from here on is right from
 -- the start.
@@ -66,7 +95,7 @@ pub record Onward (state : State) (disk : Disk) (world : World) (commands : List
   pub stands : Stands state disk now
   pub carried : Carried world commands before now rest disk.told
 
--- nothing is told from old to new, and a stop at any moment there leaves files that keep this world or that
+-- nothing is told from old to new, and a stop at any moment there leaves files that keep what this world has accepted, or that one
 abbrev pub Between : Disk → Disk → World → World → Type 0
 Between old new world next = LeavesOnly old new (λ told files. (told ≡ old.told) × KeepsEither world next files)
 

@@ -13,7 +13,7 @@ use Rattle.script_lang.specs.declared.command.Command.{Command}
 use Rattle.script_lang.specs.declared.command.Command.TheVariants as says
 use Rattle.slice_lang.specs.Reading.{slice_of}
 use Rattle.cube_shell.specs.declared.state.State.{State}
-use Rattle.cube_shell.specs.declared.state.State.TheVariants.{Stopped, Empty, Idle}
+use Rattle.cube_shell.specs.declared.state.State.TheVariants.{Stopped, Empty, Idle, Pending}
 use Rattle.cube_shell.specs.declared.stop.Stop.{Stop}
 use Rattle.cube_shell.specs.declared.stop.Stop.TheVariants as stops
 use Rattle.cube_shell.specs.Ends.{IsNoDamage}
@@ -40,13 +40,22 @@ abbrev pub SliceTells : State → Files → List ℕ → Stop → Type 0
 SliceTells Stopped files text stop = IsNoDamage stop
 SliceTells Empty files text stop = IsNoDamage stop
 SliceTells (Idle kept) files text stop = TellsSliceDamage kept files (slice_of kept.forest.schema text) stop
+SliceTells (Pending kept batch) files text stop = TellsSliceDamage kept files (slice_of kept.forest.schema text) stop
 
 abbrev pub LoadTells : State → Files → Block → Stop → Type 0
 LoadTells Stopped files block stop = IsNoDamage stop
 LoadTells Empty files block stop = IsNoDamage stop
 LoadTells (Idle kept) files block stop = TellsBlockDamage kept files block stop
+LoadTells (Pending kept batch) files block stop = IsNoDamage stop
 
--- damage that a command tells is there; no command but these two tells any
+-- the end of a pending batch
+abbrev pub FinishTells : State → Files → Stop → Type 0
+FinishTells Stopped files stop = IsNoDamage stop
+FinishTells Empty files stop = IsNoDamage stop
+FinishTells (Idle kept) files stop = IsNoDamage stop
+FinishTells (Pending kept batch) files stop = TellsBatchDamage kept files batch stop
+
+-- damage that a command tells is there; no command but these three tells any
 abbrev pub TellsDamage : State → Files → Command → Stop → Type 0
 TellsDamage state files (says.Slice text) stop = SliceTells state files text stop
 TellsDamage state files (says.Load block) stop = LoadTells state files block stop
@@ -56,7 +65,7 @@ TellsDamage state files says.LongLine stop = IsNoDamage stop
 TellsDamage state files says.OpenBlock stop = IsNoDamage stop
 TellsDamage state files (says.Begin block) stop = IsNoDamage stop
 TellsDamage state files (says.Step n) stop = IsNoDamage stop
-TellsDamage state files says.Finish stop = IsNoDamage stop
+TellsDamage state files says.Finish stop = FinishTells state files stop
 TellsDamage state files says.Abandon stop = IsNoDamage stop
 TellsDamage state files (says.Generate start rows) stop = IsNoDamage stop
 TellsDamage state files says.Unknown stop = IsNoDamage stop

@@ -1,5 +1,5 @@
--- What the plain machine knows: a schema, and the facts that it has accepted.
-use Rattle.std.specs.Prelude.{List, Option}
+-- What the plain machine knows: a schema with the facts that it has accepted, and a batch that is pending.
+use Rattle.std.specs.Prelude.{List, Option, Some, None}
 use Rattle.cube_schema.specs.declared.schema.Schema.{Schema}
 use Rattle.fact_model.specs.declared.fact.Fact.{Fact}
 
@@ -8,6 +8,22 @@ pub record Warehouse : Type 0 where
   -- the accepted facts
   pub facts : List Fact
 
--- no schema is declared, or one is
-abbrev pub World : Type 0
-World = Option Warehouse
+-- what files keep: no schema is declared, or one is
+abbrev pub Kept : Type 0
+Kept = Option Warehouse
+
+pub record World : Type 0 where
+  pub kept : Kept
+  -- the facts of a batch that has begun, and is neither committed nor dropped
+  pub pending : Option (List Fact)
+
+-- no batch is pending
+abbrev pub bare : Kept → World
+bare kept = record { kept = kept; pending = None }
+
+abbrev pub idle : Warehouse → World
+idle warehouse = bare (Some warehouse)
+
+-- this batch is pending
+abbrev pub begun_with : Warehouse → List Fact → World
+begun_with warehouse batch = record { kept = Some warehouse; pending = Some batch }

@@ -5,7 +5,7 @@ ghost use Rattle.forest_store.specs.Opened.{IsEmpty};
 ghost use Rattle.cube_shell.specs.Ends.{IsNoDamage, StopCause};
 ghost use Rattle.cube_shell.specs.Machine.{declare, declared};
 ghost use Rattle.cube_shell.specs.Session.{Between, IsAnswer, IsFit, IsRunning, Stands};
-ghost use Rattle.cube_shell.specs.World.{World};
+ghost use Rattle.cube_shell.specs.World.{World, bare};
 
 use crate::answered::{Answered, plain};
 use crate::state::State;
@@ -31,7 +31,7 @@ pub fn declare<T: Site>(
         → Between (T.disk site.old) (T.disk site.new) world (declare world block).0 }
     ensures undamaged { IfErr result IsNoDamage }
     ensures unwritten { IsTrue T.tells → (world : World) → Stands state (T.disk site.old) world
-        → (declare world block).0 ≡ world → OnOk result (T.writes site.new ≡ T.writes site.old) }
+        → (declare world block).0.kept ≡ world.kept → OnOk result (T.writes site.new ≡ T.writes site.old) }
 
     ensures running { IfOk result (λ done. IsRunning done.state) }
     ensures fit { IsTrue T.tells → IfOk result (λ done. IsFit done.state (T.disk site.new)) }
@@ -44,6 +44,9 @@ pub fn declare<T: Site>(
         State::Stopped => Err(Stop::Memory),
         State::Empty => declare_first(alloc, block, site),
         State::Idle(store) => plain(alloc, State::Idle(store), "refused declared"),
+        State::Pending(store, batch) => {
+            plain(alloc, State::Pending(store, batch), "refused declared")
+        }
     }
 }
 
@@ -51,10 +54,10 @@ pub fn declare<T: Site>(
 fn declare_first<T: Site>(alloc: Global, block: Block, site: &mut T) -> Result<Answered, Stop>
     requires empty { IsTrue T.tells → IsEmpty (T.disk site.old) }
 
-    ensures answer { IsTrue T.tells → IfOk result (IsAnswer (T.disk site.new) (declare None block)) }
-    ensures any_moment { IsTrue T.tells → Between (T.disk site.old) (T.disk site.new) None (declare None block).0 }
+    ensures answer { IsTrue T.tells → IfOk result (IsAnswer (T.disk site.new) (declare (bare None) block)) }
+    ensures any_moment { IsTrue T.tells → Between (T.disk site.old) (T.disk site.new) (bare None) (declare (bare None) block).0 }
     ensures undamaged { IfErr result IsNoDamage }
-    ensures unwritten { (declare None block).0 ≡ None → OnOk result (T.writes site.new ≡ T.writes site.old) }
+    ensures unwritten { (declare (bare None) block).0.kept ≡ None → OnOk result (T.writes site.new ≡ T.writes site.old) }
 
     ensures running { IfOk result (λ done. IsRunning done.state) }
     ensures fit { IsTrue T.tells → IfOk result (λ done. IsFit done.state (T.disk site.new)) }
@@ -83,10 +86,10 @@ fn declare_schema<T: Site>(alloc: Global, schema: Schema, site: &mut T) -> Resul
     requires lawful { IsSchema schema }
     requires empty { IsTrue T.tells → IsEmpty (T.disk site.old) }
 
-    ensures answer { IsTrue T.tells → IfOk result (IsAnswer (T.disk site.new) (declared (Ok schema))) }
-    ensures any_moment { IsTrue T.tells → Between (T.disk site.old) (T.disk site.new) None (declared (Ok schema)).0 }
+    ensures answer { IsTrue T.tells → IfOk result (IsAnswer (T.disk site.new) (declared (bare None) (Ok schema))) }
+    ensures any_moment { IsTrue T.tells → Between (T.disk site.old) (T.disk site.new) (bare None) (declared (bare None) (Ok schema)).0 }
     ensures undamaged { IfErr result IsNoDamage }
-    ensures unwritten { (declared (Ok schema)).0 ≡ None → OnOk result (T.writes site.new ≡ T.writes site.old) }
+    ensures unwritten { (declared (bare None) (Ok schema)).0.kept ≡ None → OnOk result (T.writes site.new ≡ T.writes site.old) }
 
     ensures running { IfOk result (λ done. IsRunning done.state) }
     ensures fit { IsTrue T.tells → IfOk result (λ done. IsFit done.state (T.disk site.new)) }

@@ -2,9 +2,11 @@
 #![tactic(auto)]
 
 mod answered;
+mod blocks;
 mod declaring;
 mod loading;
 mod machine;
+mod pending;
 mod pull;
 mod serve;
 mod session;

@@ -8,15 +8,15 @@ ghost use Rattle.cube_shell.specs.Ends.{IsNoDamage, StopCause};
 ghost use Rattle.cube_shell.specs.Machine.{accepted, load};
 ghost use Rattle.cube_shell.specs.Session.{Belongs, Between, IsAnswer, IsFit, IsRunning, Stands};
 ghost use Rattle.cube_shell.specs.Told.{LoadTells, TellsBatchDamage, TellsBlockDamage};
-ghost use Rattle.cube_shell.specs.World.{Warehouse, World};
+ghost use Rattle.cube_shell.specs.World.{Warehouse, World, idle};
 ghost use Rattle.reply_text.specs.Replies.{committed_text};
 ghost use Rattle.cube_shell.specs.Refusals.{refusal_text};
 
 use crate::answered::{Answered, plain};
+use crate::blocks::{Read, read_block};
 use crate::state::State;
 use crate::stop::Stop;
 use cube_schema::Schema;
-use fact_csv::read_batch;
 use fact_model::FactList;
 use forest_root::Store;
 use forest_store::{Loaded, Refusal};
@@ -42,7 +42,7 @@ pub fn load<T: Site>(
         → IfErr result IsNoDamage }
     ensures damage { IsTrue T.tells → IfErr result (LoadTells state (T.disk site.old).files block) }
     ensures unwritten { IsTrue T.tells → (world : World) → Stands state (T.disk site.old) world
-        → (load world block).0 ≡ world → OnOk result (T.writes site.new ≡ T.writes site.old) }
+        → (load world block).0.kept ≡ world.kept → OnOk result (T.writes site.new ≡ T.writes site.old) }
 
     ensures running { IfOk result (λ done. IsRunning done.state) }
     ensures fit { IsTrue T.tells → IfOk result (λ done. IsFit done.state (T.disk site.new)) }
@@ -55,6 +55,9 @@ pub fn load<T: Site>(
         State::Stopped => Err(Stop::Memory),
         State::Empty => plain(alloc, State::Empty, "refused no schema"),
         State::Idle(store) => load_block(alloc, store, block, site),
+        State::Pending(store, batch) => {
+            plain(alloc, State::Pending(store, batch), "refused pending")
+        }
     }
 }
 
@@ -68,14 +71,14 @@ fn load_block<T: Site>(
     requires fit { IsTrue T.tells → IsOpened store.forest.body (T.disk site.old) }
 
     ensures answer { IsTrue T.tells → (warehouse : Warehouse) → Belongs store (T.disk site.old) warehouse
-        → IfOk result (IsAnswer (T.disk site.new) (load (Some warehouse) block)) }
+        → IfOk result (IsAnswer (T.disk site.new) (load (idle warehouse) block)) }
     ensures any_moment { IsTrue T.tells → (warehouse : Warehouse) → Belongs store (T.disk site.old) warehouse
-        → Between (T.disk site.old) (T.disk site.new) (Some warehouse) (load (Some warehouse) block).0 }
+        → Between (T.disk site.old) (T.disk site.new) (idle warehouse) (load (idle warehouse) block).0 }
     ensures undamaged { IsTrue T.tells → (warehouse : Warehouse) → Belongs store (T.disk site.old) warehouse
         → IfErr result IsNoDamage }
     ensures damage { IsTrue T.tells → IfErr result (TellsBlockDamage store (T.disk site.old).files block) }
     ensures unwritten { IsTrue T.tells → (warehouse : Warehouse) → Belongs store (T.disk site.old) warehouse
-        → (load (Some warehouse) block).0 ≡ Some warehouse → OnOk result (T.writes site.new ≡ T.writes site.old) }
+        → (load (idle warehouse) block).0.kept ≡ Some warehouse → OnOk result (T.writes site.new ≡ T.writes site.old) }
 
     ensures running { IfOk result (λ done. IsRunning done.state) }
     ensures fit { IsTrue T.tells → IfOk result (λ done. IsFit done.state (T.disk site.new)) }
@@ -84,23 +87,17 @@ fn load_block<T: Site>(
     ensures disk_faults { OnOk result (T.disk_faults site.new ≡ T.disk_faults site.old) }
     ensures told_faults { T.told_faults site.new ≡ T.told_faults site.old }
 {
-    let Block::Whole(text) = block else {
-        return plain(alloc, State::Idle(store), "refused block");
-    };
-    match read_batch(alloc, &store.forest.schema, text.as_bytes()) {
-        Ok(batch) => take_in(alloc, store, &batch, site),
-        Err(refusal) => {
-            let reply = reply_text::refused_batch(alloc, refusal)?;
-            Ok(Answered {
-                state: State::Idle(store),
-                reply,
-            })
-        }
+    match read_block(alloc, &store.forest.schema, block)? {
+        Read::Batch(batch) => take_in(alloc, store, &batch, site),
+        Read::Refused(reply) => Ok(Answered {
+            state: State::Idle(store),
+            reply,
+        }),
     }
 }
 
 /// Takes in a batch, or refuses it by the first limit that it would pass. An empty batch is taken in without a call on a file.
-fn take_in<T: Site>(
+pub fn take_in<T: Site>(
     alloc: Global,
     store: Store,
     batch: &FactList,
@@ -110,14 +107,14 @@ fn take_in<T: Site>(
     requires fit { IsTrue T.tells → IsOpened store.forest.body (T.disk site.old) }
 
     ensures answer { IsTrue T.tells → (warehouse : Warehouse) → Belongs store (T.disk site.old) warehouse
-        → IfOk result (IsAnswer (T.disk site.new) (accepted warehouse batch.now)) }
+        → IfOk result (IsAnswer (T.disk site.new) (accepted (idle warehouse) warehouse batch.now)) }
     ensures any_moment { IsTrue T.tells → (warehouse : Warehouse) → Belongs store (T.disk site.old) warehouse
-        → Between (T.disk site.old) (T.disk site.new) (Some warehouse) (accepted warehouse batch.now).0 }
+        → Between (T.disk site.old) (T.disk site.new) (idle warehouse) (accepted (idle warehouse) warehouse batch.now).0 }
     ensures undamaged { IsTrue T.tells → (warehouse : Warehouse) → Belongs store (T.disk site.old) warehouse
         → IfErr result IsNoDamage }
     ensures damage { IsTrue T.tells → IfErr result (TellsBatchDamage store (T.disk site.old).files batch.now) }
     ensures unwritten { IsTrue T.tells → (warehouse : Warehouse) → Belongs store (T.disk site.old) warehouse
-        → (accepted warehouse batch.now).0 ≡ Some warehouse → OnOk result (T.writes site.new ≡ T.writes site.old) }
+        → (accepted (idle warehouse) warehouse batch.now).0.kept ≡ Some warehouse → OnOk result (T.writes site.new ≡ T.writes site.old) }
 
     ensures running { IfOk result (λ done. IsRunning done.state) }
     ensures fit { IsTrue T.tells → IfOk result (λ done. IsFit done.state (T.disk site.new)) }
@@ -150,7 +147,7 @@ fn acknowledge(alloc: Global, store: Store) -> Result<Answered, Stop>
 }
 
 /// Refuses a batch by the first limit that it would pass.
-fn refuse(alloc: Global, store: Store, refusal: Refusal) -> Result<Answered, Stop>
+pub fn refuse(alloc: Global, store: Store, refusal: Refusal) -> Result<Answered, Stop>
     ensures state { IfOk result (λ done. done.state ≡ State.Idle store) }
     ensures reply { IfOk result (λ done. done.reply.items ≡ refusal_text store.forest.schema refusal) }
     ensures memory { IfErr result (λ stop. stop ≡ Stop.Memory) }

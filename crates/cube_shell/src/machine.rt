@@ -11,6 +11,7 @@ ghost use Rattle.cube_shell.specs.World.{World};
 use crate::answered::{Answered, plain};
 use crate::declaring::declare;
 use crate::loading::load;
+use crate::pending::{abandon, begin, finish, step};
 use crate::slices::slice;
 use crate::state::State;
 use crate::stop::Stop;
@@ -41,9 +42,9 @@ pub fn act<T: Site>(
 
     // Whatever the files hold.
     ensures damage { IsTrue T.tells → IfErr result (TellsDamage state (T.disk site.old).files command) }
-    // Where nothing is to be changed, nothing is written.
+    // Where no fact is accepted and no schema declared, nothing is written.
     ensures unwritten { IsTrue T.tells → (world : World) → Stands state (T.disk site.old) world
-        → (act world command).0 ≡ world → OnOk result (T.writes site.new ≡ T.writes site.old) }
+        → (act world command).0.kept ≡ world.kept → OnOk result (T.writes site.new ≡ T.writes site.old) }
     ensures running { IfOk result (λ done. IsRunning done.state) }
     ensures fit { IsTrue T.tells → IfOk result (λ done. IsFit done.state (T.disk site.new)) }
     ensures told { IsTrue T.tells → (T.disk site.new).told ≡ (T.disk site.old).told }
@@ -57,18 +58,17 @@ pub fn act<T: Site>(
         Command::Load(block) => load(alloc, state, block, site),
         Command::Slice(text) => slice(alloc, pages, state, text.as_bytes(), site),
         Command::Status => status(alloc, state),
+        Command::Begin(block) => begin(alloc, state, block, site),
+        Command::Step(_) => step(alloc, state),
+        Command::Finish => finish(alloc, state, site),
+        Command::Abandon => abandon(alloc, state),
         Command::LongLine => plain(alloc, state, "refused long line"),
         Command::OpenBlock => plain(alloc, state, "refused open block"),
-        Command::Begin(_)
-        | Command::Step(_)
-        | Command::Finish
-        | Command::Abandon
-        | Command::Generate { .. }
-        | Command::Unknown => plain(alloc, state, "refused unknown"),
+        Command::Generate { .. } | Command::Unknown => plain(alloc, state, "refused unknown"),
     }
 }
 
-/// Tells how many facts there are.
+/// Tells how many facts there are, and how many are pending.
 fn status(alloc: Global, state: State) -> Result<Answered, Stop>
     requires { IsRunning state }
     ensures state { IfOk result (λ done. done.state ≡ state) }
@@ -82,6 +82,14 @@ fn status(alloc: Global, state: State) -> Result<Answered, Stop>
             let reply = reply_text::facts(alloc, store.forest.body.facts)?;
             Ok(Answered {
                 state: State::Idle(store),
+                reply,
+            })
+        }
+        State::Pending(store, batch) => {
+            let count = batch.as_slice().len() as u64;
+            let reply = reply_text::pending(alloc, store.forest.body.facts, count)?;
+            Ok(Answered {
+                state: State::Pending(store, batch),
                 reply,
             })
         }

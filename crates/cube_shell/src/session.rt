@@ -13,7 +13,7 @@ ghost use Rattle.cube_shell.specs.Keeps.{Keeps};
 ghost use Rattle.cube_shell.specs.Machine.{act};
 ghost use Rattle.cube_shell.specs.Session.{IsFit, IsRunning, Stands};
 ghost use Rattle.cube_shell.specs.Told.{TellsDamage};
-ghost use Rattle.cube_shell.specs.World.{World};
+ghost use Rattle.cube_shell.specs.World.{Kept, World, bare};
 
 use crate::answered::Answered;
 use crate::machine::act;
@@ -42,15 +42,15 @@ impl Session {
     ///
     /// `Damaged` comes exactly where the files break a rule of opening, and names the first one, unless a file fails or memory runs out before.
     pub fn start<T: Site>(alloc: Global, site: &mut T) -> Result<Session, Stop>
-        ensures opened { IsTrue T.tells → (world : World) → Keeps (T.disk site.old).files world
-            → IfOk result (λ session. Stands session.state (T.disk site.new) world) }
-        ensures undamaged { IsTrue T.tells → (world : World) → Keeps (T.disk site.old).files world
+        ensures opened { IsTrue T.tells → (kept : Kept) → Keeps (T.disk site.old).files kept
+            → IfOk result (λ session. Stands session.state (T.disk site.new) (bare kept)) }
+        ensures undamaged { IsTrue T.tells → (kept : Kept) → Keeps (T.disk site.old).files kept
             → IfErr result IsNoDamage }
         ensures broken { IsTrue T.tells → (place : Place) → BreaksAt (T.disk site.old).files place
             → IfErr result (StopsAt place) × OnOk result ⊥ }
         ensures damaged { IsTrue T.tells → IfErr result (TellsBreak (T.disk site.old).files) }
-        ensures cost { IsTrue T.tells → (world : World) → Keeps (T.disk site.old).files world
-            → T.reads site.new ≤ T.reads site.old + open_cost world }
+        ensures cost { IsTrue T.tells → (kept : Kept) → Keeps (T.disk site.old).files kept
+            → T.reads site.new ≤ T.reads site.old + open_cost kept }
 
         ensures running { IfOk result (λ session. IsRunning session.state) }
         ensures fit { IsTrue T.tells → IfOk result (λ session. IsFit session.state (T.disk site.new)) }
@@ -102,9 +102,9 @@ impl Session {
 
         // Whatever the files hold.
         ensures damage { IsTrue T.tells → IfErr result (TellsDamage self.old.state (T.disk site.old).files command) }
-        // Where nothing is to be changed, nothing is written.
+        // Where no fact is accepted and no schema declared, nothing is written.
         ensures unwritten { IsTrue T.tells → (world : World) → Stands self.old.state (T.disk site.old) world
-            → (act world command).0 ≡ world → OnOk result (T.writes site.new ≡ T.writes site.old) }
+            → (act world command).0.kept ≡ world.kept → OnOk result (T.writes site.new ≡ T.writes site.old) }
         ensures stopped { OnErr result (self.new.state ≡ State.Stopped) }
         ensures running { OnOk result (IsRunning self.new.state) }
         ensures fit { IsTrue T.tells → OnOk result (IsFit self.new.state (T.disk site.new)) }

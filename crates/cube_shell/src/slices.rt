@@ -25,7 +25,7 @@ use slice_exec::AnswerStop;
 use slice_lang::read_slice;
 use std::alloc::Global;
 
-/// Answers a slice, or refuses it.
+/// Answers a slice over the accepted facts, or refuses it.
 pub fn slice<T: Site>(
     alloc: Global,
     pages: &mut Pages,
@@ -63,6 +63,13 @@ pub fn slice<T: Site>(
             let reply = reply_to(alloc, pages, &store, text, site)?;
             Ok(Answered {
                 state: State::Idle(store),
+                reply,
+            })
+        }
+        State::Pending(store, batch) => {
+            let reply = reply_to(alloc, pages, &store, text, site)?;
+            Ok(Answered {
+                state: State::Pending(store, batch),
                 reply,
             })
         }

@@ -1,5 +1,6 @@
 //! What a session has between two commands.
 
+use fact_model::FactList;
 use forest_root::Store;
 
 /// What a session has.
@@ -11,4 +12,6 @@ pub enum State {
     Empty,
     /// The files are opened, and keep this warehouse.
     Idle(Store),
+    /// The same, and this batch is pending.
+    Pending(Store, FactList),
 }

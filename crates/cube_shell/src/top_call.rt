@@ -10,7 +10,7 @@ ghost use Rattle.cube_shell.specs.Ends.{EndCause, StatusCause, Stayed, IsDoneOrM
 ghost use Rattle.cube_shell.specs.Headline.{AfterRun, Finished, Headline, LeftOff};
 ghost use Rattle.cube_shell.specs.Keeps.{Keeps};
 ghost use Rattle.cube_shell.specs.Pulls.{Gave, GaveAtMost};
-ghost use Rattle.cube_shell.specs.World.{World};
+ghost use Rattle.cube_shell.specs.World.{Kept, bare};
 
 use crate::serve::serve;
 use crate::session::Session;
@@ -29,11 +29,11 @@ pub fn run<S: Source, T: Site>(
     source: &mut S,
     site: &mut T,
 ) -> Status
-    ensures headline { IsTrue S.tells → IsTrue T.tells → (world : World) → Keeps (T.disk site.old).files world
-        → Headline world (S.left source.old) (S.left source.new) (T.disk site.old) (T.disk site.new) result }
-    ensures undamaged { IsTrue T.tells → (world : World) → Keeps (T.disk site.old).files world
+    ensures headline { IsTrue S.tells → IsTrue T.tells → (kept : Kept) → Keeps (T.disk site.old).files kept
+        → Headline (bare kept) (S.left source.old) (S.left source.new) (T.disk site.old) (T.disk site.new) result }
+    ensures undamaged { IsTrue T.tells → (kept : Kept) → Keeps (T.disk site.old).files kept
         → IsUndamaged result }
-    ensures complete { IsTrue S.tells → IsTrue T.tells → (world : World) → Keeps (T.disk site.old).files world
+    ensures complete { IsTrue S.tells → IsTrue T.tells → (kept : Kept) → Keeps (T.disk site.old).files kept
         → words.now ≡ [] → length (S.left source.old) ≤ 2 ^ 30
         → ¬ (Rose (S.faults source.old) (S.faults source.new))
         → ¬ (Rose (T.disk_faults site.old) (T.disk_faults site.new))
@@ -51,8 +51,8 @@ pub fn run<S: Source, T: Site>(
     ensures untouched { result ≡ Status.Usage → site.new ≡ site.old }
     ensures too_long { IsTrue S.tells
         → ((result ≡ Status.TooLong) ↔ Gave (S.left source.old) (S.left source.new) (2 ^ 30 + 1)) }
-    ensures left_off { IsTrue S.tells → IsTrue T.tells → (world : World) → Keeps (T.disk site.old).files world
-        → result ≡ Status.TooLong → LeftOff (T.disk site.new) world (S.left source.old) (2 ^ 30) (T.disk site.old).told }
+    ensures left_off { IsTrue S.tells → IsTrue T.tells → (kept : Kept) → Keeps (T.disk site.old).files kept
+        → result ≡ Status.TooLong → LeftOff (T.disk site.new) (bare kept) (S.left source.old) (2 ^ 30) (T.disk site.old).told }
     ensures bounded { IsTrue S.tells → GaveAtMost (S.left source.old) (S.left source.new) (2 ^ 30 + 1) }
     ensures cause { StatusCause (faults (S.faults source.old) (T.disk_faults site.old) (T.told_faults site.old))
         (faults (S.faults source.new) (T.disk_faults site.new) (T.told_faults site.new)) result }
@@ -71,11 +71,11 @@ pub fn run_within<S: Source, T: Site>(
     limit: u64,
 ) -> Status
     requires { limit ≤ 2 ^ 30 }
-    ensures headline { IsTrue S.tells → IsTrue T.tells → (world : World) → Keeps (T.disk site.old).files world
-        → Headline world (S.left source.old) (S.left source.new) (T.disk site.old) (T.disk site.new) result }
-    ensures undamaged { IsTrue T.tells → (world : World) → Keeps (T.disk site.old).files world
+    ensures headline { IsTrue S.tells → IsTrue T.tells → (kept : Kept) → Keeps (T.disk site.old).files kept
+        → Headline (bare kept) (S.left source.old) (S.left source.new) (T.disk site.old) (T.disk site.new) result }
+    ensures undamaged { IsTrue T.tells → (kept : Kept) → Keeps (T.disk site.old).files kept
         → IsUndamaged result }
-    ensures complete { IsTrue S.tells → IsTrue T.tells → (world : World) → Keeps (T.disk site.old).files world
+    ensures complete { IsTrue S.tells → IsTrue T.tells → (kept : Kept) → Keeps (T.disk site.old).files kept
         → words.now ≡ [] → length (S.left source.old) ≤ limit
         → ¬ (Rose (S.faults source.old) (S.faults source.new))
         → ¬ (Rose (T.disk_faults site.old) (T.disk_faults site.new))
@@ -93,8 +93,8 @@ pub fn run_within<S: Source, T: Site>(
     ensures untouched { result ≡ Status.Usage → site.new ≡ site.old }
     ensures too_long { IsTrue S.tells
         → ((result ≡ Status.TooLong) ↔ Gave (S.left source.old) (S.left source.new) (limit + 1)) }
-    ensures left_off { IsTrue S.tells → IsTrue T.tells → (world : World) → Keeps (T.disk site.old).files world
-        → result ≡ Status.TooLong → LeftOff (T.disk site.new) world (S.left source.old) limit (T.disk site.old).told }
+    ensures left_off { IsTrue S.tells → IsTrue T.tells → (kept : Kept) → Keeps (T.disk site.old).files kept
+        → result ≡ Status.TooLong → LeftOff (T.disk site.new) (bare kept) (S.left source.old) limit (T.disk site.old).told }
     ensures bounded { IsTrue S.tells → GaveAtMost (S.left source.old) (S.left source.new) (limit + 1) }
     ensures cause { StatusCause (faults (S.faults source.old) (T.disk_faults site.old) (T.told_faults site.old))
         (faults (S.faults source.new) (T.disk_faults site.new) (T.told_faults site.new)) result }
@@ -114,11 +114,11 @@ fn attempt<S: Source, T: Site>(
     limit: u64,
 ) -> Result<(), Status>
     requires { limit ≤ 2 ^ 30 }
-    ensures finished { IsTrue S.tells → IsTrue T.tells → (world : World) → Keeps (T.disk site.old).files world
-        → OnOk result (Finished (T.disk site.new) world (commands (S.left source.old)) (T.disk site.old).told) }
-    ensures any_moment { IsTrue S.tells → IsTrue T.tells → (world : World) → Keeps (T.disk site.old).files world
-        → LeavesOnly (T.disk site.old) (T.disk site.new) (AfterRun world (commands (S.left source.old)) (T.disk site.old)) }
-    ensures undamaged { IsTrue T.tells → (world : World) → Keeps (T.disk site.old).files world
+    ensures finished { IsTrue S.tells → IsTrue T.tells → (kept : Kept) → Keeps (T.disk site.old).files kept
+        → OnOk result (Finished (T.disk site.new) (bare kept) (commands (S.left source.old)) (T.disk site.old).told) }
+    ensures any_moment { IsTrue S.tells → IsTrue T.tells → (kept : Kept) → Keeps (T.disk site.old).files kept
+        → LeavesOnly (T.disk site.old) (T.disk site.new) (AfterRun (bare kept) (commands (S.left source.old)) (T.disk site.old)) }
+    ensures undamaged { IsTrue T.tells → (kept : Kept) → Keeps (T.disk site.old).files kept
         → IfErr result IsUndamaged }
     ensures broken { IsTrue T.tells → words.now ≡ [] → (place : Place) → BreaksAt (T.disk site.old).files place
         → IfErr result (EndsAt place) × OnOk result ⊥ }
@@ -134,8 +134,8 @@ fn attempt<S: Source, T: Site>(
     ensures untouched { words.now ≢ [] → site.new ≡ site.old }
     ensures too_long { IsTrue S.tells
         → (IsErrOf result Status.TooLong ↔ Gave (S.left source.old) (S.left source.new) (limit + 1)) }
-    ensures left_off { IsTrue S.tells → IsTrue T.tells → (world : World) → Keeps (T.disk site.old).files world
-        → IsErrOf result Status.TooLong → LeftOff (T.disk site.new) world (S.left source.old) limit (T.disk site.old).told }
+    ensures left_off { IsTrue S.tells → IsTrue T.tells → (kept : Kept) → Keeps (T.disk site.old).files kept
+        → IsErrOf result Status.TooLong → LeftOff (T.disk site.new) (bare kept) (S.left source.old) limit (T.disk site.old).told }
     ensures bounded { IsTrue S.tells → GaveAtMost (S.left source.old) (S.left source.new) (limit + 1) }
     ensures cause { IfErr result (EndCause (faults (S.faults source.old) (T.disk_faults site.old) (T.told_faults site.old))
         (faults (S.faults source.new) (T.disk_faults site.new) (T.told_faults site.new))) }

@@ -105,11 +105,14 @@ fn without_a_schema_a_script_tells_this(rt: HostRuntime) -> Result<(), Fail> {
             "refused no schema\nrefused no schema\n",
         ),
         ("load\nx\nend\nstatus\n", "refused no schema\nno schema\n"),
-        ("begin\n1,1\nstatus\nend\n", "refused unknown\n"),
-        ("step 3\nfinish\n", "refused unknown\nrefused unknown\n"),
+        ("begin\n1,1\nstatus\nend\n", "refused no schema\n"),
+        (
+            "step 3\nfinish\n",
+            "refused nothing pending\nrefused nothing pending\n",
+        ),
         (
             "abandon\ngenerate 1 5\n",
-            "refused unknown\nrefused unknown\n",
+            "refused nothing pending\nrefused unknown\n",
         ),
         (
             "slice\n Status\nend\n",
@@ -151,9 +154,20 @@ fn behind_a_schema_a_script_tells_this(rt: HostRuntime) -> Result<(), Fail> {
         ),
         (
             "begin\n1,1\nend\nstep 1\nstatus\n",
-            "refused unknown\nrefused unknown\nfacts 0\n",
+            "begun\nstepped\nfacts 0 pending 1\n",
         ),
-        ("finish\nabandon\n", "refused unknown\nrefused unknown\n"),
+        (
+            "begin\n1,1\nend\nfinish\nstatus\n",
+            "begun\ncommitted 1\nfacts 1\n",
+        ),
+        (
+            "begin\n1,1\nend\nabandon\nfinish\nstatus\n",
+            "begun\nabandoned\nrefused nothing pending\nfacts 0\n",
+        ),
+        (
+            "finish\nabandon\n",
+            "refused nothing pending\nrefused nothing pending\n",
+        ),
         ("generate 1 5\nstatus\n", "refused unknown\nfacts 0\n"),
         (
             "load\r\n3,5\r\n\r\n1,-2\r\nend\r\nslice sum(m) by a\r\n",

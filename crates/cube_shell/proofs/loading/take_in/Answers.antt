@@ -1,7 +1,9 @@
-use Rattle.std.proofs.Common.{◌≡◌, ◌<◌, [], length, Some, refl, sym, ap, arith}
+use Rattle.std.proofs.Common.{◌≡◌, ◌<◌, [], length, refl, sym, ap, arith}
 use Rattle.std.proofs.lemmas.Bool.Decides.{nat_tests}
 use Rattle.reply_text.specs.Replies.{committed_text}
 use Rattle.cube_shell.specs.declared.state.State.TheVariants.{Idle}
+use Rattle.cube_shell.specs.Machine.{accepted}
+use Rattle.cube_shell.specs.World.{idle}
 use Rattle.cube_shell.proofs.Acts.{nothing_added}
 use Rattle.cube_shell.proofs.Answering.{answers, answers_as, quiet}
 use Rattle.cube_shell.proofs.Limits.{none_accepted}
@@ -15,14 +17,14 @@ returns-then-is_empty-clause-answer g c = λ t warehouse is.
     let slice = c.as_slice.ensures in
     let zero : length c.args.batch.now ≡ 0 = grind (arith, nat_tests, ap length slice) in
     let none : c.args.batch.now ≡ [] = nothing_added c.args.batch.now zero in
-    answers_as c.acknowledge.result disk (Some warehouse, committed_text (length warehouse.facts)) _
-    (sym (none_accepted warehouse c.args.batch.now is.lawful.schema none is.lawful.accepted))
-    (answers c.acknowledge.result (Idle c.args.store) (committed_text c.args.store.forest.body.facts) disk (Some warehouse, committed_text (length warehouse.facts))
+    answers_as c.acknowledge.result disk (idle warehouse, committed_text (length warehouse.facts)) _
+    (sym (none_accepted (idle warehouse) warehouse c.args.batch.now is.lawful.schema none is.lawful.accepted))
+    (answers c.acknowledge.result (Idle c.args.store) (committed_text c.args.store.forest.body.facts) disk (idle warehouse, committed_text (length warehouse.facts))
     c.acknowledge.ensures.state c.acknowledge.ensures.reply (warehouse, refl, is) (ap committed_text is.stored.live.at.body_is.facts))
 
 pub returns-then-is_empty-clause-any_moment : goal.returns-then-is_empty-clause-any_moment
 returns-then-is_empty-clause-any_moment g c = λ t warehouse is.
-    quiet (Idle c.args.store) (g.T.Site.disk c.args.site.now) (Some warehouse) _ (warehouse, refl, is) (λ told files. g.met.T.Site.only_now c.args.site.now told files t)
+    quiet (Idle c.args.store) (g.T.Site.disk c.args.site.now) (idle warehouse) (accepted (idle warehouse) warehouse c.args.batch.now).0 (warehouse, refl, is) (λ told files. g.met.T.Site.only_now c.args.site.now told files t)
 
 pub returns-in-Ok-Committed-clause-answer : goal.returns-in-Ok-Committed-clause-answer
 returns-in-Ok-Committed-clause-answer g c = λ t warehouse is.

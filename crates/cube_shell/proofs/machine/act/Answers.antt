@@ -1,8 +1,8 @@
 use Rattle.std.proofs.Common.{◌∙◌, ℕ, List, IfErr, sym, ap, subst}
-use Rattle.cube_shell.specs.Machine.{Answer, act, slice}
-use Rattle.cube_shell.specs.Session.{state_text}
-use Rattle.cube_shell.proofs.Acts.{act_schema, act_load, act_slice, act_status, act_long_line, act_open_block, act_others}
-use Rattle.cube_shell.proofs.Answering.{answers_as, between_as, quiet, status_known, told_only}
+use Rattle.cube_shell.specs.Machine.{Answer, abandon, act, slice}
+use Rattle.cube_shell.specs.Session.{abandon_text, abandoned, state_text, step_text}
+use Rattle.cube_shell.proofs.Acts.{act_abandon, act_begin, act_finish, act_load, act_long_line, act_open_block, act_others, act_schema, act_slice, act_status, act_step}
+use Rattle.cube_shell.proofs.Answering.{abandon_known, abandon_stands, answers, answers_as, between_as, quiet, status_known, step_known, told_only}
 use Rattle.cube_shell.specs.Told.{SliceTells, TellsDamage}
 use Rattle.script_lang.specs.declared.command.Command.{Command}
 use Rattle.cube_shell.proofs.Told.{memory_tells}
@@ -18,7 +18,7 @@ returns-in-Schema-clause-any_moment g c = λ t world is.
 
 pub returns-in-Schema-clause-unwritten : goal.returns-in-Schema-clause-unwritten
 returns-in-Schema-clause-unwritten g c = λ t world is stays.
-    c.declare.ensures.unwritten t world is (sym (ap (λ (a : Answer). a.0) (ap (act world) c.in-Schema.is ∙ act_schema world _)) ∙ stays)
+    c.declare.ensures.unwritten t world is (sym (ap (λ (a : Answer). a.0.kept) (ap (act world) c.in-Schema.is ∙ act_schema world _)) ∙ stays)
 
 pub returns-in-Load-clause-answer : goal.returns-in-Load-clause-answer
 returns-in-Load-clause-answer g c = λ t world is.
@@ -30,7 +30,7 @@ returns-in-Load-clause-any_moment g c = λ t world is.
 
 pub returns-in-Load-clause-unwritten : goal.returns-in-Load-clause-unwritten
 returns-in-Load-clause-unwritten g c = λ t world is stays.
-    c.load.ensures.unwritten t world is (sym (ap (λ (a : Answer). a.0) (ap (act world) c.in-Load.is ∙ act_load world _)) ∙ stays)
+    c.load.ensures.unwritten t world is (sym (ap (λ (a : Answer). a.0.kept) (ap (act world) c.in-Load.is ∙ act_load world _)) ∙ stays)
 
 pub returns-in-Slice-clause-answer : goal.returns-in-Slice-clause-answer
 returns-in-Slice-clause-answer g c = λ t world is.
@@ -46,7 +46,7 @@ returns-in-Status-clause-answer g c = λ t world stands.
 
 pub returns-in-Status-clause-any_moment : goal.returns-in-Status-clause-any_moment
 returns-in-Status-clause-any_moment g c = λ t world stands.
-    quiet c.args.state (g.T.Site.disk c.args.site.now) world _ stands (λ told files. g.met.T.Site.only_now c.args.site.now told files t)
+    quiet c.args.state (g.T.Site.disk c.args.site.now) world (act world c.args.command).0 stands (λ told files. g.met.T.Site.only_now c.args.site.now told files t)
 
 pub returns-in-LongLine-clause-answer : goal.returns-in-LongLine-clause-answer
 returns-in-LongLine-clause-answer g c = λ t world stands.
@@ -54,7 +54,7 @@ returns-in-LongLine-clause-answer g c = λ t world stands.
 
 pub returns-in-LongLine-clause-any_moment : goal.returns-in-LongLine-clause-any_moment
 returns-in-LongLine-clause-any_moment g c = λ t world stands.
-    quiet c.args.state (g.T.Site.disk c.args.site.now) world _ stands (λ told files. g.met.T.Site.only_now c.args.site.now told files t)
+    quiet c.args.state (g.T.Site.disk c.args.site.now) world (act world c.args.command).0 stands (λ told files. g.met.T.Site.only_now c.args.site.now told files t)
 
 pub returns-in-OpenBlock-clause-answer : goal.returns-in-OpenBlock-clause-answer
 returns-in-OpenBlock-clause-answer g c = λ t world stands.
@@ -62,15 +62,15 @@ returns-in-OpenBlock-clause-answer g c = λ t world stands.
 
 pub returns-in-OpenBlock-clause-any_moment : goal.returns-in-OpenBlock-clause-any_moment
 returns-in-OpenBlock-clause-any_moment g c = λ t world stands.
-    quiet c.args.state (g.T.Site.disk c.args.site.now) world _ stands (λ told files. g.met.T.Site.only_now c.args.site.now told files t)
+    quiet c.args.state (g.T.Site.disk c.args.site.now) world (act world c.args.command).0 stands (λ told files. g.met.T.Site.only_now c.args.site.now told files t)
 
-pub returns-clause-answer : goal.returns-clause-answer
-returns-clause-answer g c = λ t world stands.
-    told_only c.plain-in-Begin.result c.args.state _ (g.T.Site.disk c.args.site.now) world c.args.command c.plain-in-Begin.ensures.state c.plain-in-Begin.ensures.reply stands (act_others world c.args.command c.in-Begin.is)
+pub returns-in-Generate-clause-answer : goal.returns-in-Generate-clause-answer
+returns-in-Generate-clause-answer g c = λ t world stands.
+    told_only c.plain-in-Generate.result c.args.state _ (g.T.Site.disk c.args.site.now) world c.args.command c.plain-in-Generate.ensures.state c.plain-in-Generate.ensures.reply stands (act_others world c.args.command c.in-Generate.is)
 
-pub returns-clause-any_moment : goal.returns-clause-any_moment
-returns-clause-any_moment g c = λ t world stands.
-    quiet c.args.state (g.T.Site.disk c.args.site.now) world _ stands (λ told files. g.met.T.Site.only_now c.args.site.now told files t)
+pub returns-in-Generate-clause-any_moment : goal.returns-in-Generate-clause-any_moment
+returns-in-Generate-clause-any_moment g c = λ t world stands.
+    quiet c.args.state (g.T.Site.disk c.args.site.now) world (act world c.args.command).0 stands (λ told files. g.met.T.Site.only_now c.args.site.now told files t)
 
 pub returns-in-Schema-clause-damage : goal.returns-in-Schema-clause-damage
 returns-in-Schema-clause-damage g c = λ t.
@@ -95,5 +95,59 @@ returns-in-LongLine-clause-damage g c = λ t. memory_tells c.plain.result c.args
 pub returns-in-OpenBlock-clause-damage : goal.returns-in-OpenBlock-clause-damage
 returns-in-OpenBlock-clause-damage g c = λ t. memory_tells c.plain-in-OpenBlock.result c.args.state (g.T.Site.disk c.args.site.now).files c.args.command c.plain-in-OpenBlock.ensures.memory
 
-pub returns-clause-damage : goal.returns-clause-damage
-returns-clause-damage g c = λ t. memory_tells c.plain-in-Begin.result c.args.state (g.T.Site.disk c.args.site.now).files c.args.command c.plain-in-Begin.ensures.memory
+pub returns-in-Generate-clause-damage : goal.returns-in-Generate-clause-damage
+returns-in-Generate-clause-damage g c = λ t. memory_tells c.plain-in-Generate.result c.args.state (g.T.Site.disk c.args.site.now).files c.args.command c.plain-in-Generate.ensures.memory
+
+pub returns-in-Begin-clause-answer : goal.returns-in-Begin-clause-answer
+returns-in-Begin-clause-answer g c = λ t world is.
+    answers_as c.begin.result _ _ _ (sym (ap (act world) c.in-Begin.is ∙ act_begin world _)) (c.begin.ensures.answer t world is)
+
+pub returns-in-Begin-clause-any_moment : goal.returns-in-Begin-clause-any_moment
+returns-in-Begin-clause-any_moment g c = λ t world is.
+    between_as _ _ world _ _ (sym (ap (act world) c.in-Begin.is ∙ act_begin world _)) (c.begin.ensures.any_moment t world is)
+
+pub returns-in-Begin-clause-damage : goal.returns-in-Begin-clause-damage
+returns-in-Begin-clause-damage g c = λ t.
+    subst (λ (k : Command). IfErr c.begin.result (TellsDamage c.args.state (g.T.Site.disk c.args.site.now).files k)) (sym c.in-Begin.is) c.begin.ensures.damage
+
+pub returns-in-Step-clause-answer : goal.returns-in-Step-clause-answer
+returns-in-Step-clause-answer g c = λ t world stands.
+    told_only c.step.result c.args.state (step_text c.args.state) (g.T.Site.disk c.args.site.now) world c.args.command c.step.ensures.state c.step.ensures.reply stands
+    (ap (act world) c.in-Step.is ∙ (act_step world _ ∙ step_known c.args.state (g.T.Site.disk c.args.site.now) world stands))
+
+pub returns-in-Step-clause-any_moment : goal.returns-in-Step-clause-any_moment
+returns-in-Step-clause-any_moment g c = λ t world stands.
+    quiet c.args.state (g.T.Site.disk c.args.site.now) world (act world c.args.command).0 stands (λ told files. g.met.T.Site.only_now c.args.site.now told files t)
+
+pub returns-in-Step-clause-damage : goal.returns-in-Step-clause-damage
+returns-in-Step-clause-damage g c = λ t. memory_tells c.step.result c.args.state (g.T.Site.disk c.args.site.now).files c.args.command c.step.ensures.memory
+
+pub returns-in-Finish-clause-answer : goal.returns-in-Finish-clause-answer
+returns-in-Finish-clause-answer g c = λ t world is.
+    answers_as c.finish.result _ _ _ (sym (ap (act world) c.in-Finish.is ∙ act_finish world)) (c.finish.ensures.answer t world is)
+
+pub returns-in-Finish-clause-any_moment : goal.returns-in-Finish-clause-any_moment
+returns-in-Finish-clause-any_moment g c = λ t world is.
+    between_as _ _ world _ _ (sym (ap (act world) c.in-Finish.is ∙ act_finish world)) (c.finish.ensures.any_moment t world is)
+
+pub returns-in-Finish-clause-unwritten : goal.returns-in-Finish-clause-unwritten
+returns-in-Finish-clause-unwritten g c = λ t world is stays.
+    c.finish.ensures.unwritten t world is (sym (ap (λ (a : Answer). a.0.kept) (ap (act world) c.in-Finish.is ∙ act_finish world)) ∙ stays)
+
+pub returns-in-Finish-clause-damage : goal.returns-in-Finish-clause-damage
+returns-in-Finish-clause-damage g c = λ t.
+    subst (λ (k : Command). IfErr c.finish.result (TellsDamage c.args.state (g.T.Site.disk c.args.site.now).files k)) (sym c.in-Finish.is) (c.finish.ensures.damage t)
+
+pub returns-in-Abandon-clause-answer : goal.returns-in-Abandon-clause-answer
+returns-in-Abandon-clause-answer g c = λ t world stands.
+    let disk = g.T.Site.disk c.args.site.now in
+    answers_as c.abandon.result _ _ _ (sym (ap (act world) c.in-Abandon.is ∙ act_abandon world))
+    (answers c.abandon.result (abandoned c.args.state) (abandon_text c.args.state) disk (abandon world) c.abandon.ensures.state c.abandon.ensures.reply
+    (abandon_stands c.args.state disk world stands) (abandon_known c.args.state disk world stands))
+
+pub returns-in-Abandon-clause-any_moment : goal.returns-in-Abandon-clause-any_moment
+returns-in-Abandon-clause-any_moment g c = λ t world stands.
+    quiet c.args.state (g.T.Site.disk c.args.site.now) world (act world c.args.command).0 stands (λ told files. g.met.T.Site.only_now c.args.site.now told files t)
+
+pub returns-in-Abandon-clause-damage : goal.returns-in-Abandon-clause-damage
+returns-in-Abandon-clause-damage g c = λ t. memory_tells c.abandon.result c.args.state (g.T.Site.disk c.args.site.now).files c.args.command c.abandon.ensures.memory

@@ -1,4 +1,5 @@
 use Rattle.script_lang.specs.Script.{commands}
+use Rattle.cube_shell.specs.World.{bare}
 use Rattle.cube_shell.proofs.Going.{opened_moments}
 use Rattle.cube_shell.proofs.Statuses.{broken_as, named, none_told_as}
 use Rattle.cube_shell.proofs.top_call.attempt.Goals as goal
@@ -17,9 +18,9 @@ pub returns-clause-untold : goal.returns-clause-untold
 returns-clause-untold g c = λ t no_words place breaks. absurd (c.in_ok-session.ensures.broken t place breaks).1
 
 pub returns-clause-any_moment : goal.returns-clause-any_moment
-returns-clause-any_moment g c = λ s t world keeps.
-    opened_moments (g.T.Site.disk c.args.site.now) (g.T.Site.disk c.start.new.site) (g.T.Site.disk c.serve.new.site) world (commands (g.S.Source.left c.args.source.now)) (c.in_ok-session.ensures.disk t)
-    (λ told files. g.met.T.Site.only_now c.args.site.now told files t) (c.serve.ensures.any_moment s t world (c.in_ok-session.ensures.opened t world keeps))
+returns-clause-any_moment g c = λ s t kept keeps.
+    opened_moments (g.T.Site.disk c.args.site.now) (g.T.Site.disk c.start.new.site) (g.T.Site.disk c.serve.new.site) (bare kept) (commands (g.S.Source.left c.args.source.now)) (c.in_ok-session.ensures.disk t)
+    (λ told files. g.met.T.Site.only_now c.args.site.now told files t) (c.serve.ensures.any_moment s t (bare kept) (c.in_ok-session.ensures.opened t kept keeps))
 
 pub returns-in_err-session-clause-damaged : goal.returns-in_err-session-clause-damaged
 returns-in_err-session-clause-damaged g c = λ s t none.

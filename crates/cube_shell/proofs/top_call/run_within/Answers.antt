@@ -3,6 +3,7 @@ use Rattle.script_lang.specs.Script.{commands}
 use Rattle.cube_shell.specs.declared.status.Status.{Status}
 use Rattle.cube_shell.specs.declared.status.Status.TheVariants.{Done}
 use Rattle.cube_shell.specs.Ends.{Faults, EndCause}
+use Rattle.cube_shell.specs.World.{bare}
 use Rattle.cube_shell.proofs.Going.{told_front}
 use Rattle.cube_shell.proofs.top_call.run_within.Goals as goal
 
@@ -11,23 +12,23 @@ not_done : (before now : Faults) (status : Status) → EndCause before now statu
 not_done before now status cause is = subst (EndCause before now) is cause
 
 pub returns-in-Ok-clause-headline : goal.returns-in-Ok-clause-headline
-returns-in-Ok-clause-headline g c = λ s t world keeps.
-    let run = c.attempt.ensures.any_moment s t world keeps in
+returns-in-Ok-clause-headline g c = λ s t kept keeps.
+    let run = c.attempt.ensures.any_moment s t kept keeps in
     record {
-      prefix = told_front (g.T.Site.disk c.args.site.now) (g.T.Site.disk c.attempt.new.site) world
+      prefix = told_front (g.T.Site.disk c.args.site.now) (g.T.Site.disk c.attempt.new.site) (bare kept)
           (commands (g.S.Source.left c.args.source.now)) run
           (g.met.T.Site.counts_now c.attempt.new.site (g.T.Site.disk c.args.site.now).clock (g.T.Site.disk c.attempt.new.site).files t run.later
           (g.met.T.Site.read_now c.attempt.new.site t));
-      whole = λ is. c.in-Ok.ensures.finished s t world keeps;
+      whole = λ is. c.in-Ok.ensures.finished s t kept keeps;
       read = λ is. c.in-Ok.ensures.read s;
       any_stop = run;
     }
 
 pub returns-in-Err-clause-headline : goal.returns-in-Err-clause-headline
-returns-in-Err-clause-headline g c = λ s t world keeps.
-    let run = c.attempt.ensures.any_moment s t world keeps in
+returns-in-Err-clause-headline g c = λ s t kept keeps.
+    let run = c.attempt.ensures.any_moment s t kept keeps in
     record {
-      prefix = told_front (g.T.Site.disk c.args.site.now) (g.T.Site.disk c.attempt.new.site) world
+      prefix = told_front (g.T.Site.disk c.args.site.now) (g.T.Site.disk c.attempt.new.site) (bare kept)
           (commands (g.S.Source.left c.args.source.now)) run
           (g.met.T.Site.counts_now c.attempt.new.site (g.T.Site.disk c.args.site.now).clock (g.T.Site.disk c.attempt.new.site).files t run.later
           (g.met.T.Site.read_now c.attempt.new.site t));
