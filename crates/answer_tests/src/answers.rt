@@ -1,8 +1,8 @@
 //! Slices answered from the pages of a forest: the rows, and how many pages are read.
 use crate::ran::{put, state_a, tells_behind};
 use fact_model::Rows;
+use forest_open::open_store;
 use forest_root::Store;
-use forest_store::open;
 use page_cache::Pages;
 use site_mem::{Call, MemorySite};
 use slice_exec::{AnswerStop, answer};
@@ -33,7 +33,7 @@ fn answers_are(
     site: &mut MemorySite,
     cases: &[(&str, &str, usize)],
 ) -> Result<(), Fail> {
-    let Some(store) = open(alloc, site)? else {
+    let Some(store) = open_store(alloc, site)? else {
         assert!(rt; false, "no schema");
         return Ok(());
     };
@@ -129,7 +129,7 @@ fn a_slice_that_no_view_covers_reads_no_page(rt: HostRuntime) -> Result<(), Fail
     let schema = "attr part text\nattr year number\nmeasure qty\nview year\n";
     let load = "load\nbolt,1997,5\nend\n";
     let mut site = tells_behind(&rt, alloc, schema, load, "committed 1\n")?;
-    let Some(store) = open(alloc, &mut site)? else {
+    let Some(store) = open_store(alloc, &mut site)? else {
         return Ok(());
     };
     for text in [
@@ -156,7 +156,7 @@ fn a_page_that_a_slice_goes_to_is_named_where_it_is_damaged(rt: HostRuntime) -> 
     ] {
         let mut later = MemorySite::from_files(alloc, site.image(alloc, 1)?)?;
         assert_eq!(rt; put(&rt, &mut later, 3, place, &[byte]), Ok(()));
-        let Some(store) = open(alloc, &mut later)? else {
+        let Some(store) = open_store(alloc, &mut later)? else {
             return Ok(());
         };
         let (rows, reads) = answered(alloc, &mut later, &store, damaged)?;
@@ -172,7 +172,7 @@ fn a_page_that_a_slice_goes_to_is_named_where_it_is_damaged(rt: HostRuntime) -> 
 fn a_fault_is_told_as_one(rt: HostRuntime) -> Result<(), Fail> {
     let alloc = rt.alloc();
     let mut site = state_a(&rt, alloc)?;
-    let Some(store) = open(alloc, &mut site)? else {
+    let Some(store) = open_store(alloc, &mut site)? else {
         return Ok(());
     };
     let calls = site.calls().len() as u64;

@@ -1,6 +1,6 @@
 -- The places of texts among names.
-use Rattle.std.proofs.Common.{◌≡◌, ℕ, suc, ◌+◌, ◌<◌, ◌≤◌, Bool, true, false, not, ◌||◌, cond, List, [], ◌∷◌, ◌++◌, Option, Some, None, length, refl, sym, ap, ◌∙◌, ⊎_elim, arith}
-use Rattle.std.specs.Prelude.{nat_lt, is_some, option_map, position}
+use Rattle.std.proofs.Common.{◌≡◌, ℕ, zero, suc, ◌+◌, ◌<◌, ◌≤◌, Bool, true, false, not, ◌||◌, cond, List, [], ◌∷◌, ◌++◌, Option, Some, None, length, take, refl, sym, ap, ◌∙◌, ⊎_elim, arith}
+use Rattle.std.specs.Prelude.{nat_lt, is_some, option_map, position, unwrap_or}
 use Rattle.std.specs.List.{list_any, position_or_len}
 use Rattle.std.specs.Str.{bytes_eq}
 use Rattle.std.specs.Cmp.Lexicographic.{bytes_decides}
@@ -78,3 +78,58 @@ pub added-code : (t copy : Text) (ns keys new : List Text) (k : ℕ) → copy �
 added-code t copy ns keys new k copied same fresh is at =
     let place-is : k ≡ length ns = at ∙ (λ i. position_or_len (bytes_eq (copied i)) (same i)) ∙ position-behind t ns fresh in
     ap (λ n. Some n) (omega arith) ∙ ap (option_map suc) (sym (place-behind t ns fresh) ∙ ap (place bytes_eq t) (sym is))
+
+-- ---- among the first names
+
+-- a place below this number, or none
+abbrev pub below : ℕ → Option ℕ → Option ℕ
+below len None = None
+below len (Some k) = cond (nat_lt k len) (Some k) None
+
+below-none : (o : Option ℕ) → below zero o ≡ None
+below-none None = refl
+below-none (Some k) = ap (λ b. cond b (Some k) None) (le-ltb k 0 (omega arith))
+
+below-next : (len : ℕ) (o : Option ℕ) → option_map suc (below len o) ≡ below (suc len) (option_map suc o)
+below-next len None = refl
+below-next len (Some k) = sym (next-place (nat_lt k len) k) ∙ ((λ i. cond (sym (next-lt k len) i) (Some (1 + k)) None) ∙ ap (λ n. cond (nat_lt n (suc len)) (Some n) None) (omega arith))
+
+-- the place of a text among the first names is its place, where that is one of theirs
+pub place-take : (t : Text) (len : ℕ) (ns : List Text) → place bytes_eq t (take len ns) ≡ below len (place bytes_eq t ns)
+place-take t zero ns = sym (below-none (place bytes_eq t ns))
+place-take t (suc len) [] = refl
+place-take t (suc len) (n ∷ ns) =
+    elim (bytes_eq t n) as (λ b. cond b (Some 0) (option_map suc (place bytes_eq t (take len ns))) ≡ below (suc len) (cond b (Some 0) (option_map suc (place bytes_eq t ns)))) [
+      | true ↦ sym (ap (λ b. cond b (Some 0) None) (lt-ltb 0 (suc len) (omega arith)))
+      | false ↦ ap (option_map suc) (place-take t len ns) ∙ below-next len (place bytes_eq t ns)
+    ]
+
+module _ (t : Text) (len : ℕ) (ns : List Text) where
+  -- so is its code
+  code-take : option_map suc (place bytes_eq t (take len ns)) ≡ option_map suc (below len (place bytes_eq t ns))
+  code-take = ap (option_map suc) (place-take t len ns)
+
+  pub no-front_code : None ≡ option_map suc (place bytes_eq t ns) → None ≡ option_map suc (place bytes_eq t (take len ns))
+  no-front_code is = by (place bytes_eq t ns) is ∙ sym code-take
+    where
+      by : (o : Option ℕ) → None ≡ option_map suc o → None ≡ option_map suc (below len o)
+      by None e = refl
+      by (Some k) e = cc
+
+  module _ (c : ℕ) (is : Some c ≡ option_map suc (place bytes_eq t ns)) where
+    next : (k : ℕ) → Some c ≡ Some (suc k) → c ≡ suc k
+    next k e = ap (λ o. unwrap_or o 0) e
+
+    pub front-code : c ≤ len → Some c ≡ option_map suc (place bytes_eq t (take len ns))
+    front-code low = by (place bytes_eq t ns) is ∙ sym code-take
+      where
+        by : (o : Option ℕ) → Some c ≡ option_map suc o → Some c ≡ option_map suc (below len o)
+        by None e = cc
+        by (Some k) e = e ∙ ap (λ b. option_map suc (cond b (Some k) None)) (sym (lt-ltb k len (omega (arith, low, next k e))))
+
+    pub behind-code : len < c → None ≡ option_map suc (place bytes_eq t (take len ns))
+    behind-code high = by (place bytes_eq t ns) is ∙ sym code-take
+      where
+        by : (o : Option ℕ) → Some c ≡ option_map suc o → None ≡ option_map suc (below len o)
+        by None e = cc
+        by (Some k) e = ap (λ b. option_map suc (cond b (Some k) None)) (sym (le-ltb k len (omega (arith, high, next k e))))

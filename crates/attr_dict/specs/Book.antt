@@ -1,5 +1,5 @@
 -- The names of a schema's attributes, the codes of values and the values of codes.
-use Rattle.std.specs.Prelude.{◌≡◌, ℕ, suc, ◌≤◌, true, false, List, [], length, get_or, map, nat_le, option_map, Option, Some, None, if◌then◌else◌}
+use Rattle.std.specs.Prelude.{◌≡◌, ℕ, suc, ◌≤◌, true, false, List, [], length, get_or, map, nat_le, option_map, slice_index, take, Option, Some, None, if◌then◌else◌}
 use Rattle.std.specs.Str.{bytes_eq}
 use Rattle.fact_model.specs.declared.fact.Value.{Value}
 use Rattle.fact_model.specs.declared.fact.Value.TheVariants.{Word, Number}
@@ -29,6 +29,10 @@ pub record IsBook (b : Book) : Type 0 where
   pub few : length b.kinds ≤ 16
   pub ranges : (a : ℕ) → max_of (kind_at b a) ≤ name_limit
   pub within : (a : ℕ) → length (names_at b a) ≤ max_of (kind_at b a)
+
+-- the first names of each attribute, as many as these numbers say
+abbrev pub shown_names : Book → List ℕ → ℕ → List Text
+shown_names b at a = take (slice_index at a) (names_at b a)
 
 abbrev pub none_yet : List Text
 none_yet = []

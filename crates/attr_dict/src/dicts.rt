@@ -12,7 +12,7 @@ ghost use Rattle.attr_dict.specs.Full.{IsFull};
 ghost use Rattle.attr_dict.specs.Entering.{HasRead, all_enter, after_entries};
 ghost use Rattle.attr_dict.specs.Stops.{HasCause};
 ghost use Rattle.attr_dict.specs.Shown.{shown};
-ghost use Rattle.attr_dict.specs.Book.{no_names, none_yet, names_at, code_at, value_of};
+ghost use Rattle.attr_dict.specs.Book.{no_names, none_yet, names_at, kind_at, code_at, code_for, shown_names, value_of};
 
 use crate::admit::DictRefusal;
 use crate::coding::Admitted;
@@ -79,6 +79,21 @@ impl Dicts {
     {
         match (self.kinds[attr as usize], value) {
             (Kind::Word { .. }, Value::Word(text)) => self.names[attr as usize].code_of(text),
+            (Kind::Number, Value::Number(number)) => Some(number + 1),
+            _ => None,
+        }
+    }
+
+    /// The same among the first names of each attribute alone, as many as `shown` says. It takes no memory.
+    pub fn code_within(&self, shown: &Lengths, attr: u32, value: &Value) -> Option<u64>
+        requires declared { attr < length self.now.kinds }
+        requires within { IsWithin number_limit value.now }
+        ensures { result ≡ code_for (kind_at self.now attr) (shown_names self.now shown.now.at attr) value.now }
+    {
+        match (self.kinds[attr as usize], value) {
+            (Kind::Word { .. }, Value::Word(text)) => {
+                self.names[attr as usize].code_within(shown.at[attr as usize] as usize, text)
+            }
             (Kind::Number, Value::Number(number)) => Some(number + 1),
             _ => None,
         }

@@ -51,6 +51,17 @@ impl Names {
         }
     }
 
+    /// The code of a text that is one of the first so many names.
+    pub(crate) fn code_within(&self, len: usize, text: &Text) -> Option<u64>
+        ensures { result ≡ option_map suc (place bytes_eq text.now (take len self.now)) }
+    {
+        let code = self.code_of(text)?;
+        if code > len as u64 {
+            return None;
+        }
+        Some(code)
+    }
+
     /// The text of a code above 0.
     pub(crate) fn text_of(&self, code: u64) -> Option<&Text>
         requires { 0 < code }

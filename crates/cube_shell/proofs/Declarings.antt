@@ -9,7 +9,7 @@ use Rattle.forest_root.specs.Keeps.{KeepsNothing}
 use Rattle.forest_root.specs.declared.forest.Store.{Store}
 use Rattle.forest_store.specs.Held.{KeepsFacts}
 use Rattle.forest_store.specs.Stored.{IsStoreOf}
-use Rattle.forest_store.proofs.Declared.{none_accepted}
+use Rattle.forest_open.proofs.Declared.{none_accepted}
 use Rattle.cube_shell.specs.Keeps.{IsLawful}
 use Rattle.cube_shell.specs.Machine.{declared}
 use Rattle.cube_shell.specs.Session.{Belongs, Between, KeepsEither}

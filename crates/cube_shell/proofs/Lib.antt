@@ -6,7 +6,6 @@ pub mod Declarings
 pub mod Going
 pub mod Limits
 pub mod Openings
-pub mod Pendings
 pub mod Pieces
 pub mod Sliced
 pub mod Stages

@@ -14,11 +14,11 @@ use Rattle.cube_schema.specs.declared.schema.Attr.{Attr}
 use Rattle.cube_schema.specs.declared.schema.Schema.{Schema}
 use Rattle.view_points.specs.Codes.{names_of}
 use Rattle.attr_dict.proofs.Kept.{all-agree, names-past}
-use Rattle.forest_store.specs.declared.loading.Refusal.{Refusal}
-use Rattle.forest_store.specs.declared.loading.Refusal.TheVariants as refusals
+use Rattle.forest_open.proofs.Openings.{mass_past}
+use Rattle.forest_refresh.specs.declared.stop.BeginStop.{BeginStop}
+use Rattle.forest_refresh.specs.declared.stop.BeginStop.TheVariants as begins
+use Rattle.forest_refresh.specs.Limits.{TellsLimit}
 use Rattle.forest_store.specs.Held.{AreAccepted, HasNames}
-use Rattle.forest_store.specs.Loading.{IsRefused}
-use Rattle.forest_store.proofs.Openings.{mass_past}
 use Rattle.forest_store.proofs.Schemas.{few_measures}
 use Rattle.reply_text.specs.Replies.{committed_text}
 use Rattle.cube_shell.specs.Machine.{accepted, begun, begun_or_refused, committed, fact_limit, first_full, first_heavy, full_refusal, heavy_refusal, refusal_of, unless}
@@ -132,33 +132,39 @@ module _ (warehouse : Warehouse) (batch : List Fact) (lawful : IsSchema warehous
   ]
 
   -- a batch that passes a limit is refused by it
-  pub one_refused : All (Agrees warehouse.schema) (warehouse.facts ++ batch) → (refusal : Refusal) → IsRefused warehouse.schema (warehouse.facts ++ batch) refusal
-      → refusal_of warehouse.schema (warehouse.facts ++ batch) ≡ Some (refusal_text warehouse.schema refusal)
-  one_refused each refusals.Facts is = let a : few ≡ false = grind (arith, nat_tests) in rw a refl
-  one_refused each (refusals.Names c) is =
+  pub one_refused : All (Agrees warehouse.schema) (warehouse.facts ++ batch) → (why : BeginStop) (text : List ℕ) → TellsLimit warehouse.schema (warehouse.facts ++ batch) why
+      → refusal_text warehouse.schema why ≡ Some text → refusal_of warehouse.schema (warehouse.facts ++ batch) ≡ Some text
+  one_refused each begins.FactsFull text is same =
+      let a : few ≡ false = grind (arith, nat_tests) in
+      let here : refusal_of schema all ≡ refusal_text schema begins.FactsFull = rw a refl in
+      here ∙ same
+  one_refused each (begins.NamesFull c) text is same =
       let long = is.0 in
       let a : few ≡ true = grind (arith, nat_tests) in
-      past_few a ∙ ap (full_refusal schema all) (one_full 0 c schema.attrs all (full_declared each c is.1.passes)
+      past_few a ∙ (ap (full_refusal schema all) (one_full 0 c schema.attrs all (full_declared each c is.1.passes)
       (λ k below. subst (λ (n : ℕ). length (names_of all n) ≤ max_at schema k) (omega arith) (is.1.first k below))
-      (subst (λ (n : ℕ). max_at schema c < length (names_of all n)) (omega arith) is.1.passes))
-  one_refused each (refusals.Mass m) is =
+      (subst (λ (n : ℕ). max_at schema c < length (names_of all n)) (omega arith) is.1.passes)) ∙ same)
+  one_refused each (begins.Mass m) text is same =
       let long = is.0 in
       let a : few ≡ true = grind (arith, nat_tests) in
-      past_named a is.1 ∙ ap heavy_refusal (one_heavy 0 m schema.measures all (heavy_declared each m is.2.passes)
-      (λ j below. is.2.first j (omega (arith, below))) (subst (λ (n : ℕ). mass_limit < mass n all) (omega arith) is.2.passes))
+      past_named a is.1 ∙ (ap heavy_refusal (one_heavy 0 m schema.measures all (heavy_declared each m is.2.passes)
+      (λ j below. is.2.first j (omega (arith, below))) (subst (λ (n : ℕ). mass_limit < mass n all) (omega arith) is.2.passes)) ∙ same)
+  one_refused each begins.Memory text is same = absurd (cc)
+  one_refused each begins.Disk text is same = absurd (cc)
 
-  pub all_refused : (world : World) → All (Agrees warehouse.schema) (warehouse.facts ++ batch) → (refusal : Refusal) → IsRefused warehouse.schema (warehouse.facts ++ batch) refusal
-      → accepted world warehouse batch ≡ (world, refusal_text warehouse.schema refusal)
-  all_refused world each refusal is = ap (unless world (committed warehouse batch)) (one_refused each refusal is)
+-- an empty batch is accepted or made pending, and changes no fact
+module _ (warehouse : Warehouse) (batch : List Fact) (lawful : IsSchema warehouse.schema) (fine : AreAccepted warehouse.schema warehouse.facts) (none : batch ≡ []) where
+  same_facts : warehouse.facts ++ batch ≡ warehouse.facts
+  same_facts = ap (λ (l : List Fact). warehouse.facts ++ l) none ∙ append-nil warehouse.facts
 
-  pub none_begun : (world : World) → All (Agrees warehouse.schema) (warehouse.facts ++ batch) → (refusal : Refusal) → IsRefused warehouse.schema (warehouse.facts ++ batch) refusal
-      → begun_or_refused world warehouse batch ≡ (world, refusal_text warehouse.schema refusal)
-  none_begun world each refusal is = ap (unless world (begun warehouse batch)) (one_refused each refusal is)
+  still_fine : AreAccepted warehouse.schema (warehouse.facts ++ batch)
+  still_fine = subst (AreAccepted warehouse.schema) (sym same_facts) fine
 
--- an empty batch is accepted
-pub none_accepted : (world : World) (warehouse : Warehouse) (batch : List Fact) → IsSchema warehouse.schema → batch ≡ [] → AreAccepted warehouse.schema warehouse.facts
-    → accepted world warehouse batch ≡ (idle warehouse, committed_text (length warehouse.facts))
-none_accepted world warehouse batch lawful none fine =
-    let same : warehouse.facts ++ batch ≡ warehouse.facts = ap (λ (l : List Fact). warehouse.facts ++ l) none ∙ append-nil warehouse.facts in
-    all_accepted warehouse batch lawful world (subst (AreAccepted warehouse.schema) (sym same) fine)
-    ∙ ap (λ (l : List Fact). (idle (record { schema = warehouse.schema; facts = l }), committed_text (length l))) same
+  pub none_committed : committed warehouse batch ≡ (idle warehouse, committed_text (length warehouse.facts))
+  none_committed = ap (λ (l : List Fact). (idle (record { schema = warehouse.schema; facts = l }), committed_text (length l))) same_facts
+
+  pub none_accepted : (world : World) → accepted world warehouse batch ≡ (idle warehouse, committed_text (length warehouse.facts))
+  none_accepted world = all_accepted warehouse batch lawful world still_fine ∙ none_committed
+
+  pub none_begun : (world : World) → begun_or_refused world warehouse batch ≡ begun warehouse []
+  none_begun world = all_begun warehouse batch lawful world still_fine ∙ ap (begun warehouse) none

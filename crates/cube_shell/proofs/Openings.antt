@@ -6,17 +6,17 @@ use Rattle.cube_schema.specs.Lawful.{IsSchema}
 use Rattle.cube_schema.specs.declared.schema.Schema.{Schema}
 use Rattle.forest_root.specs.Live.{NoneRaised}
 use Rattle.forest_root.specs.declared.forest.Store.{Store}
-use Rattle.forest_store.specs.declared.stop.StoreStop.{StoreStop}
-use Rattle.forest_store.specs.declared.stop.StoreStop.TheVariants as stops
-use Rattle.forest_store.specs.Breaks as breaks
+use Rattle.forest_open.specs.declared.stop.OpenStop.{OpenStop}
+use Rattle.forest_open.specs.declared.stop.OpenStop.TheVariants as stops
+use Rattle.forest_open.specs.Breaks as breaks
+use Rattle.forest_open.specs.Judging.{IsWarehouse, MayBeOpened, NamesPlace}
+use Rattle.forest_open.specs.Judging as opens
+use Rattle.forest_open.specs.Opening.{Place, names_pages}
 use Rattle.forest_store.specs.Held.{AreAccepted, KeepsFacts, names_text}
-use Rattle.forest_store.specs.Opened.{IsWarehouse, MayBeOpened, NamesPlace}
-use Rattle.forest_store.specs.Opened as stores
-use Rattle.forest_store.specs.Opening.{Place, names_pages}
 use Rattle.cube_shell.specs.declared.stop.Stop.{Stop}
 use Rattle.cube_shell.specs.Costs.{open_cost}
 use Rattle.cube_shell.specs.Damage.{StopsAt, TellsBreak}
-use Rattle.cube_shell.specs.Ends.{IsNoDamage, stop_of}
+use Rattle.cube_shell.specs.Ends.{IsNoDamage, open_stop}
 use Rattle.cube_shell.specs.Keeps.{Keeps}
 use Rattle.cube_shell.specs.Session.{Belongs}
 use Rattle.cube_shell.specs.World.{Kept, Warehouse, bare, idle}
@@ -41,34 +41,34 @@ opened_stands found store files disk (Some warehouse) is fit keeps none given =
     )
 
 -- a stop at a place that is named
-named : (place : Place) (stop : StoreStop) → NamesPlace place stop → StopsAt place (stop_of stop)
+named : (place : Place) (stop : OpenStop) → NamesPlace place stop → StopsAt place (open_stop stop)
 named place stops.Disk is = tt
 named place (stops.Damaged file offset) is = is
 named place stops.Memory is = tt
 
-pub stops_at : (place : Place) (stop : StoreStop) (answer : Stop) → answer ≡ stop_of stop → NamesPlace place stop × Unit {0} → StopsAt place answer × Unit {0}
+pub stops_at : (place : Place) (stop : OpenStop) (answer : Stop) → answer ≡ open_stop stop → NamesPlace place stop × Unit {0} → StopsAt place answer × Unit {0}
 stops_at place stop answer same is = (subst (StopsAt place) (sym same) (named place stop is.0), tt)
 
 -- where the files keep a world, no damage is told
-clean : (stop : StoreStop) → stores.IsNoDamage stop → IsNoDamage (stop_of stop)
+clean : (stop : OpenStop) → opens.IsNoDamage stop → IsNoDamage (open_stop stop)
 clean stops.Disk is = tt
 clean (stops.Damaged file offset) is = is
 clean stops.Memory is = tt
 
-pub undamaged : (stop : StoreStop) (answer : Stop) (files : Files) (kept : Kept) → answer ≡ stop_of stop → Keeps files kept
-    → (NoneRaised (files 0) → stores.IsNoDamage stop)
-    → ((schema : Schema) (facts : List Fact) → IsSchema schema → AreAccepted schema facts → KeepsFacts schema facts files → stores.IsNoDamage stop) → IsNoDamage answer
+pub undamaged : (stop : OpenStop) (answer : Stop) (files : Files) (kept : Kept) → answer ≡ open_stop stop → Keeps files kept
+    → (NoneRaised (files 0) → opens.IsNoDamage stop)
+    → ((schema : Schema) (facts : List Fact) → IsSchema schema → AreAccepted schema facts → KeepsFacts schema facts files → opens.IsNoDamage stop) → IsNoDamage answer
 undamaged stop answer files None same keeps none given = subst IsNoDamage (sym same) (clean stop (none keeps))
 undamaged stop answer files (Some warehouse) same keeps none given =
     subst IsNoDamage (sym same) (clean stop (given warehouse.schema warehouse.facts keeps.lawful.schema keeps.lawful.accepted keeps.kept))
 
 -- damage that opening tells is where a rule is broken
-broken_there : (files : Files) (stop : StoreStop) → breaks.TellsBreak files stop → TellsBreak files (stop_of stop)
+broken_there : (files : Files) (stop : OpenStop) → breaks.TellsBreak files stop → TellsBreak files (open_stop stop)
 broken_there files stops.Disk is = tt
 broken_there files (stops.Damaged file offset) is = is
 broken_there files stops.Memory is = tt
 
-pub tells_break : (files : Files) (stop : StoreStop) (answer : Stop) → answer ≡ stop_of stop → breaks.TellsBreak files stop → TellsBreak files answer
+pub tells_break : (files : Files) (stop : OpenStop) (answer : Stop) → answer ≡ open_stop stop → breaks.TellsBreak files stop → TellsBreak files answer
 tells_break files stop answer same is = subst (TellsBreak files) (sym same) (broken_there files stop is)
 
 -- how many reads opening takes

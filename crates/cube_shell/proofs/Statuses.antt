@@ -6,7 +6,7 @@ use Rattle.cube_shell.specs.declared.stop.Stop.{Stop}
 use Rattle.cube_shell.specs.declared.stop.Stop.TheVariants as stops
 use Rattle.cube_shell.specs.declared.status.Status.{Status}
 use Rattle.cube_shell.specs.declared.status.Status.TheVariants.{Done, Usage, Input, Disk, Output, Damaged, Memory, TooLong}
-use Rattle.forest_store.specs.Opening.{Place}
+use Rattle.forest_open.specs.Opening.{Place}
 use Rattle.cube_shell.specs.Damage.{StopsAt, EndsAt, EndsForBreak, TellsBreak}
 use Rattle.cube_shell.specs.Ends.{IsNoDamage, IsUndamaged, status_of}
 

@@ -1,14 +1,17 @@
 -- Stops that tell no damage, and damage that a command tells.
-use Rattle.std.proofs.Common.{◌≡◌, ℕ, List, Result, Ok, Err, IfErr, sym, subst}
+use Rattle.std.proofs.Common.{◌≡◌, ◌≢◌, ℕ, ◌+◌, ◌%◌, inl, inr, List, [], get_or, Result, Ok, Err, IfErr, sym, ◌∙◌, ap, subst, arith}
 use Rattle.site_core.specs.Disk.{Files}
 use Rattle.fact_csv.specs.Batch.{batch_of}
 use Rattle.fact_csv.specs.declared.refusal.RowRefusal.{RowRefusal}
 use Rattle.fact_model.specs.declared.fact.Fact.{Fact}
 use Rattle.fact_model.specs.declared.slice.Slice.{Slice}
+use Rattle.forest_root.specs.Forest.{place_of}
+use Rattle.forest_root.specs.declared.forest.Forest.{Forest}
 use Rattle.forest_root.specs.declared.forest.Store.{Store}
-use Rattle.forest_store.specs.Next.{TellsLoadDamage}
-use Rattle.forest_store.specs.declared.stop.StoreStop.{StoreStop}
-use Rattle.forest_store.specs.declared.stop.StoreStop.TheVariants as store
+use Rattle.attr_dict.specs.Admitting.{names_with}
+use Rattle.forest_refresh.specs.Begun.{Begun}
+use Rattle.forest_refresh.specs.Trees.{AreGoodIn, IsDamagedFor, IsFirstBadIn, IsWholeFor, TellsFirstDamage, by_arity, deltas_by, entries_at}
+use Rattle.forest_refresh.specs.declared.stop.RefreshStop.TheVariants as refreshes
 use Rattle.script_lang.specs.declared.command.Block.{Block}
 use Rattle.script_lang.specs.declared.command.Block.TheVariants.{Whole, Long}
 use Rattle.script_lang.specs.declared.command.Command.{Command}
@@ -17,12 +20,12 @@ use Rattle.slice_lang.specs.Reading.{slice_of}
 use Rattle.slice_lang.specs.declared.refusal.SliceRefusal.{SliceRefusal}
 use Rattle.cube_shell.specs.declared.answered.Answered.{Answered}
 use Rattle.cube_shell.specs.declared.state.State.{State}
-use Rattle.cube_shell.specs.declared.state.State.TheVariants.{Stopped, Empty, Idle, Pending}
+use Rattle.cube_shell.specs.declared.state.State.TheVariants.{Stopped, Empty, Idle, Hollow, Pending}
 use Rattle.cube_shell.specs.declared.stop.Stop.{Stop}
 use Rattle.cube_shell.specs.declared.stop.Stop.TheVariants as stops
-use Rattle.cube_shell.specs.Ends.{IsNoDamage, stop_of}
+use Rattle.cube_shell.specs.Ends.{IsNoDamage}
 use Rattle.cube_shell.specs.Sliced.{TellsSliceDamage}
-use Rattle.cube_shell.specs.Told.{FinishTells, LoadTells, SliceTells, TellsBatchDamage, TellsBlockDamage, TellsDamage, TellsReadDamage}
+use Rattle.cube_shell.specs.Told.{FinishTells, LoadTells, SliceTells, TellsBatchDamage, TellsBlockDamage, TellsDamage, TellsReadDamage, TellsRefreshDamage}
 
 -- ---- no damage is told
 
@@ -38,6 +41,12 @@ batch_none kept files batch stops.Output is = tt
 batch_none kept files batch (stops.Damaged file offset) is = absurd is
 batch_none kept files batch stops.Memory is = tt
 
+refresh_none : (r : Begun) (files : Files) (stop : Stop) → IsNoDamage stop → TellsRefreshDamage r files stop
+refresh_none r files stops.Disk is = tt
+refresh_none r files stops.Output is = tt
+refresh_none r files (stops.Damaged file offset) is = absurd is
+refresh_none r files stops.Memory is = tt
+
 read_none : (kept : Store) (files : Files) (read : Result (List Fact) RowRefusal) (stop : Stop) → IsNoDamage stop → TellsReadDamage kept files read stop
 read_none kept files (Ok batch) stop is = batch_none kept files batch stop is
 read_none kept files (Err refusal) stop is = is
@@ -50,19 +59,22 @@ load_none : (state : State) (files : Files) (block : Block) (stop : Stop) → Is
 load_none Stopped files block stop is = is
 load_none Empty files block stop is = is
 load_none (Idle kept) files block stop is = block_none kept files block stop is
-load_none (Pending kept batch) files block stop is = is
+load_none (Hollow kept) files block stop is = is
+load_none (Pending r) files block stop is = is
 
 finish_none : (state : State) (files : Files) (stop : Stop) → IsNoDamage stop → FinishTells state files stop
 finish_none Stopped files stop is = is
 finish_none Empty files stop is = is
 finish_none (Idle kept) files stop is = is
-finish_none (Pending kept batch) files stop is = batch_none kept files batch stop is
+finish_none (Hollow kept) files stop is = is
+finish_none (Pending r) files stop is = refresh_none r files stop is
 
 text_none : (state : State) (files : Files) (text : List ℕ) (stop : Stop) → IsNoDamage stop → SliceTells state files text stop
 text_none Stopped files text stop is = is
 text_none Empty files text stop is = is
 text_none (Idle kept) files text stop is = slice_none kept files (slice_of kept.forest.schema text) stop is
-text_none (Pending kept batch) files text stop is = slice_none kept files (slice_of kept.forest.schema text) stop is
+text_none (Hollow kept) files text stop is = slice_none kept files (slice_of kept.forest.schema text) stop is
+text_none (Pending r) files text stop is = slice_none r.store files (slice_of r.store.forest.schema text) stop is
 
 pub tells_none : (state : State) (files : Files) (command : Command) (stop : Stop) → IsNoDamage stop → TellsDamage state files command stop
 tells_none state files (says.Slice text) stop is = text_none state files text stop is
@@ -86,11 +98,44 @@ memory_tells (Err stop) state files command is = subst (TellsDamage state files 
 
 -- ---- damage of a batch
 
-told_as : (kept : Store) (files : Files) (batch : List Fact) (stop : StoreStop) → TellsLoadDamage kept files batch stop → TellsBatchDamage kept files batch (stop_of stop)
-told_as kept files batch store.Disk is = tt
-told_as kept files batch (store.Damaged file offset) is = is
-told_as kept files batch store.Memory is = tt
+-- where the root file alone differs the trees are the same
+module _ (r : Begun) (old new : Files) (others : (file : ℕ) → file ≢ 0 → new file ≡ old file) where
+  same_bytes : (t : ℕ) → new (place_of r.store.forest t).file ≡ old (place_of r.store.forest t).file
+  unfolding place_of
+  same_bytes t = others (2 + r.store.forest.body.generation % 2) (λ is. omega (arith, is))
 
-pub batch_tells : (kept : Store) (files : Files) (batch : List Fact) (stop : StoreStop) (answer : Stop) → answer ≡ stop_of stop
-    → TellsLoadDamage kept files batch stop → TellsBatchDamage kept files batch answer
-batch_tells kept files batch stop answer same is = subst (TellsBatchDamage kept files batch) (sym same) (told_as kept files batch stop is)
+  same_good : (t : ℕ) → AreGoodIn (place_of r.store.forest t) new → AreGoodIn (place_of r.store.forest t) old
+  same_good t = subst (λ (bytes : List ℕ). AreGoodIn (place_of r.store.forest t) (λ f. bytes)) (same_bytes t)
+
+  same_entries : (t : ℕ) → entries_at (place_of r.store.forest t) new ≡ entries_at (place_of r.store.forest t) old
+  same_entries t = ap (λ (bytes : List ℕ). entries_at (place_of r.store.forest t) (λ f. bytes)) (same_bytes t)
+
+  same_whole : (t : ℕ) → IsWholeFor r.store.forest new t (get_or r.deltas t []) → IsWholeFor r.store.forest old t (get_or r.deltas t [])
+  same_whole t is = (is.0, record { good = same_good t is.1.good; points = is.1.points ∙ same_entries t; counted = is.1.counted }, is.2)
+
+  same_damage : (t page : ℕ) → IsDamagedFor r.store.forest new t (get_or r.deltas t []) page → IsDamagedFor r.store.forest old t (get_or r.deltas t []) page
+  same_damage t page (inl (inl bad)) = inl (inl (subst (λ (bytes : List ℕ). IsFirstBadIn (place_of r.store.forest t) (λ f. bytes) page) (same_bytes t) bad))
+  same_damage t page (inl (inr is)) = inl (inr (same_good t is.0, (λ counted. is.1 (ap by_arity (same_entries t) ∙ counted)), is.2))
+  same_damage t page (inr is) = inr (is.0, record { good = same_good t is.1.good; points = is.1.points ∙ same_entries t; counted = is.1.counted }, is.2, is.3)
+
+  same_trees : (stop : Stop) → TellsRefreshDamage r new stop → TellsRefreshDamage r old stop
+  same_trees (stops.Damaged file offset) is =
+      (is.0, is.1, (λ s low. same_whole s (is.2 s low)), (is.3.0, same_damage is.0 is.3.0 is.3.1, is.3.2, is.3.3))
+  same_trees stops.Disk is = tt
+  same_trees stops.Output is = tt
+  same_trees stops.Memory is = tt
+
+-- a batch that begins and is committed at once
+by_batch : (r : Begun) (kept : Store) (files : Files) (batch : List Fact) → r.store.forest ≡ kept.forest
+    → r.deltas ≡ deltas_by (names_with kept.dicts batch) kept.forest.schema batch → (stop : Stop) → TellsRefreshDamage r files stop → TellsBatchDamage kept files batch stop
+by_batch r kept files batch same points (stops.Damaged file offset) is =
+    subst (λ d. TellsFirstDamage kept.forest files d (refreshes.Damaged file offset)) points (subst (λ (f : Forest). TellsFirstDamage f files r.deltas (refreshes.Damaged file offset)) same is)
+by_batch r kept files batch same points stops.Disk is = tt
+by_batch r kept files batch same points stops.Output is = tt
+by_batch r kept files batch same points stops.Memory is = tt
+
+pub batch_tells : (r : Begun) (kept : Store) (old new : Files) (batch : List Fact) (result : Result Answered Stop) → r.store.forest ≡ kept.forest
+    → r.deltas ≡ deltas_by (names_with kept.dicts batch) kept.forest.schema batch → ((file : ℕ) → file ≢ 0 → new file ≡ old file)
+    → IfErr result (TellsRefreshDamage r new) → IfErr result (TellsBatchDamage kept old batch)
+batch_tells r kept old new batch (Ok done) same points others is = tt
+batch_tells r kept old new batch (Err stop) same points others is = by_batch r kept old batch same points stop (same_trees r old new others stop is)

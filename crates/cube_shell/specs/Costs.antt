@@ -1,11 +1,11 @@
--- How many reads opening may take, and how many pages a slice may read.
-use Rattle.std.specs.Prelude.{◌≡◌, ◌⊎◌, ℕ, ◌+◌, List, length, Some, None, Result, Ok, Err}
+-- How many reads opening may take, how many pages a slice may read, and how many writes a batch takes that begins.
+use Rattle.std.specs.Prelude.{◌≡◌, ◌⊎◌, ℕ, ◌+◌, List, [], ◌∷◌, length, Option, Some, None, Result, Ok, Err}
 use Rattle.fact_model.specs.declared.fact.Fact.{Fact}
 use Rattle.fact_model.specs.declared.slice.Slice.{Slice}
 use Rattle.cube_schema.specs.declared.schema.Schema.{Schema}
 use Rattle.forest_pages.specs.Forest.{body_counts}
 use Rattle.forest_store.specs.Held.{names_text}
-use Rattle.forest_store.specs.Opening.{names_pages}
+use Rattle.forest_open.specs.Opening.{names_pages}
 use Rattle.slice_exec.specs.Answers.{IsUncovered}
 use Rattle.slice_exec.specs.Costs.{visits_over}
 use Rattle.slice_lang.specs.declared.refusal.SliceRefusal.{SliceRefusal}
@@ -35,3 +35,13 @@ CostsOver (Some warehouse) text pages = MayRead warehouse.schema warehouse.facts
 
 abbrev pub Costs : World → List ℕ → ℕ → Type 0
 Costs world text pages = CostsOver world.kept text pages
+
+-- one where no batch was pending and one that is not empty is pending then, and none otherwise
+abbrev pub begins_over : Option (List Fact) → Option (List Fact) → ℕ
+begins_over (Some batch) next = 0
+begins_over None None = 0
+begins_over None (Some []) = 0
+begins_over None (Some (x ∷ xs)) = 1
+
+abbrev pub begins : World → World → ℕ
+begins world next = begins_over world.pending next.pending

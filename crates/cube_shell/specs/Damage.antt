@@ -1,8 +1,8 @@
 -- Ends for damage at a place.
 use Rattle.std.specs.Prelude.{◌≡◌}
 use Rattle.site_core.specs.Disk.{Files}
-use Rattle.forest_store.specs.Breaks.{BreaksAt}
-use Rattle.forest_store.specs.Opening.{Place}
+use Rattle.forest_open.specs.Breaks.{BreaksAt}
+use Rattle.forest_open.specs.Opening.{Place}
 use Rattle.cube_shell.specs.declared.stop.Stop.{Stop}
 use Rattle.cube_shell.specs.declared.stop.Stop.TheVariants as stops
 use Rattle.cube_shell.specs.declared.status.Status.{Status}

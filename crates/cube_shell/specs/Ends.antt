@@ -1,8 +1,14 @@
 -- How a command and a run may end, and why.
 use Rattle.std.specs.Prelude.{◌≡◌, ℕ}
 use Rattle.site_core.specs.Causes.{Rose}
-use Rattle.forest_store.specs.declared.stop.StoreStop.{StoreStop}
-use Rattle.forest_store.specs.declared.stop.StoreStop.TheVariants as store
+use Rattle.forest_open.specs.declared.stop.InitStop.{InitStop}
+use Rattle.forest_open.specs.declared.stop.InitStop.TheVariants as inits
+use Rattle.forest_open.specs.declared.stop.OpenStop.{OpenStop}
+use Rattle.forest_open.specs.declared.stop.OpenStop.TheVariants as opens
+use Rattle.forest_refresh.specs.declared.stop.BeginStop.{BeginStop}
+use Rattle.forest_refresh.specs.declared.stop.BeginStop.TheVariants as begins
+use Rattle.forest_refresh.specs.declared.stop.RefreshStop.{RefreshStop}
+use Rattle.forest_refresh.specs.declared.stop.RefreshStop.TheVariants as refreshes
 use Rattle.cube_shell.specs.declared.stop.Stop.{Stop}
 use Rattle.cube_shell.specs.declared.stop.Stop.TheVariants as stops
 use Rattle.cube_shell.specs.declared.status.Status.{Status}
@@ -78,11 +84,27 @@ IsUndamaged Output = Unit {0}
 IsUndamaged Memory = Unit {0}
 IsUndamaged TooLong = Unit {0}
 
--- the stop of a store as that of a session, and that of a session as the status of a run
-abbrev pub stop_of : StoreStop → Stop
-stop_of store.Disk = stops.Disk
-stop_of (store.Damaged file offset) = stops.Damaged file offset
-stop_of store.Memory = stops.Memory
+-- the stops of the calls below as those of a session, and that of a session as the status of a run
+abbrev pub open_stop : OpenStop → Stop
+open_stop opens.Disk = stops.Disk
+open_stop (opens.Damaged file offset) = stops.Damaged file offset
+open_stop opens.Memory = stops.Memory
+
+abbrev pub init_stop : InitStop → Stop
+init_stop inits.Disk = stops.Disk
+init_stop inits.Memory = stops.Memory
+
+abbrev pub refresh_stop : RefreshStop → Stop
+refresh_stop refreshes.Disk = stops.Disk
+refresh_stop (refreshes.Damaged file offset) = stops.Damaged file offset
+
+-- where a batch is neither begun nor refused a file failed, or memory is wanting, be it for the refusal
+abbrev pub begin_stop : BeginStop → Stop
+begin_stop begins.Disk = stops.Disk
+begin_stop begins.Memory = stops.Memory
+begin_stop begins.FactsFull = stops.Memory
+begin_stop (begins.NamesFull a) = stops.Memory
+begin_stop (begins.Mass m) = stops.Memory
 
 abbrev pub status_of : Stop → Status
 status_of stops.Disk = Disk

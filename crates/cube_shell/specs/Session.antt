@@ -1,22 +1,21 @@
 -- A session that stands for a world, and how it goes on.
-use Rattle.std.specs.Prelude.{◌≡◌, ◌⊎◌, ℕ, List, [], ◌++◌, codes, length, Some, None}
-use Rattle.std.specs.List.{All}
+use Rattle.std.specs.Prelude.{◌≡◌, ◌⊎◌, ℕ, ◌<◌, List, [], ◌++◌, codes, length, None}
 use Rattle.script_lang.specs.declared.command.Command.{Command}
 use Rattle.site_core.specs.Disk.{Files, Disk}
 use Rattle.site_core.specs.Moments.{IsStable, LeavesOnly}
-use Rattle.cube_schema.specs.Agreeing.{Agrees}
+use Rattle.fact_model.specs.declared.fact.Fact.{Fact}
 use Rattle.forest_root.specs.declared.forest.Store.{Store}
-use Rattle.forest_store.specs.Held.{AreAccepted}
+use Rattle.forest_refresh.specs.Begun.{Begun, IsReady, IsRefreshOf, batch_size}
 use Rattle.forest_store.specs.Opened.{IsEmpty, IsOpened}
-use Rattle.forest_store.specs.Stored.{IsStoreOf}
+use Rattle.forest_store.specs.Stored.{IsStoreOf, IsWhole}
 use Rattle.reply_text.specs.Replies.{line, facts_text, pending_text}
 use Rattle.cube_shell.specs.declared.answered.Answered.{Answered}
 use Rattle.cube_shell.specs.declared.state.State.{State}
-use Rattle.cube_shell.specs.declared.state.State.TheVariants.{Stopped, Empty, Idle, Pending}
+use Rattle.cube_shell.specs.declared.state.State.TheVariants.{Stopped, Empty, Idle, Hollow, Pending}
 use Rattle.cube_shell.specs.Headline.{replies_from, final, AfterStop}
 use Rattle.cube_shell.specs.Keeps.{IsLawful, Keeps}
 use Rattle.cube_shell.specs.Machine.{Answer}
-use Rattle.cube_shell.specs.World.{Kept, World, Warehouse, bare, begun_with, idle}
+use Rattle.cube_shell.specs.World.{World, Warehouse, bare, begun_with, idle}
 
 -- the store is that of the warehouse which the files keep
 pub record Belongs (store : Store) (disk : Disk) (warehouse : Warehouse) : Type 0 where
@@ -26,55 +25,64 @@ pub record Belongs (store : Store) (disk : Disk) (warehouse : Warehouse) : Type 
   -- a stop now leaves what a read gives
   pub stable : IsStable disk
 
--- it has not stopped; a pending batch is of its schema
+-- the refresh adds a batch to the warehouse which the files keep
+pub record Attends (r : Begun) (disk : Disk) (warehouse : Warehouse) (batch : List Fact) : Type 0 where
+  pub lawful : IsLawful warehouse
+  pub schema : r.store.forest.schema ≡ warehouse.schema
+  pub adds : IsRefreshOf r warehouse.facts batch disk.files
+  -- an empty batch needs no refresh
+  pub some : 0 < length batch
+  -- a stop now leaves what a read gives
+  pub stable : IsStable disk
+
+-- it has not stopped; where no refresh has begun, slices know all names
 abbrev pub IsRunning : State → Type 0
 IsRunning Stopped = ⊥
 IsRunning Empty = Unit {0}
-IsRunning (Idle store) = Unit {0}
-IsRunning (Pending store batch) = All (Agrees store.forest.schema) batch
+IsRunning (Idle store) = IsWhole store
+IsRunning (Hollow store) = IsWhole store
+IsRunning (Pending refresh) = Unit {0}
 
 -- the files are those that it has opened, whatever they hold
 abbrev pub IsFit : State → Disk → Type 0
 IsFit Stopped disk = ⊥
 IsFit Empty disk = IsEmpty disk
 IsFit (Idle store) disk = IsOpened store.forest.body disk
-IsFit (Pending store batch) disk = IsOpened store.forest.body disk
+IsFit (Hollow store) disk = IsOpened store.forest.body disk
+IsFit (Pending refresh) disk = IsReady refresh disk
 
 -- it stands for this world
 abbrev pub Stands : State → Disk → World → Type 0
 Stands Stopped disk world = ⊥
 Stands Empty disk world = (world ≡ bare None) × IsEmpty disk
 Stands (Idle store) disk world = (warehouse : Warehouse) × (world ≡ idle warehouse) × Belongs store disk warehouse
-Stands (Pending store batch) disk world =
-    (warehouse : Warehouse) × (world ≡ begun_with warehouse batch) × Belongs store disk warehouse
-    × AreAccepted warehouse.schema (warehouse.facts ++ batch)
+Stands (Hollow store) disk world = (warehouse : Warehouse) × (world ≡ begun_with warehouse []) × Belongs store disk warehouse
+Stands (Pending refresh) disk world =
+    (warehouse : Warehouse) × (batch : List Fact) × (world ≡ begun_with warehouse batch) × Attends refresh disk warehouse batch
 
 -- how many facts it knows
 abbrev pub state_text : State → List ℕ
 state_text Stopped = []
 state_text Empty = line (codes "no schema")
 state_text (Idle store) = facts_text store.forest.body.facts
-state_text (Pending store batch) = pending_text store.forest.body.facts (length batch)
+state_text (Hollow store) = pending_text store.forest.body.facts 0
+state_text (Pending refresh) = pending_text refresh.store.forest.body.facts (batch_size refresh)
 
 -- the reply to a step
 abbrev pub step_text : State → List ℕ
 step_text Stopped = []
 step_text Empty = line (codes "refused nothing pending")
 step_text (Idle store) = line (codes "refused nothing pending")
-step_text (Pending store batch) = line (codes "stepped")
+step_text (Hollow store) = line (codes "stepped")
+step_text (Pending refresh) = line (codes "stepped")
 
--- what there is when a pending batch is dropped, and the reply
-abbrev pub abandoned : State → State
-abandoned Stopped = Stopped
-abandoned Empty = Empty
-abandoned (Idle store) = Idle store
-abandoned (Pending store batch) = Idle store
-
+-- the reply where a pending batch is to be dropped
 abbrev pub abandon_text : State → List ℕ
 abandon_text Stopped = []
 abandon_text Empty = line (codes "refused nothing pending")
 abandon_text (Idle store) = line (codes "refused nothing pending")
-abandon_text (Pending store batch) = line (codes "abandoned")
+abandon_text (Hollow store) = line (codes "abandoned")
+abandon_text (Pending refresh) = line (codes "abandoned")
 
 -- the files keep what this world has accepted, or that one
 abbrev pub KeepsEither : World → World → Files → Type 0

@@ -4,24 +4,34 @@ use Rattle.site_core.specs.Disk.{Files}
 use Rattle.fact_csv.specs.Batch.{batch_of}
 use Rattle.fact_csv.specs.declared.refusal.RowRefusal.{RowRefusal}
 use Rattle.fact_model.specs.declared.fact.Fact.{Fact}
+use Rattle.attr_dict.specs.Admitting.{names_with}
 use Rattle.forest_root.specs.declared.forest.Store.{Store}
-use Rattle.forest_store.specs.Next.{TellsLoadDamage}
-use Rattle.forest_store.specs.declared.stop.StoreStop.TheVariants as store
+use Rattle.forest_refresh.specs.Begun.{Begun}
+use Rattle.forest_refresh.specs.Trees.{TellsFirstDamage, deltas_by}
+use Rattle.forest_refresh.specs.declared.stop.RefreshStop.TheVariants as refreshes
 use Rattle.script_lang.specs.declared.command.Block.{Block}
 use Rattle.script_lang.specs.declared.command.Block.TheVariants.{Whole, Long}
 use Rattle.script_lang.specs.declared.command.Command.{Command}
 use Rattle.script_lang.specs.declared.command.Command.TheVariants as says
 use Rattle.slice_lang.specs.Reading.{slice_of}
 use Rattle.cube_shell.specs.declared.state.State.{State}
-use Rattle.cube_shell.specs.declared.state.State.TheVariants.{Stopped, Empty, Idle, Pending}
+use Rattle.cube_shell.specs.declared.state.State.TheVariants.{Stopped, Empty, Idle, Hollow, Pending}
 use Rattle.cube_shell.specs.declared.stop.Stop.{Stop}
 use Rattle.cube_shell.specs.declared.stop.Stop.TheVariants as stops
 use Rattle.cube_shell.specs.Ends.{IsNoDamage}
 use Rattle.cube_shell.specs.Sliced.{TellsSliceDamage}
 
--- the place at which the store finds these files damaged when it takes in a batch
+-- the place at which a refresh finds these files damaged
+abbrev pub TellsRefreshDamage : Begun → Files → Stop → Type 0
+TellsRefreshDamage r files (stops.Damaged file offset) = TellsFirstDamage r.store.forest files r.deltas (refreshes.Damaged file offset)
+TellsRefreshDamage r files stops.Disk = Unit {0}
+TellsRefreshDamage r files stops.Output = Unit {0}
+TellsRefreshDamage r files stops.Memory = Unit {0}
+
+-- the same where this batch is taken in, whose points are made by the names that there are with it
 abbrev pub TellsBatchDamage : Store → Files → List Fact → Stop → Type 0
-TellsBatchDamage kept files batch (stops.Damaged file offset) = TellsLoadDamage kept files batch (store.Damaged file offset)
+TellsBatchDamage kept files batch (stops.Damaged file offset) =
+    TellsFirstDamage kept.forest files (deltas_by (names_with kept.dicts batch) kept.forest.schema batch) (refreshes.Damaged file offset)
 TellsBatchDamage kept files batch stops.Disk = Unit {0}
 TellsBatchDamage kept files batch stops.Output = Unit {0}
 TellsBatchDamage kept files batch stops.Memory = Unit {0}
@@ -40,20 +50,24 @@ abbrev pub SliceTells : State → Files → List ℕ → Stop → Type 0
 SliceTells Stopped files text stop = IsNoDamage stop
 SliceTells Empty files text stop = IsNoDamage stop
 SliceTells (Idle kept) files text stop = TellsSliceDamage kept files (slice_of kept.forest.schema text) stop
-SliceTells (Pending kept batch) files text stop = TellsSliceDamage kept files (slice_of kept.forest.schema text) stop
+SliceTells (Hollow kept) files text stop = TellsSliceDamage kept files (slice_of kept.forest.schema text) stop
+SliceTells (Pending refresh) files text stop =
+    TellsSliceDamage refresh.store files (slice_of refresh.store.forest.schema text) stop
 
 abbrev pub LoadTells : State → Files → Block → Stop → Type 0
 LoadTells Stopped files block stop = IsNoDamage stop
 LoadTells Empty files block stop = IsNoDamage stop
 LoadTells (Idle kept) files block stop = TellsBlockDamage kept files block stop
-LoadTells (Pending kept batch) files block stop = IsNoDamage stop
+LoadTells (Hollow kept) files block stop = IsNoDamage stop
+LoadTells (Pending refresh) files block stop = IsNoDamage stop
 
 -- the end of a pending batch
 abbrev pub FinishTells : State → Files → Stop → Type 0
 FinishTells Stopped files stop = IsNoDamage stop
 FinishTells Empty files stop = IsNoDamage stop
 FinishTells (Idle kept) files stop = IsNoDamage stop
-FinishTells (Pending kept batch) files stop = TellsBatchDamage kept files batch stop
+FinishTells (Hollow kept) files stop = IsNoDamage stop
+FinishTells (Pending refresh) files stop = TellsRefreshDamage refresh files stop
 
 -- damage that a command tells is there; no command but these three tells any
 abbrev pub TellsDamage : State → Files → Command → Stop → Type 0

@@ -44,9 +44,8 @@ pub fn declare<T: Site>(
         State::Stopped => Err(Stop::Memory),
         State::Empty => declare_first(alloc, block, site),
         State::Idle(store) => plain(alloc, State::Idle(store), "refused declared"),
-        State::Pending(store, batch) => {
-            plain(alloc, State::Pending(store, batch), "refused declared")
-        }
+        State::Hollow(store) => plain(alloc, State::Hollow(store), "refused declared"),
+        State::Pending(refresh) => plain(alloc, State::Pending(refresh), "refused declared"),
     }
 }
 
@@ -98,7 +97,7 @@ fn declare_schema<T: Site>(alloc: Global, schema: Schema, site: &mut T) -> Resul
     ensures disk_faults { OnOk result (T.disk_faults site.new ≡ T.disk_faults site.old) }
     ensures told_faults { T.told_faults site.new ≡ T.told_faults site.old }
 {
-    match forest_store::declare(alloc, site, schema) {
+    match forest_open::init(alloc, site, schema) {
         Ok(store) => plain(alloc, State::Idle(store), "declared"),
         Err(stop) => Err(Stop::from(stop)),
     }

@@ -3,6 +3,7 @@
 
 mod answered;
 mod blocks;
+mod committing;
 mod declaring;
 mod loading;
 mod machine;

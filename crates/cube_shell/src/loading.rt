@@ -1,25 +1,26 @@
 //! The command `load`.
-ghost use Rattle.std.specs.Prelude.{◌≡◌, IsTrue, OnOk, IfOk, IfErr, Ok, Some, length};
+ghost use Rattle.std.specs.Prelude.{◌≡◌, IsTrue, OnOk, IfOk, IfErr, Some};
 ghost use Rattle.std.specs.List.{All};
 ghost use Rattle.cube_schema.specs.Agreeing.{Agrees};
 ghost use Rattle.cube_schema.specs.Kinds.{name_at, measure_name_at};
 ghost use Rattle.forest_store.specs.Opened.{IsOpened};
-ghost use Rattle.cube_shell.specs.Ends.{IsNoDamage, StopCause};
+ghost use Rattle.forest_store.specs.Stored.{IsWhole};
+ghost use Rattle.cube_shell.specs.Ends.{IsNoDamage, StopCause, begin_stop};
 ghost use Rattle.cube_shell.specs.Machine.{accepted, load};
+ghost use Rattle.cube_shell.specs.Refusals.{refusal_text};
 ghost use Rattle.cube_shell.specs.Session.{Belongs, Between, IsAnswer, IsFit, IsRunning, Stands};
 ghost use Rattle.cube_shell.specs.Told.{LoadTells, TellsBatchDamage, TellsBlockDamage};
 ghost use Rattle.cube_shell.specs.World.{Warehouse, World, idle};
-ghost use Rattle.reply_text.specs.Replies.{committed_text};
-ghost use Rattle.cube_shell.specs.Refusals.{refusal_text};
 
 use crate::answered::{Answered, plain};
 use crate::blocks::{Read, read_block};
+use crate::committing::{acknowledge, commit};
 use crate::state::State;
 use crate::stop::Stop;
 use cube_schema::Schema;
 use fact_model::FactList;
+use forest_refresh::{BeginFault, BeginStop, Refresh};
 use forest_root::Store;
-use forest_store::{Loaded, Refusal};
 use script_lang::Block;
 use site_core::Site;
 use std::alloc::Global;
@@ -55,9 +56,8 @@ pub fn load<T: Site>(
         State::Stopped => Err(Stop::Memory),
         State::Empty => plain(alloc, State::Empty, "refused no schema"),
         State::Idle(store) => load_block(alloc, store, block, site),
-        State::Pending(store, batch) => {
-            plain(alloc, State::Pending(store, batch), "refused pending")
-        }
+        State::Hollow(store) => plain(alloc, State::Hollow(store), "refused pending"),
+        State::Pending(refresh) => plain(alloc, State::Pending(refresh), "refused pending"),
     }
 }
 
@@ -68,6 +68,7 @@ fn load_block<T: Site>(
     block: Block,
     site: &mut T,
 ) -> Result<Answered, Stop>
+    requires whole { IsWhole store }
     requires fit { IsTrue T.tells → IsOpened store.forest.body (T.disk site.old) }
 
     ensures answer { IsTrue T.tells → (warehouse : Warehouse) → Belongs store (T.disk site.old) warehouse
@@ -88,7 +89,7 @@ fn load_block<T: Site>(
     ensures told_faults { T.told_faults site.new ≡ T.told_faults site.old }
 {
     match read_block(alloc, &store.forest.schema, block)? {
-        Read::Batch(batch) => take_in(alloc, store, &batch, site),
+        Read::Batch(batch) => take_in(alloc, store, batch, site),
         Read::Refused(reply) => Ok(Answered {
             state: State::Idle(store),
             reply,
@@ -97,24 +98,25 @@ fn load_block<T: Site>(
 }
 
 /// Takes in a batch, or refuses it by the first limit that it would pass. An empty batch is taken in without a call on a file.
-pub fn take_in<T: Site>(
+fn take_in<T: Site>(
     alloc: Global,
     store: Store,
-    batch: &FactList,
+    batch: FactList,
     site: &mut T,
 ) -> Result<Answered, Stop>
-    requires agree { All (Agrees store.forest.schema) batch.now }
+    requires agree { All (Agrees store.forest.schema) batch }
+    requires whole { IsWhole store }
     requires fit { IsTrue T.tells → IsOpened store.forest.body (T.disk site.old) }
 
     ensures answer { IsTrue T.tells → (warehouse : Warehouse) → Belongs store (T.disk site.old) warehouse
-        → IfOk result (IsAnswer (T.disk site.new) (accepted (idle warehouse) warehouse batch.now)) }
+        → IfOk result (IsAnswer (T.disk site.new) (accepted (idle warehouse) warehouse batch)) }
     ensures any_moment { IsTrue T.tells → (warehouse : Warehouse) → Belongs store (T.disk site.old) warehouse
-        → Between (T.disk site.old) (T.disk site.new) (idle warehouse) (accepted (idle warehouse) warehouse batch.now).0 }
+        → Between (T.disk site.old) (T.disk site.new) (idle warehouse) (accepted (idle warehouse) warehouse batch).0 }
     ensures undamaged { IsTrue T.tells → (warehouse : Warehouse) → Belongs store (T.disk site.old) warehouse
         → IfErr result IsNoDamage }
-    ensures damage { IsTrue T.tells → IfErr result (TellsBatchDamage store (T.disk site.old).files batch.now) }
+    ensures damage { IsTrue T.tells → IfErr result (TellsBatchDamage store (T.disk site.old).files batch) }
     ensures unwritten { IsTrue T.tells → (warehouse : Warehouse) → Belongs store (T.disk site.old) warehouse
-        → (accepted (idle warehouse) warehouse batch.now).0.kept ≡ Some warehouse → OnOk result (T.writes site.new ≡ T.writes site.old) }
+        → (accepted (idle warehouse) warehouse batch).0.kept ≡ Some warehouse → OnOk result (T.writes site.new ≡ T.writes site.old) }
 
     ensures running { IfOk result (λ done. IsRunning done.state) }
     ensures fit { IsTrue T.tells → IfOk result (λ done. IsFit done.state (T.disk site.new)) }
@@ -126,40 +128,29 @@ pub fn take_in<T: Site>(
     if batch.as_slice().is_empty() {
         return acknowledge(alloc, store);
     }
-    match forest_store::load(store, alloc, site, batch) {
-        Ok(Loaded::Committed(store)) => acknowledge(alloc, store),
-        Ok(Loaded::Refused(store, refusal)) => refuse(alloc, store, refusal),
-        Err(stop) => Err(Stop::from(stop)),
+    match Refresh::begin(alloc, site, store, batch) {
+        Ok(refresh) => commit(alloc, refresh, site),
+        Err(fault) => refuse(alloc, fault),
     }
 }
 
-/// Acknowledges a batch that was taken in.
-fn acknowledge(alloc: Global, store: Store) -> Result<Answered, Stop>
-    ensures state { IfOk result (λ done. done.state ≡ State.Idle store) }
-    ensures reply { IfOk result (λ done. done.reply.items ≡ committed_text store.forest.body.facts) }
-    ensures memory { IfErr result (λ stop. stop ≡ Stop.Memory) }
+/// Refuses a batch by the first limit that it would pass. Where no limit is why it has not begun, the session stops.
+pub fn refuse(alloc: Global, fault: BeginFault) -> Result<Answered, Stop>
+    ensures state { IfOk result (λ done. done.state ≡ State.Idle fault.store) }
+    ensures reply { IfOk result (λ done. refusal_text fault.store.forest.schema fault.why ≡ Some done.reply.items) }
+    ensures stop { IfErr result (λ stop. stop ≡ begin_stop fault.why) }
 {
-    let reply = reply_text::committed(alloc, store.forest.body.facts)?;
-    Ok(Answered {
-        state: State::Idle(store),
-        reply,
-    })
-}
-
-/// Refuses a batch by the first limit that it would pass.
-pub fn refuse(alloc: Global, store: Store, refusal: Refusal) -> Result<Answered, Stop>
-    ensures state { IfOk result (λ done. done.state ≡ State.Idle store) }
-    ensures reply { IfOk result (λ done. done.reply.items ≡ refusal_text store.forest.schema refusal) }
-    ensures memory { IfErr result (λ stop. stop ≡ Stop.Memory) }
-{
-    let reply = match refusal {
-        Refusal::Facts => reply_text::plain(alloc, "refused facts")?,
-        Refusal::Names(attr) => {
+    let BeginFault { store, why } = fault;
+    let reply = match why {
+        BeginStop::FactsFull => reply_text::plain(alloc, "refused facts")?,
+        BeginStop::NamesFull(attr) => {
             reply_text::refused_names(alloc, attr_name(&store.forest.schema, attr))?
         }
-        Refusal::Mass(measure) => {
+        BeginStop::Mass(measure) => {
             reply_text::refused_mass(alloc, measure_name(&store.forest.schema, measure))?
         }
+        BeginStop::Memory => return Err(Stop::Memory),
+        BeginStop::Disk => return Err(Stop::Disk),
     };
     Ok(Answered {
         state: State::Idle(store),

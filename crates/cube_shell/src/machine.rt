@@ -1,7 +1,7 @@
 //! Commands are carried out over the files, up to their replies, which are not told yet.
 ghost use Rattle.std.specs.Prelude.{◌≡◌, ◌≤◌, ◌+◌, ℕ, List, IsTrue, OnOk, IfOk, IfErr};
 ghost use Rattle.script_lang.specs.declared.command.Command.TheVariants as says;
-ghost use Rattle.cube_shell.specs.Costs.{Costs};
+ghost use Rattle.cube_shell.specs.Costs.{Costs, begins};
 ghost use Rattle.cube_shell.specs.Ends.{IsNoDamage, StopCause};
 ghost use Rattle.cube_shell.specs.Machine.{act};
 ghost use Rattle.cube_shell.specs.Session.{Between, IsAnswer, IsFit, IsRunning, Stands, state_text};
@@ -42,9 +42,10 @@ pub fn act<T: Site>(
 
     // Whatever the files hold.
     ensures damage { IsTrue T.tells → IfErr result (TellsDamage state (T.disk site.old).files command) }
-    // Where no fact is accepted and no schema declared, nothing is written.
+    // Where no fact is accepted and no schema declared, nothing is written, but for one write where a batch that is not empty begins.
     ensures unwritten { IsTrue T.tells → (world : World) → Stands state (T.disk site.old) world
-        → (act world command).0.kept ≡ world.kept → OnOk result (T.writes site.new ≡ T.writes site.old) }
+        → (act world command).0.kept ≡ world.kept
+        → OnOk result (T.writes site.new ≤ T.writes site.old + begins world (act world command).0) }
     ensures running { IfOk result (λ done. IsRunning done.state) }
     ensures fit { IsTrue T.tells → IfOk result (λ done. IsFit done.state (T.disk site.new)) }
     ensures told { IsTrue T.tells → (T.disk site.new).told ≡ (T.disk site.old).told }
@@ -55,13 +56,20 @@ pub fn act<T: Site>(
 {
     match command {
         Command::Schema(block) => declare(alloc, state, block, site),
-        Command::Load(block) => load(alloc, state, block, site),
+        Command::Load(block) => {
+            // No page is kept over a commit.
+            pages.clear();
+            load(alloc, state, block, site)
+        }
         Command::Slice(text) => slice(alloc, pages, state, text.as_bytes(), site),
         Command::Status => status(alloc, state),
         Command::Begin(block) => begin(alloc, state, block, site),
         Command::Step(_) => step(alloc, state),
-        Command::Finish => finish(alloc, state, site),
-        Command::Abandon => abandon(alloc, state),
+        Command::Finish => {
+            pages.clear();
+            finish(alloc, state, site)
+        }
+        Command::Abandon => abandon(alloc, state, site),
         Command::LongLine => plain(alloc, state, "refused long line"),
         Command::OpenBlock => plain(alloc, state, "refused open block"),
         Command::Generate { .. } | Command::Unknown => plain(alloc, state, "refused unknown"),
@@ -85,11 +93,18 @@ fn status(alloc: Global, state: State) -> Result<Answered, Stop>
                 reply,
             })
         }
-        State::Pending(store, batch) => {
-            let count = batch.as_slice().len() as u64;
-            let reply = reply_text::pending(alloc, store.forest.body.facts, count)?;
+        State::Hollow(store) => {
+            let reply = reply_text::pending(alloc, store.forest.body.facts, 0)?;
             Ok(Answered {
-                state: State::Pending(store, batch),
+                state: State::Hollow(store),
+                reply,
+            })
+        }
+        State::Pending(refresh) => {
+            let count = refresh.store().forest.body.facts;
+            let reply = reply_text::pending(alloc, count, refresh.facts().saturating_sub(count))?;
+            Ok(Answered {
+                state: State::Pending(refresh),
                 reply,
             })
         }

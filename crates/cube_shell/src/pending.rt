@@ -1,20 +1,24 @@
 //! The commands `begin`, `step`, `finish` and `abandon`, over a batch that is pending.
-ghost use Rattle.std.specs.Prelude.{◌≡◌, ◌++◌, IsTrue, OnOk, IfOk, IfErr};
+ghost use Rattle.std.specs.Prelude.{◌≡◌, ◌≤◌, ◌+◌, IsTrue, OnOk, IfOk, IfErr};
 ghost use Rattle.std.specs.List.{All};
 ghost use Rattle.cube_schema.specs.Agreeing.{Agrees};
 ghost use Rattle.forest_store.specs.Opened.{IsOpened};
+ghost use Rattle.forest_store.specs.Stored.{IsWhole};
+ghost use Rattle.cube_shell.specs.Costs.{begins};
 ghost use Rattle.cube_shell.specs.Ends.{IsNoDamage, StopCause};
-ghost use Rattle.cube_shell.specs.Machine.{begin, begun_or_refused, finish};
-ghost use Rattle.cube_shell.specs.Session.{Belongs, Between, IsAnswer, IsFit, IsRunning, Stands, abandon_text, abandoned, step_text};
+ghost use Rattle.cube_shell.specs.Machine.{abandon, begin, begun_or_refused, finish};
+ghost use Rattle.cube_shell.specs.Session.{Belongs, Between, IsAnswer, IsFit, IsRunning, Stands, abandon_text, step_text};
 ghost use Rattle.cube_shell.specs.Told.{FinishTells};
 ghost use Rattle.cube_shell.specs.World.{Warehouse, World, idle};
 
 use crate::answered::{Answered, plain};
 use crate::blocks::{Read, read_block};
-use crate::loading::{refuse, take_in};
+use crate::committing::{acknowledge, commit};
+use crate::loading::refuse;
 use crate::state::State;
 use crate::stop::Stop;
 use fact_model::FactList;
+use forest_refresh::Refresh;
 use forest_root::Store;
 use script_lang::Block;
 use site_core::Site;
@@ -35,7 +39,8 @@ pub fn begin<T: Site>(
     ensures any_moment { IsTrue T.tells → (world : World) → Stands state (T.disk site.old) world
         → Between (T.disk site.old) (T.disk site.new) world (begin world block).0 }
     ensures damage { IfErr result IsNoDamage }
-    ensures unwritten { T.writes site.new ≡ T.writes site.old }
+    ensures unwritten { IsTrue T.tells → (world : World) → Stands state (T.disk site.old) world
+        → OnOk result (T.writes site.new ≤ T.writes site.old + begins world (begin world block).0) }
     ensures running { IfOk result (λ done. IsRunning done.state) }
     ensures fit { IsTrue T.tells → IfOk result (λ done. IsFit done.state (T.disk site.new)) }
     ensures told { IsTrue T.tells → (T.disk site.new).told ≡ (T.disk site.old).told }
@@ -47,9 +52,8 @@ pub fn begin<T: Site>(
         State::Stopped => Err(Stop::Memory),
         State::Empty => plain(alloc, State::Empty, "refused no schema"),
         State::Idle(store) => begin_block(alloc, store, block, site),
-        State::Pending(store, batch) => {
-            plain(alloc, State::Pending(store, batch), "refused pending")
-        }
+        State::Hollow(store) => plain(alloc, State::Hollow(store), "refused pending"),
+        State::Pending(refresh) => plain(alloc, State::Pending(refresh), "refused pending"),
     }
 }
 
@@ -60,6 +64,7 @@ fn begin_block<T: Site>(
     block: Block,
     site: &mut T,
 ) -> Result<Answered, Stop>
+    requires whole { IsWhole store }
     requires fit { IsTrue T.tells → IsOpened store.forest.body (T.disk site.old) }
 
     ensures answer { IsTrue T.tells → (warehouse : Warehouse) → Belongs store (T.disk site.old) warehouse
@@ -67,7 +72,8 @@ fn begin_block<T: Site>(
     ensures any_moment { IsTrue T.tells → (warehouse : Warehouse) → Belongs store (T.disk site.old) warehouse
         → Between (T.disk site.old) (T.disk site.new) (idle warehouse) (begin (idle warehouse) block).0 }
     ensures damage { IfErr result IsNoDamage }
-    ensures unwritten { T.writes site.new ≡ T.writes site.old }
+    ensures unwritten { IsTrue T.tells → (warehouse : Warehouse) → Belongs store (T.disk site.old) warehouse
+        → OnOk result (T.writes site.new ≤ T.writes site.old + begins (idle warehouse) (begin (idle warehouse) block).0) }
     ensures running { IfOk result (λ done. IsRunning done.state) }
     ensures fit { IsTrue T.tells → IfOk result (λ done. IsFit done.state (T.disk site.new)) }
     ensures told { IsTrue T.tells → (T.disk site.new).told ≡ (T.disk site.old).told }
@@ -84,33 +90,37 @@ fn begin_block<T: Site>(
     }
 }
 
-/// Makes a batch pending, or refuses it by the first limit that it would pass.
+/// Makes a batch pending, or refuses it by the first limit that it would pass. An empty batch is pending without a call on a file.
 fn begin_batch<T: Site>(
     alloc: Global,
     store: Store,
     batch: FactList,
-    _site: &mut T,
+    site: &mut T,
 ) -> Result<Answered, Stop>
     requires agree { All (Agrees store.forest.schema) batch }
-    requires fit { IsTrue T.tells → IsOpened store.forest.body (T.disk _site.old) }
+    requires whole { IsWhole store }
+    requires fit { IsTrue T.tells → IsOpened store.forest.body (T.disk site.old) }
 
-    ensures answer { IsTrue T.tells → (warehouse : Warehouse) → Belongs store (T.disk _site.old) warehouse
-        → IfOk result (IsAnswer (T.disk _site.new) (begun_or_refused (idle warehouse) warehouse batch)) }
-    ensures any_moment { IsTrue T.tells → (warehouse : Warehouse) → Belongs store (T.disk _site.old) warehouse
-        → Between (T.disk _site.old) (T.disk _site.new) (idle warehouse) (begun_or_refused (idle warehouse) warehouse batch).0 }
+    ensures answer { IsTrue T.tells → (warehouse : Warehouse) → Belongs store (T.disk site.old) warehouse
+        → IfOk result (IsAnswer (T.disk site.new) (begun_or_refused (idle warehouse) warehouse batch)) }
+    ensures any_moment { IsTrue T.tells → (warehouse : Warehouse) → Belongs store (T.disk site.old) warehouse
+        → Between (T.disk site.old) (T.disk site.new) (idle warehouse) (begun_or_refused (idle warehouse) warehouse batch).0 }
     ensures damage { IfErr result IsNoDamage }
-    ensures unwritten { T.writes _site.new ≡ T.writes _site.old }
+    ensures unwritten { IsTrue T.tells → (warehouse : Warehouse) → Belongs store (T.disk site.old) warehouse
+        → OnOk result (T.writes site.new ≤ T.writes site.old + begins (idle warehouse) (begun_or_refused (idle warehouse) warehouse batch).0) }
     ensures running { IfOk result (λ done. IsRunning done.state) }
-    ensures fit { IsTrue T.tells → IfOk result (λ done. IsFit done.state (T.disk _site.new)) }
-    ensures told { IsTrue T.tells → (T.disk _site.new).told ≡ (T.disk _site.old).told }
-    ensures cause { IfErr result (StopCause (T.disk_faults _site.old) (T.disk_faults _site.new) (T.told_faults _site.old) (T.told_faults _site.new)) }
-    ensures disk_faults { OnOk result (T.disk_faults _site.new ≡ T.disk_faults _site.old) }
-    ensures told_faults { T.told_faults _site.new ≡ T.told_faults _site.old }
+    ensures fit { IsTrue T.tells → IfOk result (λ done. IsFit done.state (T.disk site.new)) }
+    ensures told { IsTrue T.tells → (T.disk site.new).told ≡ (T.disk site.old).told }
+    ensures cause { IfErr result (StopCause (T.disk_faults site.old) (T.disk_faults site.new) (T.told_faults site.old) (T.told_faults site.new)) }
+    ensures disk_faults { OnOk result (T.disk_faults site.new ≡ T.disk_faults site.old) }
+    ensures told_faults { T.told_faults site.new ≡ T.told_faults site.old }
 {
-    let mut store = store;
-    match forest_store::refusal(&mut store, &batch)? {
-        Some(refusal) => refuse(alloc, store, refusal),
-        None => plain(alloc, State::Pending(store, batch), "begun"),
+    if batch.as_slice().is_empty() {
+        return plain(alloc, State::Hollow(store), "begun");
+    }
+    match Refresh::begin(alloc, site, store, batch) {
+        Ok(refresh) => plain(alloc, State::Pending(refresh), "begun"),
+        Err(fault) => refuse(alloc, fault),
     }
 }
 
@@ -126,7 +136,8 @@ pub fn step(alloc: Global, state: State) -> Result<Answered, Stop>
         State::Stopped => Err(Stop::Memory),
         State::Empty => plain(alloc, State::Empty, "refused nothing pending"),
         State::Idle(store) => plain(alloc, State::Idle(store), "refused nothing pending"),
-        State::Pending(store, batch) => plain(alloc, State::Pending(store, batch), "stepped"),
+        State::Hollow(store) => plain(alloc, State::Hollow(store), "stepped"),
+        State::Pending(refresh) => plain(alloc, State::Pending(refresh), "stepped"),
     }
 }
 
@@ -156,22 +167,28 @@ pub fn finish<T: Site>(alloc: Global, state: State, site: &mut T) -> Result<Answ
         State::Stopped => Err(Stop::Memory),
         State::Empty => plain(alloc, State::Empty, "refused nothing pending"),
         State::Idle(store) => plain(alloc, State::Idle(store), "refused nothing pending"),
-        State::Pending(store, batch) => take_in(alloc, store, &batch, site),
+        State::Hollow(store) => acknowledge(alloc, store),
+        State::Pending(refresh) => commit(alloc, refresh, site),
     }
 }
 
-/// Drops the pending batch.
-pub fn abandon(alloc: Global, state: State) -> Result<Answered, Stop>
+/// Drops the pending batch, without a call on a file.
+pub fn abandon<T: Site>(alloc: Global, state: State, _site: &T) -> Result<Answered, Stop>
     requires running { IsRunning state }
+    requires fit { IsTrue T.tells → IsFit state (T.disk _site.now) }
 
-    ensures state { IfOk result (λ done. done.state ≡ abandoned state) }
+    ensures stands { IsTrue T.tells → (world : World) → Stands state (T.disk _site.now) world
+        → IfOk result (λ done. Stands done.state (T.disk _site.now) (abandon world).0) }
     ensures reply { IfOk result (λ done. done.reply.items ≡ abandon_text state) }
+    ensures running { IfOk result (λ done. IsRunning done.state) }
+    ensures fit { IsTrue T.tells → IfOk result (λ done. IsFit done.state (T.disk _site.now)) }
     ensures memory { IfErr result (λ stop. stop ≡ Stop.Memory) }
 {
     match state {
         State::Stopped => Err(Stop::Memory),
         State::Empty => plain(alloc, State::Empty, "refused nothing pending"),
         State::Idle(store) => plain(alloc, State::Idle(store), "refused nothing pending"),
-        State::Pending(store, _) => plain(alloc, State::Idle(store), "abandoned"),
+        State::Hollow(store) => plain(alloc, State::Idle(store), "abandoned"),
+        State::Pending(refresh) => plain(alloc, State::Idle(refresh.abandon()), "abandoned"),
     }
 }

@@ -2,10 +2,10 @@
 ghost use Rattle.std.specs.Prelude.{◌≡◌, ◌≤◌, ◌+◌, ◌++◌, ◌↔◌, ℕ, List, IsTrue, IsErrOf, OnOk, OnErr, IfOk, IfErr};
 ghost use Rattle.site_core.specs.Calls.{Rests};
 ghost use Rattle.site_core.specs.Moments.{LeavesOnly};
-ghost use Rattle.forest_store.specs.Breaks.{BreaksAt};
-ghost use Rattle.forest_store.specs.Opening.{Place};
+ghost use Rattle.forest_open.specs.Breaks.{BreaksAt};
+ghost use Rattle.forest_open.specs.Opening.{Place};
 ghost use Rattle.script_lang.specs.declared.command.Command.TheVariants as says;
-ghost use Rattle.cube_shell.specs.Costs.{Costs, open_cost};
+ghost use Rattle.cube_shell.specs.Costs.{Costs, begins, open_cost};
 ghost use Rattle.cube_shell.specs.Damage.{StopsAt, TellsBreak};
 ghost use Rattle.cube_shell.specs.Ends.{IsNoDamage, StopCause};
 ghost use Rattle.cube_shell.specs.Headline.{Meanwhile};
@@ -62,7 +62,7 @@ impl Session {
         ensures writes { T.writes site.new ≡ T.writes site.old }
     {
         let pages = Pages::new(alloc, KEPT_PAGES)?;
-        match forest_store::open(alloc, site) {
+        match forest_open::open_store(alloc, site) {
             Ok(Some(store)) => Ok(Session {
                 alloc,
                 pages,
@@ -102,9 +102,10 @@ impl Session {
 
         // Whatever the files hold.
         ensures damage { IsTrue T.tells → IfErr result (TellsDamage self.old.state (T.disk site.old).files command) }
-        // Where no fact is accepted and no schema declared, nothing is written.
+        // Where no fact is accepted and no schema declared, nothing is written, but for one write where a batch that is not empty begins.
         ensures unwritten { IsTrue T.tells → (world : World) → Stands self.old.state (T.disk site.old) world
-            → (act world command).0.kept ≡ world.kept → OnOk result (T.writes site.new ≡ T.writes site.old) }
+            → (act world command).0.kept ≡ world.kept
+            → OnOk result (T.writes site.new ≤ T.writes site.old + begins world (act world command).0) }
         ensures stopped { OnErr result (self.new.state ≡ State.Stopped) }
         ensures running { OnOk result (IsRunning self.new.state) }
         ensures fit { IsTrue T.tells → OnOk result (IsFit self.new.state (T.disk site.new)) }

@@ -66,10 +66,17 @@ pub fn slice<T: Site>(
                 reply,
             })
         }
-        State::Pending(store, batch) => {
+        State::Hollow(store) => {
             let reply = reply_to(alloc, pages, &store, text, site)?;
             Ok(Answered {
-                state: State::Pending(store, batch),
+                state: State::Hollow(store),
+                reply,
+            })
+        }
+        State::Pending(refresh) => {
+            let reply = reply_to(alloc, pages, refresh.store(), text, site)?;
+            Ok(Answered {
+                state: State::Pending(refresh),
                 reply,
             })
         }

@@ -1,6 +1,6 @@
 //! What a session has between two commands.
 
-use fact_model::FactList;
+use forest_refresh::Refresh;
 use forest_root::Store;
 
 /// What a session has.
@@ -12,6 +12,8 @@ pub enum State {
     Empty,
     /// The files are opened, and keep this warehouse.
     Idle(Store),
-    /// The same, and this batch is pending.
-    Pending(Store, FactList),
+    /// The same, and an empty batch is pending.
+    Hollow(Store),
+    /// The files keep the warehouse without the batch of this refresh, which is pending.
+    Pending(Refresh),
 }

@@ -1,7 +1,8 @@
 //! Why a session stops.
 
 use fact_model::Memory;
-use forest_store::StoreStop;
+use forest_open::{InitStop, OpenStop};
+use forest_refresh::RefreshStop;
 
 /// Why a session stopped.
 #[derive(Clone, Copy, Debug, PartialEq, Eq)]
@@ -32,17 +33,45 @@ impl From<Memory> for Stop {
     }
 }
 
-impl From<StoreStop> for Stop {
+impl From<OpenStop> for Stop {
     ghost use Rattle.std.specs.Prelude.{◌≡◌};
-    ghost use Rattle.cube_shell.specs.Ends.{stop_of};
+    ghost use Rattle.cube_shell.specs.Ends.{open_stop};
 
-    ghost from_gives = { λ stop answer. answer ≡ stop_of stop };
+    ghost from_gives = { λ stop answer. answer ≡ open_stop stop };
 
-    fn from(stop: StoreStop) -> Stop {
+    fn from(stop: OpenStop) -> Stop {
         match stop {
-            StoreStop::Disk => Stop::Disk,
-            StoreStop::Damaged { file, offset } => Stop::Damaged { file, offset },
-            StoreStop::Memory => Stop::Memory,
+            OpenStop::Disk => Stop::Disk,
+            OpenStop::Damaged { file, offset } => Stop::Damaged { file, offset },
+            OpenStop::Memory => Stop::Memory,
+        }
+    }
+}
+
+impl From<InitStop> for Stop {
+    ghost use Rattle.std.specs.Prelude.{◌≡◌};
+    ghost use Rattle.cube_shell.specs.Ends.{init_stop};
+
+    ghost from_gives = { λ stop answer. answer ≡ init_stop stop };
+
+    fn from(stop: InitStop) -> Stop {
+        match stop {
+            InitStop::Disk => Stop::Disk,
+            InitStop::Memory => Stop::Memory,
+        }
+    }
+}
+
+impl From<RefreshStop> for Stop {
+    ghost use Rattle.std.specs.Prelude.{◌≡◌};
+    ghost use Rattle.cube_shell.specs.Ends.{refresh_stop};
+
+    ghost from_gives = { λ stop answer. answer ≡ refresh_stop stop };
+
+    fn from(stop: RefreshStop) -> Stop {
+        match stop {
+            RefreshStop::Disk => Stop::Disk,
+            RefreshStop::Damaged { file, offset } => Stop::Damaged { file, offset },
         }
     }
 }

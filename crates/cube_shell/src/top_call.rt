@@ -2,8 +2,8 @@
 ghost use Rattle.std.specs.Prelude.{◌≡◌, ◌≢◌, ◌≤◌, ◌+◌, ◌^◌, ◌↔◌, [], IsTrue, OnOk, IfErr, IsErrOf, length};
 ghost use Rattle.site_core.specs.Causes.{Rose};
 ghost use Rattle.site_core.specs.Moments.{LeavesOnly};
-ghost use Rattle.forest_store.specs.Breaks.{BreaksAt};
-ghost use Rattle.forest_store.specs.Opening.{Place};
+ghost use Rattle.forest_open.specs.Breaks.{BreaksAt};
+ghost use Rattle.forest_open.specs.Opening.{Place};
 ghost use Rattle.script_lang.specs.Script.{commands};
 ghost use Rattle.cube_shell.specs.Damage.{EndsAt, EndsForBreak};
 ghost use Rattle.cube_shell.specs.Ends.{EndCause, StatusCause, Stayed, IsDoneOrMemory, IsUndamaged, faults};

@@ -152,6 +152,25 @@ fn behind_a_schema_a_script_tells_this(rt: HostRuntime) -> Result<(), Fail> {
             "load\n-1,0\nend\nload\n1,1.5\nend\n",
             "refused row 1 number 1\nrefused row 1 number 2\n",
         ),
+        ("generate 1 5\nstatus\n", "refused unknown\nfacts 0\n"),
+        (
+            "load\r\n3,5\r\n\r\n1,-2\r\nend\r\nslice sum(m) by a\r\n",
+            "committed 2\n1,-2\n3,5\nrows 2\n",
+        ),
+        ("slice sum(m) by a\r\r\n", "refused syntax 12\n"),
+        (
+            "load\n1,1\nend\nload\n1,1\n",
+            "committed 1\nrefused open block\n",
+        ),
+    ] {
+        tells_behind(&rt, rt.alloc(), SCHEMA, script, told)?;
+    }
+    Ok(())
+}
+
+#[test]
+fn a_batch_that_begins_is_pending_to_its_end(rt: HostRuntime) -> Result<(), Fail> {
+    for (script, told) in [
         (
             "begin\n1,1\nend\nstep 1\nstatus\n",
             "begun\nstepped\nfacts 0 pending 1\n",
@@ -164,19 +183,22 @@ fn behind_a_schema_a_script_tells_this(rt: HostRuntime) -> Result<(), Fail> {
             "begin\n1,1\nend\nabandon\nfinish\nstatus\n",
             "begun\nabandoned\nrefused nothing pending\nfacts 0\n",
         ),
+        // So is a batch of no facts.
+        (
+            "begin\nend\nstatus\nfinish\nstatus\n",
+            "begun\nfacts 0 pending 0\ncommitted 0\nfacts 0\n",
+        ),
+        (
+            "begin\nend\nload\n1,1\nend\nbegin\nend\n",
+            "begun\nrefused pending\nrefused pending\n",
+        ),
+        (
+            "begin\nend\nabandon\nabandon\n",
+            "begun\nabandoned\nrefused nothing pending\n",
+        ),
         (
             "finish\nabandon\n",
             "refused nothing pending\nrefused nothing pending\n",
-        ),
-        ("generate 1 5\nstatus\n", "refused unknown\nfacts 0\n"),
-        (
-            "load\r\n3,5\r\n\r\n1,-2\r\nend\r\nslice sum(m) by a\r\n",
-            "committed 2\n1,-2\n3,5\nrows 2\n",
-        ),
-        ("slice sum(m) by a\r\r\n", "refused syntax 12\n"),
-        (
-            "load\n1,1\nend\nload\n1,1\n",
-            "committed 1\nrefused open block\n",
         ),
     ] {
         tells_behind(&rt, rt.alloc(), SCHEMA, script, told)?;

@@ -6,5 +6,5 @@ mod merge;
 mod trees;
 
 pub use batch::view_deltas;
-pub use merge::{MergeStop, merge_points};
+pub use merge::{DoesNotJoin, merge_points};
 pub use trees::{DeltaList, deltas};

@@ -8,14 +8,14 @@ use std::process::Abort;
 use std::test::Fail;
 
 /// The schema of state A.
-const SCHEMA_A: &str =
+pub const SCHEMA_A: &str =
     "attr part text\nattr year number\nmeasure qty\nview part,year\nview year\nview\n";
 
 /// The load of state A.
 const BATCH_A: &str = "load\nbolt,1997,5\nnut,1997,-2\nbolt,1998,4\nend\n";
 
 /// State A: its schema and its load over empty files.
-fn state_a(rt: &impl Abort, alloc: Global) -> Result<MemorySite, Fail> {
+pub fn state_a(rt: &impl Abort, alloc: Global) -> Result<MemorySite, Fail> {
     tells_behind(rt, alloc, SCHEMA_A, BATCH_A, "committed 3\n")
 }
 

@@ -7,3 +7,5 @@ mod bytes;
 mod forest;
 #[cfg(test)]
 mod ran;
+#[cfg(test)]
+mod refreshes;

@@ -28,33 +28,6 @@ module _ (held next : Held) (slot : ℕ) (live : Body) (commit : Commit) (spare 
   kept : (files : Files) → LiveAt held slot live files → KeepsEither held next files
   kept files is = inl (slot, live, is)
 
-  -- the whole: the gate is shut, pages are written, and then the end
-  module _ (only_now : OnlyNow d0) (d1 : Disk) (n1 : Changes (ClosesGate spare) d0 d1) where
-    live_begun : IsLiveNow held slot live d1
-    live_begun = live_shut held slot spare live low apart d0 d1 ready.now n1
-
-    pub whole1 : EachMoment d0 d1 (KeepsEither held next)
-    whole1 = moments_wider (LiveAt held slot live) (KeepsEither held next) d0 d1 kept (shut_moments held slot spare live low apart d0 d1 ready.now n1 only_now)
-
-    module _ (from : ℕ) (d2 : Disk) (n2 : Changes (DiffersPast (2 + spare) from) d1 d2) where
-      pub ready2 : IsRefresh held next slot live commit d2
-      ready2 = refresh_on held next slot live commit d0 d2 ready (live_paged held slot spare live low apart d1 d2 live_begun from n2)
-
-      pub whole2 : EachMoment d0 d2 (KeepsEither held next)
-      whole2 = goes_on d0 d1 d2 (λ told files. (told ≡ d0.told) × KeepsEither held next files) whole1 n2.time (λ told files tells left. (
-        tells ∙ n1.told,
-        kept files (pages_keep held slot spare live low apart left.0 files (live_begun.left left.0 left.1) from left.2),
-      ))
-
-      pub whole3 : (d3 : Disk) → EachMoment d2 d3 (KeepsEither held next) → EachMoment d0 d3 (KeepsEither held next)
-      whole3 d3 run = moments_then (KeepsEither held next) d0 d2 d3 whole2 (n2.told ∙ n1.told) run
-
-  -- all pages stand on the side
-  pub all_pages : (pages : List ℕ) (files : Files) → next.forest ≡ pages → take (page_size * 0 + length pages) (files (2 + spare)) ≡ pages → HasForest next (slot_of commit.body.now) files
-  all_pages pages files forest written =
-      let long : length next.forest ≡ page_size * 0 + length pages = omega (arith, ap length forest) in
-      subst (λ k. HasForest next k files) is (ap (λ n. take n (files (2 + spare))) long ∙ written ∙ sym forest)
-
   -- the end: entries, body, gate
   module _ (only_now : OnlyNow d0) (d1 : Disk) (n1 : Changes (DiffersPast 1 commit.names_at) d0 d1) where
     step1 : (x y : Files) → LiveAt held slot live x → DiffersPast 1 commit.names_at x y → LiveAt held slot live y

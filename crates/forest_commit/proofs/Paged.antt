@@ -8,7 +8,7 @@ use Rattle.site_core.proofs.Files.{with_file-same}
 use Rattle.site_core.proofs.Run.{Changes-then, Changes-wider}
 use Rattle.forest_commit.specs.Commit.{DiffersPast, page_size}
 
-DiffersPast-then : (file from : ℕ) (x y z : Files) → DiffersPast file from x y → DiffersPast file from y z → DiffersPast file from x z
+pub DiffersPast-then : (file from : ℕ) (x y z : Files) → DiffersPast file from x y → DiffersPast file from y z → DiffersPast file from x z
 DiffersPast-then file from x y z first second = record {
   others = λ g other. second.others g other ∙ first.others g other;
   no_shorter = omega (arith, first.no_shorter, second.no_shorter);

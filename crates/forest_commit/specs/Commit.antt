@@ -12,7 +12,7 @@ page_size = 4096
 
 -- the most pages that may stand in front of those that one call writes
 abbrev pub max_pages : ℕ
-max_pages = 2 ^ 44
+max_pages = 2 ^ 50
 
 -- whole pages
 abbrev pub IsPages : List ℕ → Type 0

@@ -4,13 +4,13 @@
 //! lemma for each kind of write, which say what such a write leaves of what files keep.
 #![tactic(auto)]
 
+mod beginning;
 mod ending;
 mod names;
 mod pages;
-mod refresh;
 mod schema;
 
+pub use beginning::begin;
 pub use ending::{Commit, finish, slot};
 pub use pages::write_pages;
-pub use refresh::{begin, commit};
 pub use schema::declare;

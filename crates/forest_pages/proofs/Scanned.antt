@@ -1,5 +1,5 @@
 -- A tree that stands in a file is read as its points.
-use Rattle.std.proofs.Common.{◌≡◌, ◌≤◌, ◌<◌, ◌+◌, ◌-◌, ◌*◌, ◌^◌, ℕ, zero, suc, Result, Ok, Err, IfOk, IfErr, List, [], ◌∷◌, ◌++◌, length, map, flat_map, take, drop, get_or, replicate, sum_by, refl, sym, ap, ◌∙◌, subst, arith, length-append}
+use Rattle.std.proofs.Common.{◌≡◌, ◌≤◌, ◌<◌, ◌+◌, ◌-◌, ◌*◌, ◌^◌, ℕ, zero, suc, Result, Ok, Err, IfErr, OnOk, List, [], ◌∷◌, ◌++◌, length, map, flat_map, take, drop, get_or, replicate, sum_by, refl, sym, ap, ◌∙◌, subst, arith, length-append}
 use Rattle.std.specs.Prelude.{nat_lt, nat_le, slice_index}
 use Rattle.std.proofs.Math.Seq.{drop-cons, drop-append_seam, take-append_seam}
 use Rattle.std.proofs.lemmas.Bool.{and_parts, leb-true}
@@ -171,15 +171,14 @@ module _ (schema : Schema) (lawful : IsSchema schema) (facts : List Fact) (stora
         (found.0, found.1 ∙ entries)
 
     -- so its points are read, and no page is damaged
-    pub tree-scanned : (bytes : List ℕ) → take (length (forest schema facts)) bytes ≡ forest schema facts → (result : Result (List Entry) ScanStop)
-        → IsScanned (shape_of schema (tree schema lawful t)) bytes (first t) (pages_of schema counts (tree schema lawful t)) result
-        → IfOk result (λ es. es ≡ tree_entries schema facts (tree schema lawful t)) × IfErr result (λ stop. (page : ℕ) → stop ≡ stops.Damaged page → ⊥)
-    tree-scanned bytes stands result is =
-        by result (subst (λ n. IsScanned (shape_of schema (tree schema lawful t)) bytes (first t) n result) (sym count) is)
+    pub tree-scanned : (bytes : List ℕ) → take (length (forest schema facts)) bytes ≡ forest schema facts → (es : List Entry) (result : Result (Unit {0}) ScanStop)
+        → IsScanned (shape_of schema (tree schema lawful t)) bytes (first t) (pages_of schema counts (tree schema lawful t)) es result
+        → OnOk result (es ≡ tree_entries schema facts (tree schema lawful t)) × IfErr result (λ stop. (page : ℕ) → stop ≡ stops.Damaged page → ⊥)
+    tree-scanned bytes stands es result is =
+        by result (subst (λ n. IsScanned (shape_of schema (tree schema lawful t)) bytes (first t) n es result) (sym count) is)
       where
-        by : (result : Result (List Entry) ScanStop) → IsScanned (shape_of schema (tree schema lawful t)) bytes (first t) (length (map content_of pages)) result
-            → IfOk result (λ es. es ≡ tree_entries schema facts (tree schema lawful t)) × IfErr result (λ stop. (page : ℕ) → stop ≡ stops.Damaged page → ⊥)
-        by (Ok es) is = (is.1 ∙ (scanned bytes stands).1, tt)
+        by : (result : Result (Unit {0}) ScanStop) → IsScanned (shape_of schema (tree schema lawful t)) bytes (first t) (length (map content_of pages)) es result
+            → OnOk result (es ≡ tree_entries schema facts (tree schema lawful t)) × IfErr result (λ stop. (page : ℕ) → stop ≡ stops.Damaged page → ⊥)
+        by (Ok done) is = (is.1 ∙ (scanned bytes stands).1, tt)
         by (Err (stops.Damaged page)) is = absurd (is.bad ((scanned bytes stands).0 page is.from is.within))
         by (Err stops.Disk) is = (tt, λ page e. cc)
-        by (Err stops.Memory) is = (tt, λ page e. cc)

@@ -7,7 +7,7 @@ ghost use Rattle.attr_dict.specs.Book.{no_names};
 ghost use Rattle.forest_root.specs.Body.{IsBody};
 
 use crate::body::Body;
-use attr_dict::Dicts;
+use attr_dict::{Dicts, Lengths};
 use cube_schema::Schema;
 use select_map::Mapping;
 
@@ -31,8 +31,10 @@ pub struct Forest {
 pub struct Store {
     /// The generation.
     pub forest: Forest,
-    /// The names of the text attributes.
+    /// The names of the text attributes. Those of a batch that is pending stand behind those of the accepted facts.
     pub dicts: Dicts,
+    /// How many names of each attribute are those of the accepted facts, which slices know alone.
+    pub shown: Lengths,
     ghost text: { forest.body.schema_len ≡ length (canonical forest.schema) },
     ghost kinds: { dicts.kinds ≡ (no_names forest.schema).kinds },
 }

@@ -18,11 +18,7 @@ use Rattle.forest_root.specs.Forest.{pages_of, pages_of_all, place_of, shape_of}
 use Rattle.forest_root.proofs.Trees.{trees-few}
 use Rattle.forest_pages.proofs.Bounds.{pages-within, place-within}
 use Rattle.forest_pages.proofs.Selected.{tree-shape}
-use Rattle.forest_store.specs.declared.stop.StoreStop.{StoreStop}
-use Rattle.forest_store.specs.declared.stop.StoreStop.TheVariants as stops
-use Rattle.forest_store.specs.Next.{NamesPageIn}
-use Rattle.forest_store.specs.Opening.{page_total}
-use Rattle.forest_store.specs.Trees.{NamesPageOf}
+use Rattle.forest_store.specs.Sides.{page_total}
 use Rattle.forest_store.proofs.Schemas.{few_views}
 
 pub nine-in : (views : List View) (t : ℕ) → t < length (selected views).trees → length (tree_of (selected views) t).view_of ≡ 9
@@ -94,10 +90,3 @@ module _ (forest : Forest) where
     pub part-total : pages_of_all forest.schema forest.body.counts (take t forest.mapping.trees) + (place_of forest t).pages ≤ page_total forest.body forest.schema
     unfolding place_of
     part-total = place-total
-
-    -- a page of a tree is one of the side
-    pub page-in : (stop : StoreStop) → NamesPageOf (place_of forest t) stop → NamesPageIn forest.body forest.schema stop
-    unfolding place_of
-    page-in stops.Disk names = tt
-    page-in (stops.Damaged file offset) names = (names.0, omega (arith, names.2, place-total), names.3, names.4)
-    page-in stops.Memory names = tt

@@ -134,8 +134,9 @@ fn no_facts_have_no_points(rt: HostRuntime) -> Result<(), Fail> {
     let alloc = rt.alloc();
     let points = view_deltas(alloc, &[0, 1], 1, &ListOf::new(alloc), &ListOf::new(alloc))?;
     assert_eq!(rt; points.as_slice().len(), 0);
-    let merged = merge_points(alloc, points.as_slice(), &[])?;
-    assert_eq!(rt; merged.as_slice().len(), 0);
+    let mut merged = Vec::new(alloc);
+    assert_eq!(rt; merge_points(points.as_slice(), &[], &mut merged), Ok(()));
+    assert_eq!(rt; merged.len(), 0);
     Ok(())
 }
 
@@ -166,7 +167,8 @@ fn the_points_of_a_refresh(rt: HostRuntime) -> Result<(), Fail> {
         of_part_and_year(1, 2000, 1, [1, 1, 1]),
         of_part_and_year(2, 2000, 1, [1, 1, 1]),
     ];
-    let merged = merge_points(rt.alloc(), &old, &delta)?;
+    let mut merged = Vec::with_capacity(rt.alloc(), 10)?;
+    assert_eq!(rt; merge_points(&old, &delta, &mut merged), Ok(()));
     assert_eq!(rt; merged.as_slice(), wanted.as_slice());
     Ok(())
 }

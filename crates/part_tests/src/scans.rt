@@ -1,13 +1,16 @@
 //! The points of a tree read from its pages, and the first page that is damaged. The bytes of the pages were worked out by hand.
-ghost use Rattle.std.specs.Prelude.{◌≤◌};
+ghost use Rattle.std.specs.Prelude.{◌≤◌, vec_capacity};
 
-use cube_point::{Entry, EntryList, Point, Shape};
+use cube_point::{Entry, Point, Shape};
 use fact_model::{Cell, Part, Text};
 use page_fmt::Place;
 use site_mem::{Call, MemorySite};
 use std::alloc::Global;
 use std::test::Fail;
-use tree_scan::{ScanStop, read_tree};
+use tree_scan::{PAGE_POINTS, ScanStop, read_tree};
+
+/// How many points three pages may hold.
+const ROOM: usize = 3 * PAGE_POINTS as usize;
 
 /// Bytes at places of a page; all others are zero.
 type Page<'a> = &'a [(usize, u8)];
@@ -96,9 +99,11 @@ fn site_of(alloc: Global, pages: &[Page<'_>], length: usize) -> Result<MemorySit
     Ok(MemorySite::from_files(alloc, files)?)
 }
 
-/// What is read of so many pages behind the first one.
-fn read(alloc: Global, site: &mut MemorySite, pages: u64) -> Result<EntryList, ScanStop>
-    requires { pages ≤ 3 }
+/// The points of so many pages behind the first one are read into a list that has room for them.
+fn read(site: &mut MemorySite, pages: u64, into: &mut Vec<Entry>) -> Result<(), ScanStop>
+    requires few { pages ≤ 3 }
+    requires room { 219 ≤ vec_capacity into.old }
+    ensures { vec_capacity into.old ≤ vec_capacity into.new }
 {
     let place = Place {
         file: 2,
@@ -109,7 +114,7 @@ fn read(alloc: Global, site: &mut MemorySite, pages: u64) -> Result<EntryList, S
             measures: 1,
         },
     };
-    read_tree(alloc, site, &place)
+    read_tree(site, &place, into)
 }
 
 #[test]
@@ -121,10 +126,9 @@ fn all_points_of_a_tree_are_read(rt: HostRuntime) -> Result<(), Fail> {
         entry(1, [7, 0], 1, [9, 9, 9]),
         entry(2, [1, 2], 1, [6, 6, 6]),
     ];
-    match read(alloc, &mut site, 3) {
-        Ok(points) => assert_eq!(rt; points.as_slice(), wanted.as_slice()),
-        Err(stop) => assert_eq!(rt; Some(stop), None),
-    }
+    let mut points = Vec::with_capacity(alloc, ROOM)?;
+    assert_eq!(rt; read(&mut site, 3, &mut points), Ok(()));
+    assert_eq!(rt; points.as_slice(), wanted.as_slice());
     let page = |at| Call::Read {
         file: 2,
         at,
@@ -134,10 +138,9 @@ fn all_points_of_a_tree_are_read(rt: HostRuntime) -> Result<(), Fail> {
         site.calls(),
         [page(4096), page(8192), page(12288)].as_slice()
     );
-    match read(alloc, &mut site, 0) {
-        Ok(points) => assert_eq!(rt; points.as_slice().len(), 0, "of no pages"),
-        Err(stop) => assert_eq!(rt; Some(stop), None, "of no pages"),
-    }
+    // What stood in the list is dropped.
+    assert_eq!(rt; read(&mut site, 0, &mut points), Ok(()), "of no pages");
+    assert_eq!(rt; points.len(), 0, "of no pages");
     assert_eq!(rt; site.calls().len(), 3, "of no pages");
     Ok(())
 }
@@ -190,7 +193,8 @@ fn the_first_damaged_page_is_named(rt: HostRuntime) -> Result<(), Fail> {
     let alloc = rt.alloc();
     for (case, pages, length, page) in DAMAGED {
         let mut site = site_of(alloc, &pages, length)?;
-        let found = read(alloc, &mut site, 3);
+        let mut points = Vec::with_capacity(alloc, ROOM)?;
+        let found = read(&mut site, 3, &mut points);
         assert_eq!(rt; found, Err(ScanStop::Damaged { page }), "at {case}");
         assert_eq!(rt; site.file(2).len(), length, "at {case}");
     }
@@ -203,7 +207,8 @@ fn a_fault_is_no_damage(rt: HostRuntime) -> Result<(), Fail> {
     for call in 0..3 {
         let mut site = site_of(alloc, &[FIRST_LEAF, SECOND_LEAF, TOP], 16384)?;
         site.fail_at(call)?;
-        let found = read(alloc, &mut site, 3);
+        let mut points = Vec::with_capacity(alloc, ROOM)?;
+        let found = read(&mut site, 3, &mut points);
         assert_eq!(rt; found, Err(ScanStop::Disk), "at call {call}");
         assert_eq!(rt; site.calls().len() as u64, call + 1, "at call {call}");
     }

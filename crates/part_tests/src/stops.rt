@@ -6,7 +6,7 @@ ghost use Rattle.site_mem.specs.Site.{site_disk};
 ghost use Rattle.forest_root.specs.Keeps.{KeepsNothing};
 ghost use Rattle.forest_commit.specs.Commit.{IsPages};
 
-use forest_commit::{Commit, commit, declare};
+use forest_commit::{Commit, begin, declare, finish, slot, write_pages};
 use forest_root::{Body, live};
 use site_core::Fault;
 use site_mem::MemorySite;
@@ -62,7 +62,7 @@ fn write_all(rt: &impl Abort, site: &mut MemorySite) -> Result<(), Fault>
     refresh(rt, site, 2, 8)
 }
 
-/// Commits a generation, with the names from this place on.
+/// Begins a refresh to a generation, writes its pages, and commits it with the names from this place on.
 fn refresh(
     rt: &impl Abort,
     site: &mut MemorySite,
@@ -80,7 +80,10 @@ fn refresh(
         entries: &NAMES[names_at..],
         body: &body,
     };
-    commit(site, pages_of(generation), &written)
+    let slot = slot(&body);
+    begin(site, slot)?;
+    write_pages(site, slot, 0, pages_of(generation))?;
+    finish(site, &written)
 }
 
 /// Whether opening finds this generation, with its names and pages, or no schema.

@@ -20,9 +20,10 @@ use Rattle.view_points.specs.Codes.{names_of}
 use Rattle.view_points.specs.Entries.{entry_of}
 use Rattle.view_points.specs.Points.{Names, PlacedCell, View, points_by}
 use Rattle.view_points.proofs.Members.{every-from_All, every-map, filter-same}
-use Rattle.attr_dict.specs.Book.{HoldsNamesOf, names_at}
+use Rattle.attr_dict.specs.Book.{shown_names}
 use Rattle.page_fmt.specs.Lawful.{IsNarrow}
 use Rattle.page_fmt.specs.Writing.{FitsLeaf}
+use Rattle.leaf_points.specs.Storable.{AreStorable}
 use Rattle.leaf_points.proofs.Leaves.{entries-fit}
 use Rattle.forest_root.specs.declared.forest.Store.{Store}
 use Rattle.forest_pages.specs.Forest.{tree_entries, view_entries}
@@ -32,8 +33,12 @@ use Rattle.forest_store.proofs.Storable.{storable}
 use Rattle.forest_store.proofs.ViewReads.{points-view}
 use Rattle.range_scan.specs.Meeting.{is_inside}
 use Rattle.range_scan.proofs.Tests.{inside-from, inside-told}
+use Rattle.slice_lang.specs.Agreeing.{SliceAgrees}
+use Rattle.view_route.specs.Routes.{IsCovering}
 use Rattle.view_rows.specs.Grouped.{points_inside}
 use Rattle.view_rows.specs.Regions.{IsPlaced, region_from}
+use Rattle.slice_exec.proofs.Agreed.{answers}
+use Rattle.slice_exec.proofs.ShownNames.{shown-inside}
 
 -- ---- lists
 
@@ -78,38 +83,47 @@ module _ (store : Store) (view : ℕ) (slice : Slice) where
   abbrev attrs : View
   attrs = get_or schema.views view []
 
+  -- the names that slices know
+  abbrev shown : Names
+  shown = shown_names store.dicts store.shown.at
+
   abbrev intervals : List Interval
-  intervals = region (names_at store.dicts) slice.conds attrs
+  intervals = region shown slice.conds attrs
 
   abbrev where_found : Region
   where_found = region_from (length attrs) intervals
 
   -- the region as it was made
   module _ (made : Region) (attributes : View) (conds : List Cond) (attributes-are : attributes ≡ attrs) (conds-are : conds ≡ slice.conds)
-      (made-is : made ≡ region_from (length attributes) (region (names_at store.dicts) conds attributes)) where
+      (made-is : made ≡ region_from (length attributes) (region shown conds attributes)) where
     pub region-is : made ≡ where_found
-    region-is = made-is ∙ (λ i. region_from (length (attributes-are i)) (region (names_at store.dicts) (conds-are i) (attributes-are i)))
+    region-is = made-is ∙ (λ i. region_from (length (attributes-are i)) (region shown (conds-are i) (attributes-are i)))
 
-    pub agree-is : ((p : Point) → IsPlaced p → IsInside p made ↔ IsTrue (inside (region (names_at store.dicts) conds attributes) p.at))
+    pub agree-is : ((p : Point) → IsPlaced p → IsInside p made ↔ IsTrue (inside (region shown conds attributes) p.at))
         → (p : Point) → IsPlaced p → IsInside p where_found ↔ IsTrue (inside intervals p.at)
     agree-is agree p is =
         subst (λ (r : Region). IsInside p r ↔ IsTrue (inside intervals p.at)) region-is
-        (subst (λ (cs : List Cond). IsInside p made ↔ IsTrue (inside (region (names_at store.dicts) cs attrs) p.at)) conds-are
-        (subst (λ (v : View). IsInside p made ↔ IsTrue (inside (region (names_at store.dicts) conds v) p.at)) attributes-are (agree p is)))
+        (subst (λ (cs : List Cond). IsInside p made ↔ IsTrue (inside (region shown cs attrs) p.at)) conds-are
+        (subst (λ (v : View). IsInside p made ↔ IsTrue (inside (region shown conds v) p.at)) attributes-are (agree p is)))
 
   -- ---- over facts
 
-  module _ (low : view < length store.forest.schema.views) (accepted : List Fact)
-      (fine : AreAccepted store.forest.schema accepted) (named : HoldsNamesOf store.dicts accepted) where
+  module _ (accepted : List Fact) (fine : AreAccepted schema accepted) (named : (a : ℕ) → shown a ≡ names_of accepted a) (agrees : SliceAgrees schema slice)
+      (covers : IsCovering schema.views slice view) where
+    abbrev low : view < length schema.views
+    low = covers.0
+
     abbrev shape : Shape
     shape = record { dims = length attrs; measures = measure_count schema }
 
-    same-names : names_at store.dicts ≡ names_of accepted
-    same-names = λ i a. named a i
+    same-names : names_of accepted ≡ shown
+    same-names = λ i a. sym (named a) i
+
+    stored : AreStorable (names_of accepted) (measure_count schema) accepted
+    stored = storable schema accepted store.forest.lawful fine
 
     fit : All (FitsLeaf shape) (view_entries schema accepted attrs)
-    fit = entries-fit shape (names_of accepted) attrs accepted (let short = view-short schema store.forest.lawful view low in omega (arith, short)) (few_measures schema store.forest.lawful)
-        (storable schema accepted store.forest.lawful fine)
+    fit = entries-fit shape (names_of accepted) attrs accepted (let short = view-short schema store.forest.lawful view low in omega (arith, short)) (few_measures schema store.forest.lawful) stored
 
     module _ (agree : (p : Point) → IsPlaced p → IsInside p where_found ↔ IsTrue (inside intervals p.at)) where
       same-test : (e : Entry) → FitsLeaf shape e → is_inside where_found e ≡ inside intervals e.point.at
@@ -130,4 +144,6 @@ module _ (store : Store) (view : ℕ) (slice : Slice) where
           ∙ (filter-same (is_inside where_found) (λ e. inside intervals e.point.at) (view_entries schema accepted attrs)
           (every-map (FitsLeaf shape) (λ e. is_inside where_found e ≡ inside intervals e.point.at) same-test (view_entries schema accepted attrs) (every-from_All (FitsLeaf shape) (view_entries schema accepted attrs) fit))
           ∙ (filter-map (λ (e : Entry). inside intervals e.point.at) entry_of (points_by (names_of accepted) (measure_count schema) attrs accepted)
-          ∙ ap (λ (names : Names). map entry_of (filter (λ (e : PlacedCell). inside intervals e.0) (points_by names (measure_count schema) attrs accepted))) (sym same-names)))))
+          ∙ (ap (λ (names : Names). map entry_of (filter (λ (e : PlacedCell). inside intervals e.0) (points_by names (measure_count schema) attrs accepted))) same-names
+          ∙ shown-inside store.dicts store.shown.at attrs slice accepted (answers store view slice accepted fine named agrees covers) (measure_count schema)
+          (subst (λ (names : Names). AreStorable names (measure_count schema) accepted) same-names stored))))))

@@ -2,4 +2,5 @@ pub mod Agreed
 pub mod Costs
 pub mod Found
 pub mod Holding
+pub mod ShownNames
 pub mod Told

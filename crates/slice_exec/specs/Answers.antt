@@ -9,7 +9,7 @@ use Rattle.cube_schema.specs.declared.schema.Schema.{Schema}
 use Rattle.select_map.specs.Views.{tree_number}
 use Rattle.view_points.specs.Answer.{region}
 use Rattle.view_points.specs.Points.{View}
-use Rattle.attr_dict.specs.Book.{names_at}
+use Rattle.attr_dict.specs.Book.{shown_names}
 use Rattle.page_fmt.specs.declared.page.Place.{Place}
 use Rattle.forest_root.specs.declared.body.Body.{Body}
 use Rattle.forest_root.specs.declared.forest.Store.{Store}
@@ -38,9 +38,9 @@ attrs_of store view = get_or store.forest.schema.views view []
 abbrev pub tree_of_view : Store → ℕ → Place
 tree_of_view store view = place_of store.forest (tree_number store.forest.schema.views view)
 
--- where its points meet the conditions of a slice
+-- where its points meet the conditions of a slice, by the names that slices know
 abbrev pub region_of : Store → Slice → ℕ → Region
-region_of store s view = region_from (length (attrs_of store view)) (region (names_at store.dicts) s.conds (attrs_of store view))
+region_of store s view = region_from (length (attrs_of store view)) (region (shown_names store.dicts store.shown.at) s.conds (attrs_of store view))
 
 -- the pages that the search for a slice goes to
 abbrev pub visits_of : Store → Slice → ℕ → Files → List ℕ

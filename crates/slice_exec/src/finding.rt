@@ -54,7 +54,7 @@ pub(crate) fn find<T: Site>(
     let forest = &store.forest;
     let attrs = forest.schema.views.as_slice()[view as usize].as_slice();
     let tree = forest.place(forest.mapping.tree_of(view));
-    let region = region(&store.dicts, attrs, slice.conds.as_slice());
+    let region = region(&store.dicts, &store.shown, attrs, slice.conds.as_slice());
     match search(alloc, site, pages, &tree, &region) {
         Ok(points) => Ok(points),
         Err(stop) => Err(stop_at(&tree, stop)),

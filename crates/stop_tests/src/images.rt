@@ -1,4 +1,5 @@
 //! What a stop may leave of a site in memory, compared with contents that were worked out apart from the program.
+use crate::ran::put;
 use fact_model::{Memory, Text};
 use site_core::{Fault, Site};
 use site_mem::{Call, MemorySite};
@@ -8,19 +9,6 @@ use std::test::Fail;
 
 fn text(alloc: Global, bytes: &[u8]) -> Result<Text, Memory> {
     Text::from_bytes(alloc, bytes)
-}
-
-/// Writes bytes at a place that the file has or ends at.
-fn put(
-    rt: &impl Abort,
-    site: &mut MemorySite,
-    file: u32,
-    at: u64,
-    bytes: &[u8],
-) -> Result<(), Fault> {
-    assert!(rt; file < 4 && !bytes.is_empty());
-    assert!(rt; at <= site.file(file).len() as u64);
-    site.write(file, at, bytes)
 }
 
 /// Behind a sync: a write over stable bytes that failed, one past the end, and one into an empty file.

@@ -4,4 +4,8 @@
 #[cfg(test)]
 mod images;
 #[cfg(test)]
+mod ran;
+#[cfg(test)]
+mod refreshes;
+#[cfg(test)]
 mod stops;

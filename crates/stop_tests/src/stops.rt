@@ -1,7 +1,8 @@
 //! What a stop leaves of a warehouse of two trees, as a later run finds it.
-use cube_shell::{Status, run};
-use fact_model::{Memory, Text};
-use site_mem::{Call, MemorySite, MemorySource};
+use crate::ran::run_over;
+use cube_shell::Status;
+use fact_model::Text;
+use site_mem::{Call, MemorySite};
 use std::alloc::Global;
 use std::process::Abort;
 use std::test::Fail;
@@ -20,12 +21,6 @@ const STAGES: [&str; 4] = [
     "facts 3\na,2,-2\nb,1,5\nb,2,4\nrows 3\n1,5\n2,2\nrows 2\na,-2\nb,9\nrows 2\n",
     "facts 5\na,2,-2\naa,2,6\nb,1,6\nb,2,4\nrows 4\n1,6\n2,8\nrows 2\na,-2\naa,6\nb,10\nrows 3\n",
 ];
-
-/// Runs a script over the files of a site.
-fn run_over(alloc: Global, site: &mut MemorySite, script: &[u8]) -> Result<Status, Memory> {
-    let mut source = MemorySource::new(Text::from_bytes(alloc, script)?, 64);
-    Ok(run(alloc, &[], &mut source, site))
-}
 
 #[test]
 fn first_write_fails(rt: HostRuntime) -> Result<(), Fail> {
@@ -136,8 +131,8 @@ fn leave(rt: &impl Abort, alloc: Global, moments: &[Moments]) -> Result<(), Fail
     Ok(())
 }
 
-// The gates are raised by the calls 6, 19 and 37, and each is stable after the call that follows. Pages are written by the calls 12 to 15
-// and 30 to 33, and the entries behind them.
+// The gates are raised by the calls 6, 19 and 37, and each is stable after the call that follows. Pages are written by the calls 12 to 15;
+// then, behind the reads of their old trees, by the calls 29 to 31 and 33; and the entries behind them.
 
 #[test]
 fn a_stop_at_any_call_of_the_first_load_keeps_what_is_acknowledged(
@@ -196,7 +191,7 @@ fn the_pages_and_names_of_a_stopped_load_do_not_count(rt: HostRuntime) -> Result
     };
     assert_eq!(rt; site.calls().get(34), Some(&entries));
     // Behind the write of each page, behind those of the entries and the body, and before the gate.
-    for calls in 31..=37 {
+    for calls in 30..=37 {
         takes_in_another_name(&rt, alloc, calls)?;
     }
     Ok(())

@@ -4,6 +4,7 @@ pub mod Counted
 pub mod Filling
 pub mod Law
 pub mod Lawful
+pub mod LevelPages
 pub mod Runs
 pub mod Standing
 pub mod Stepping

@@ -79,21 +79,19 @@ module _ (shape : Shape) (bytes : List ℕ) (first number : ℕ) (page : List �
 
   -- a page that is not read is too
   pub stop-scanned : (pages : ℕ) (into : List ℕ) (stop : ScanStop) → first ≤ number → number < first + pages → HasRead bytes number into (Err stop) → NamesPage number 1 stop
-      → IsScanned shape bytes first pages (Err stop)
-  stop-scanned pages into (stops.Damaged told) low high short names =
+      → (found : List Entry) → IsScanned shape bytes first pages found (Err stop)
+  stop-scanned pages into (stops.Damaged told) low high short names found =
       let same : number ≡ told = omega (arith, names.0, names.1) in
       subst (IsFirstBad shape bytes first pages) same (first-bad pages low high (λ good. omega (arith, short, good.whole)))
-  stop-scanned pages into stops.Disk low high short names = tt
-  stop-scanned pages into stops.Memory low high short names = tt
+  stop-scanned pages into stops.Disk low high short names found = tt
 
 -- what is answered is this stop
-pub answered : (shape : Shape) (bytes : List ℕ) (first pages : ℕ) (stop : ScanStop) (result : Result (List Entry) ScanStop) → IsErrAnd result (λ told. told ≡ stop)
-    → IsScanned shape bytes first pages (Err stop) → IsScanned shape bytes first pages result
-answered shape bytes first pages stop (Ok found) is scanned = absurd is
-answered shape bytes first pages stop (Err told) is scanned = subst (λ (s : ScanStop). IsScanned shape bytes first pages (Err s)) (sym is) scanned
+pub answered : (shape : Shape) (bytes : List ℕ) (first pages : ℕ) (found : List Entry) (stop : ScanStop) (result : Result (Unit {0}) ScanStop) → IsErrAnd result (λ told. told ≡ stop)
+    → IsScanned shape bytes first pages found (Err stop) → IsScanned shape bytes first pages found result
+answered shape bytes first pages found stop (Ok done) is scanned = absurd is
+answered shape bytes first pages found stop (Err told) is scanned = subst (λ (s : ScanStop). IsScanned shape bytes first pages found (Err s)) (sym is) scanned
 
 -- a page of those
 pub names-within : (first pages number : ℕ) (stop : ScanStop) → first ≤ number → number < first + pages → NamesPage number 1 stop → NamesPage first pages stop
 names-within first pages number (stops.Damaged told) low high names = (omega (arith, low, names.0), omega (arith, high, names.1))
 names-within first pages number stops.Disk low high names = tt
-names-within first pages number stops.Memory low high names = tt

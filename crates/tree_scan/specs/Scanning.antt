@@ -14,6 +14,10 @@ use Rattle.tree_scan.specs.declared.scan.ScanStop.TheVariants as stops
 abbrev pub page_at : List ℕ → ℕ → List ℕ
 page_at bytes number = take PAGE (drop (PAGE * number) bytes)
 
+-- the most entries of a page: those of a leaf whose points have no coordinates and one measure
+abbrev pub page_points : ℕ
+page_points = 73
+
 -- the first byte of a leaf
 abbrev pub leaf_byte : ℕ
 leaf_byte = 1
@@ -43,12 +47,11 @@ pub record IsFirstBad (shape : Shape) (bytes : List ℕ) (first count number : �
   pub before : (other : ℕ) → first ≤ other → other < number → IsGood shape bytes first other
   pub bad : IsGood shape bytes first number → ⊥
 
--- the entries of all pages, which are good; or the first that is not
-abbrev pub IsScanned : Shape → List ℕ → ℕ → ℕ → Result (List Entry) ScanStop → Type 0
-IsScanned shape bytes first count (Ok found) = AreGood shape bytes first count × (found ≡ entries_of shape bytes first count)
-IsScanned shape bytes first count (Err (stops.Damaged page)) = IsFirstBad shape bytes first count page
-IsScanned shape bytes first count (Err stops.Disk) = Unit {0}
-IsScanned shape bytes first count (Err stops.Memory) = Unit {0}
+-- these are the entries of all pages, which are good; or the first page that is not is told
+abbrev pub IsScanned : Shape → List ℕ → ℕ → ℕ → List Entry → Result (Unit {0}) ScanStop → Type 0
+IsScanned shape bytes first count found (Ok done) = AreGood shape bytes first count × (found ≡ entries_of shape bytes first count)
+IsScanned shape bytes first count found (Err (stops.Damaged page)) = IsFirstBad shape bytes first count page
+IsScanned shape bytes first count found (Err stops.Disk) = Unit {0}
 
 -- points of a tree, whatever the file holds: in order, of arities that it has, and each as a leaf may hold it
 pub record ArePoints (shape : Shape) (es : List Entry) : Type 0 where
@@ -60,7 +63,6 @@ pub record ArePoints (shape : Shape) (es : List Entry) : Type 0 where
 abbrev pub NamesPage : ℕ → ℕ → ScanStop → Type 0
 NamesPage first count (stops.Damaged page) = (first ≤ page) × (page < first + count)
 NamesPage first count stops.Disk = Unit {0}
-NamesPage first count stops.Memory = Unit {0}
 
 -- the entries of what a page holds; an inner page has none
 abbrev pub entries_in : Content → List Entry

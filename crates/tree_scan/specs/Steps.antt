@@ -18,7 +18,6 @@ abbrev pub HasRead : List ℕ → ℕ → List ℕ → Result (Unit {0}) ScanSto
 HasRead bytes number page (Ok done) = IsPageOf bytes number page
 HasRead bytes number page (Err (stops.Damaged told)) = length bytes < PAGE * (number + 1)
 HasRead bytes number page (Err stops.Disk) = Unit {0}
-HasRead bytes number page (Err stops.Memory) = Unit {0}
 
 -- the page is lawful, and its points come after these
 pub record MayFollow (shape : Shape) (number : ℕ) (page : List ℕ) (es : List Entry) : Type 0 where

@@ -4,4 +4,4 @@
 mod points;
 mod scan;
 
-pub use scan::{ScanStop, read_tree};
+pub use scan::{PAGE_POINTS, ScanStop, read_tree};

@@ -1,43 +1,44 @@
 //! The points of one page are put behind those of the pages before it.
 
-ghost use Rattle.std.specs.Prelude.{◌≡◌, ◌↔◌, ◌++◌, ◌∷◌, [], IsTrue, IfOk, OnOk, length, true};
+ghost use Rattle.std.specs.Prelude.{◌≡◌, ◌≤◌, ◌<◌, ◌+◌, ◌↔◌, ◌++◌, ◌∷◌, [], IsTrue, length, true, vec_len, vec_capacity};
 ghost use Rattle.page_fmt.specs.Lawful.{HasEntries};
 ghost use Rattle.page_fmt.specs.Taking.{ascend, entries as entries_in, entry_before, page_count};
 ghost use Rattle.page_fmt.specs.Writing.{IsShape};
-ghost use Rattle.tree_scan.specs.Scanning.{ArePoints, leaf_entries};
+ghost use Rattle.tree_scan.specs.Scanning.{ArePoints, leaf_entries, page_points};
 ghost use Rattle.tree_scan.specs.Steps.{MayFollow};
 
 use cube_point::{Entry, Shape, before};
-use fact_model::Memory;
 use page_fmt::{Node, PAGE, leaf_entry, take_page};
 
-/// Puts the points of a page behind the others. False, where the page is not lawful or its points do not come after them. An
-/// inner page has none.
+/// Puts the points of a page behind the others, where there is room for those of any page. False, where the page is not lawful or its
+/// points do not come after them. An inner page has none.
 pub(crate) fn take_in(
     page: &[u8; PAGE],
     shape: &Shape,
     number: u64,
     entries: &mut Vec<Entry>,
-) -> Result<bool, Memory>
+) -> bool
     requires shape { IsShape shape.now }
     requires points { ArePoints shape.now entries.old.items }
+    requires room { vec_len entries.old + page_points ≤ vec_capacity entries.old }
 
-    ensures may { IfOk result (λ taken. IsTrue taken ↔ MayFollow shape.now number page.now entries.old.items) }
-    ensures added { IfOk result (λ taken. IsTrue taken
-        → entries.new.items ≡ entries.old.items ++ leaf_entries shape.now page.now) }
-    ensures points { IfOk result (λ taken. IsTrue taken → ArePoints shape.now entries.new.items) }
+    ensures may { IsTrue result ↔ MayFollow shape.now number page.now entries.old.items }
+    ensures added { IsTrue result → entries.new.items ≡ entries.old.items ++ leaf_entries shape.now page.now }
+    ensures points { IsTrue result → ArePoints shape.now entries.new.items }
+    ensures few { vec_len entries.new ≤ vec_len entries.old + page_points }
+    ensures capacity { vec_capacity entries.old ≤ vec_capacity entries.new }
 {
     let Ok(head) = take_page(page, shape, number) else {
-        return Ok(false);
+        return false;
     };
     if head.node == Node::Inner {
-        return Ok(true);
+        return true;
     }
     if !comes_after(entries, &leaf_entry(page, shape, 0)) {
-        return Ok(false);
+        return false;
     }
-    push_all(page, shape, head.count as usize, entries)?;
-    Ok(true)
+    push_all(page, shape, head.count as usize, entries);
+    true
 }
 
 /// Whether the entry comes after the last of the others.
@@ -51,20 +52,31 @@ fn comes_after(entries: &[Entry], entry: &Entry) -> bool
 }
 
 /// Puts the entries of a leaf that was accepted behind the others.
-fn push_all(
-    page: &[u8; PAGE],
-    shape: &Shape,
-    count: usize,
-    entries: &mut Vec<Entry>,
-) -> Result<(), Memory>
+fn push_all(page: &[u8; PAGE], shape: &Shape, count: usize, entries: &mut Vec<Entry>)
     requires page { HasEntries shape.now page.now }
     requires said { count ≡ page_count page.now }
     requires count { count ≡ length (entries_in shape.now.measures page.now) }
+    requires room { vec_len entries.old + count ≤ vec_capacity entries.old }
 
-    ensures { OnOk result (entries.new.items ≡ entries.old.items ++ entries_in shape.now.measures page.now) }
+    ensures items { entries.new.items ≡ entries.old.items ++ entries_in shape.now.measures page.now }
+    ensures len { vec_len entries.new ≡ vec_len entries.old + count }
+    ensures capacity { vec_capacity entries.old ≤ vec_capacity entries.new }
 {
     for index in 0..count {
-        entries.push(leaf_entry(page, shape, index))?;
+        put(entries, leaf_entry(page, shape, index));
     }
-    Ok(())
+}
+
+/// Puts an entry at the end, where there is room.
+fn put(entries: &mut Vec<Entry>, entry: Entry)
+    requires { vec_len entries.old < vec_capacity entries.old }
+    ensures items { entries.new.items ≡ entries.old.items ++ entry ∷ [] }
+    ensures len { vec_len entries.new ≡ vec_len entries.old + 1 }
+    ensures capacity { vec_capacity entries.old ≤ vec_capacity entries.new }
+{
+    // There is room, so the push takes no memory and cannot fail.
+    match entries.push(entry) {
+        Ok(()) => (),
+        Err(_) => (),
+    }
 }

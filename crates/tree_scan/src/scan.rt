@@ -1,18 +1,19 @@
 //! All points of a tree, read page by page.
 
-ghost use Rattle.std.specs.Prelude.{◌≡◌, ◌<◌, ◌≤◌, ◌+◌, ◌^◌, IsTrue, IfOk, IfErr};
+ghost use Rattle.std.specs.Prelude.{◌≡◌, ◌<◌, ◌≤◌, ◌+◌, ◌*◌, ◌^◌, IsTrue, IfErr, OnOk, length, vec_capacity};
 ghost use Rattle.site_core.specs.Calls.{Rests};
 ghost use Rattle.forest_root.specs.Causes.{HasCauseWhere};
 ghost use Rattle.page_fmt.specs.Writing.{IsShape};
-ghost use Rattle.tree_scan.specs.Scanning.{ArePoints, IsScanned, NamesPage};
+ghost use Rattle.tree_scan.specs.Scanning.{ArePoints, IsScanned, NamesPage, page_points};
 ghost use Rattle.tree_scan.specs.Steps.{HasRead};
 
 use crate::points::take_in;
-use cube_point::EntryList;
-use fact_model::{ListOf, Memory};
+use cube_point::Entry;
 use page_fmt::{PAGE, Place};
 use site_core::{Fault, Site};
-use std::alloc::Global;
+
+/// The most points that a page may hold: those of a leaf whose points have no coordinates and one measure.
+pub const PAGE_POINTS: u64 = 73;
 
 /// Why the points of a tree could not be read.
 #[derive(Clone, Copy, Debug, PartialEq, Eq)]
@@ -24,24 +25,30 @@ pub enum ScanStop {
         /// The number of the page in its file.
         page: u64,
     },
-    /// Want of memory.
-    Memory,
 }
 
-/// The points of a tree in point order, read with at most one read a page, its pages in their order. Nothing is changed, also
-/// after an error.
+/// The points of a tree in point order, read with at most one read a page, its pages in their order. They are put into `into`, whatever
+/// stood in it, which has room for as many as so many pages may hold; so it takes no memory. No file is changed, also after an error,
+/// and then nothing is said of `into`.
 ///
 /// `Damaged` names the first page that is short or not lawful, or has a point that does not come after all points before it.
-pub fn read_tree<T: Site>(alloc: Global, site: &mut T, place: &Place) -> Result<EntryList, ScanStop>
+pub fn read_tree<T: Site>(
+    site: &mut T,
+    place: &Place,
+    into: &mut Vec<Entry>,
+) -> Result<(), ScanStop>
     requires file { place.now.file < 4 }
     requires shape { IsShape place.now.shape }
     requires few { place.now.first + place.now.pages ≤ 2 ^ 50 }
+    requires room { page_points * place.now.pages ≤ vec_capacity into.old }
 
     ensures scanned { IsTrue T.tells
-        → IsScanned place.now.shape ((T.disk site.old).files place.now.file) place.now.first place.now.pages result }
+        → IsScanned place.now.shape ((T.disk site.old).files place.now.file) place.now.first place.now.pages into.new.items result }
 
     // Whatever the file holds.
-    ensures points { IfOk result (ArePoints place.now.shape) }
+    ensures points { OnOk result (ArePoints place.now.shape into.new.items) }
+    ensures few { OnOk result (length into.new.items ≤ page_points * place.now.pages) }
+    ensures capacity { vec_capacity into.old ≤ vec_capacity into.new }
     ensures page { IfErr result (NamesPage place.now.first place.now.pages) }
     ensures disk { IsTrue T.tells → Rests (T.disk site.old) (T.disk site.new) }
     ensures cause { HasCauseWhere ScanStop.Disk (T.disk_faults site.old) (T.disk_faults site.new) result }
@@ -49,15 +56,15 @@ pub fn read_tree<T: Site>(alloc: Global, site: &mut T, place: &Place) -> Result<
     ensures reads { T.reads site.new ≤ T.reads site.old + place.now.pages }
     ensures writes { T.writes site.new ≡ T.writes site.old }
 {
-    let mut entries = Vec::new(alloc);
+    into.clear();
     let mut page = [0; PAGE];
     for number in place.first..place.first + place.pages {
         read_page(site, place.file, number, &mut page)?;
-        if !take_in(&page, &place.shape, number, &mut entries)? {
+        if !take_in(&page, &place.shape, number, into) {
             return Err(ScanStop::Damaged { page: number });
         }
     }
-    Ok(ListOf::from_vec(entries))
+    Ok(())
 }
 
 /// Reads the page with this number, which the file has to have whole.
@@ -91,15 +98,5 @@ impl From<Fault> for ScanStop {
 
     fn from(_fault: Fault) -> ScanStop {
         ScanStop::Disk
-    }
-}
-
-impl From<Memory> for ScanStop {
-    ghost use Rattle.tree_scan.specs.declared.scan.ScanStop.TheVariants as stops;
-
-    ghost from_gives = { λ _ stop. stop ≡ stops.Memory };
-
-    fn from(_memory: Memory) -> ScanStop {
-        ScanStop::Memory
     }
 }

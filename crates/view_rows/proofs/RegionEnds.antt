@@ -11,17 +11,17 @@ use Rattle.cube_schema.specs.Kinds.{is_word_kind}
 use Rattle.view_points.specs.Answer.{Interval, codes_of, interval}
 use Rattle.view_points.specs.Codes.{Text, code_in}
 use Rattle.view_points.specs.Points.{Names, View, padded}
-use Rattle.attr_dict.specs.Book.{Book, code_at, code_for, kind_at, names_at}
+use Rattle.attr_dict.specs.Book.{Book, code_for, kind_at}
 use Rattle.delta_agg.proofs.Places.{padded-more}
 use Rattle.view_rows.specs.Regions.{is_word}
 
 -- ---- texts
 
 -- the code of a text, at a text attribute
-pub word-code : (b : Book) (a : ℕ) (t : Text) → true ≡ is_word b a → code_at b a (Word t) ≡ code_in (names_at b a) (Word t)
-word-code b a t is = by (kind_at b a) is
+pub word-code : (b : Book) (a : ℕ) (names : List Text) (t : Text) → true ≡ is_word b a → code_for (kind_at b a) names (Word t) ≡ code_in names (Word t)
+word-code b a names t is = by (kind_at b a) is
   where
-    by : (k : Kind) → true ≡ is_word_kind k → code_for k (names_at b a) (Word t) ≡ code_in (names_at b a) (Word t)
+    by : (k : Kind) → true ≡ is_word_kind k → code_for k names (Word t) ≡ code_in names (Word t)
     by (kind.Word max) h = refl
     by kind.Number h = absurd (true≢false h)
 

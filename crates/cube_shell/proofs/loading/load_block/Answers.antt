@@ -1,7 +1,6 @@
-use Rattle.std.proofs.Common.{◌∙◌, sym, ap}
+use Rattle.std.proofs.Common.{◌∙◌, ap}
 use Rattle.cube_shell.specs.Machine.{Answer, accepted}
-use Rattle.cube_shell.specs.World.{Warehouse, idle}
-use Rattle.cube_shell.specs.Session.{Belongs}
+use Rattle.cube_shell.specs.World.{idle}
 use Rattle.cube_shell.proofs.Answering.{answers_as, between_as}
 use Rattle.cube_shell.proofs.BlockReads.{batch_taken}
 use Rattle.cube_shell.proofs.loading.load_block.Goals as goal

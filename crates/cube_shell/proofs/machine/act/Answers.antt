@@ -1,8 +1,9 @@
-use Rattle.std.proofs.Common.{◌∙◌, ℕ, List, IfErr, sym, ap, subst}
+use Rattle.std.proofs.Common.{◌≤◌, ◌+◌, ◌∙◌, ℕ, List, IfErr, OnOk, sym, ap, subst}
+use Rattle.cube_shell.specs.Costs.{begins}
 use Rattle.cube_shell.specs.Machine.{Answer, abandon, act, slice}
-use Rattle.cube_shell.specs.Session.{abandon_text, abandoned, state_text, step_text}
+use Rattle.cube_shell.specs.Session.{abandon_text, state_text, step_text}
 use Rattle.cube_shell.proofs.Acts.{act_abandon, act_begin, act_finish, act_load, act_long_line, act_open_block, act_others, act_schema, act_slice, act_status, act_step}
-use Rattle.cube_shell.proofs.Answering.{abandon_known, abandon_stands, answers, answers_as, between_as, quiet, status_known, step_known, told_only}
+use Rattle.cube_shell.proofs.Answering.{abandon_known, answers_as, between_as, no_more, quiet, status_known, step_known, stood, told_only}
 use Rattle.cube_shell.specs.Told.{SliceTells, TellsDamage}
 use Rattle.script_lang.specs.declared.command.Command.{Command}
 use Rattle.cube_shell.proofs.Told.{memory_tells}
@@ -18,7 +19,7 @@ returns-in-Schema-clause-any_moment g c = λ t world is.
 
 pub returns-in-Schema-clause-unwritten : goal.returns-in-Schema-clause-unwritten
 returns-in-Schema-clause-unwritten g c = λ t world is stays.
-    c.declare.ensures.unwritten t world is (sym (ap (λ (a : Answer). a.0.kept) (ap (act world) c.in-Schema.is ∙ act_schema world _)) ∙ stays)
+    no_more c.declare.result _ _ _ (c.declare.ensures.unwritten t world is (sym (ap (λ (a : Answer). a.0.kept) (ap (act world) c.in-Schema.is ∙ act_schema world _)) ∙ stays))
 
 pub returns-in-Load-clause-answer : goal.returns-in-Load-clause-answer
 returns-in-Load-clause-answer g c = λ t world is.
@@ -30,7 +31,7 @@ returns-in-Load-clause-any_moment g c = λ t world is.
 
 pub returns-in-Load-clause-unwritten : goal.returns-in-Load-clause-unwritten
 returns-in-Load-clause-unwritten g c = λ t world is stays.
-    c.load.ensures.unwritten t world is (sym (ap (λ (a : Answer). a.0.kept) (ap (act world) c.in-Load.is ∙ act_load world _)) ∙ stays)
+    no_more c.load.result _ _ _ (c.load.ensures.unwritten t world is (sym (ap (λ (a : Answer). a.0.kept) (ap (act world) c.in-Load.is ∙ act_load world _)) ∙ stays))
 
 pub returns-in-Slice-clause-answer : goal.returns-in-Slice-clause-answer
 returns-in-Slice-clause-answer g c = λ t world is.
@@ -106,6 +107,11 @@ pub returns-in-Begin-clause-any_moment : goal.returns-in-Begin-clause-any_moment
 returns-in-Begin-clause-any_moment g c = λ t world is.
     between_as _ _ world _ _ (sym (ap (act world) c.in-Begin.is ∙ act_begin world _)) (c.begin.ensures.any_moment t world is)
 
+pub returns-in-Begin-clause-unwritten : goal.returns-in-Begin-clause-unwritten
+returns-in-Begin-clause-unwritten g c = λ t world is stays.
+    subst (λ (a : Answer). OnOk c.begin.result (g.T.Site.writes c.begin.new.site ≤ g.T.Site.writes c.args.site.now + begins world a.0))
+    (sym (ap (act world) c.in-Begin.is ∙ act_begin world _)) (c.begin.ensures.unwritten t world is)
+
 pub returns-in-Begin-clause-damage : goal.returns-in-Begin-clause-damage
 returns-in-Begin-clause-damage g c = λ t.
     subst (λ (k : Command). IfErr c.begin.result (TellsDamage c.args.state (g.T.Site.disk c.args.site.now).files k)) (sym c.in-Begin.is) c.begin.ensures.damage
@@ -132,7 +138,7 @@ returns-in-Finish-clause-any_moment g c = λ t world is.
 
 pub returns-in-Finish-clause-unwritten : goal.returns-in-Finish-clause-unwritten
 returns-in-Finish-clause-unwritten g c = λ t world is stays.
-    c.finish.ensures.unwritten t world is (sym (ap (λ (a : Answer). a.0.kept) (ap (act world) c.in-Finish.is ∙ act_finish world)) ∙ stays)
+    no_more c.finish.result _ _ _ (c.finish.ensures.unwritten t world is (sym (ap (λ (a : Answer). a.0.kept) (ap (act world) c.in-Finish.is ∙ act_finish world)) ∙ stays))
 
 pub returns-in-Finish-clause-damage : goal.returns-in-Finish-clause-damage
 returns-in-Finish-clause-damage g c = λ t.
@@ -142,8 +148,8 @@ pub returns-in-Abandon-clause-answer : goal.returns-in-Abandon-clause-answer
 returns-in-Abandon-clause-answer g c = λ t world stands.
     let disk = g.T.Site.disk c.args.site.now in
     answers_as c.abandon.result _ _ _ (sym (ap (act world) c.in-Abandon.is ∙ act_abandon world))
-    (answers c.abandon.result (abandoned c.args.state) (abandon_text c.args.state) disk (abandon world) c.abandon.ensures.state c.abandon.ensures.reply
-    (abandon_stands c.args.state disk world stands) (abandon_known c.args.state disk world stands))
+    (stood c.abandon.result (abandon_text c.args.state) disk (abandon world) (c.abandon.ensures.stands t world stands) c.abandon.ensures.reply
+    (abandon_known c.args.state disk world stands))
 
 pub returns-in-Abandon-clause-any_moment : goal.returns-in-Abandon-clause-any_moment
 returns-in-Abandon-clause-any_moment g c = λ t world stands.

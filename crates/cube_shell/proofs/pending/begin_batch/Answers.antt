@@ -1,39 +1,58 @@
-use Rattle.std.proofs.Common.{◌++◌, ◌∙◌, refl, sym, ap, subst}
-use Rattle.std.specs.List.{All}
-use Rattle.cube_schema.specs.Agreeing.{Agrees}
-use Rattle.cube_schema.specs.declared.schema.Schema.{Schema}
-use Rattle.forest_store.specs.Held.{AreAccepted}
-use Rattle.forest_store.specs.Loading.{IsJudged, IsRefused}
-use Rattle.cube_shell.specs.declared.state.State.TheVariants.{Idle}
-use Rattle.cube_shell.specs.Machine.{begun_or_refused}
+use Rattle.std.proofs.Common.{◌≡◌, ◌<◌, [], length, refl, sym, ap, arith}
+use Rattle.std.proofs.lemmas.Bool.Decides.{nat_tests}
+use Rattle.cube_shell.specs.declared.state.State.TheVariants.{Hollow, Idle}
+use Rattle.cube_shell.specs.Machine.{begun, begun_or_refused}
 use Rattle.cube_shell.specs.World.{idle}
-use Rattle.cube_shell.proofs.Answering.{quiet}
-use Rattle.cube_shell.proofs.Pendings.{begun_answer, belongs_again, refused_begin}
+use Rattle.cube_shell.proofs.Acts.{nothing_added}
+use Rattle.cube_shell.proofs.Answering.{answers, answers_as, quiet}
+use Rattle.cube_shell.proofs.Limits.{none_begun}
+use Rattle.cube_shell.proofs.Takings.{begin_attends, begin_moments, begun_answer, begun_writes, refused_answer}
 use Rattle.cube_shell.proofs.pending.begin_batch.Goals as goal
 
-pub returns-in-None-clause-answer : goal.returns-in-None-clause-answer
-returns-in-None-clause-answer g c = λ t warehouse is.
-    let disk = g.T.Site.disk c.args._site.now in
-    let now = belongs_again c.args.store c.refusal.new.store disk warehouse c.refusal.ensures.forest c.refusal.ensures.names is in
-    begun_answer c.refusal.new.store disk warehouse c.args.batch now c.plain.result
-    (subst (λ (s : Schema). AreAccepted s (warehouse.facts ++ c.args.batch)) is.schema (subst (IsJudged c.args.store.forest.schema (warehouse.facts ++ c.args.batch)) c.in-None.is (c.in_ok-refusal.ensures.judged warehouse.facts disk.files is.stored)))
-    c.plain.ensures.state c.plain.ensures.reply
+pub returns-then-is_empty-clause-answer : goal.returns-then-is_empty-clause-answer
+returns-then-is_empty-clause-answer g c = λ t warehouse is.
+    let disk = g.T.Site.disk c.args.site.now in
+    let slice = c.as_slice.ensures in
+    let zero : length c.args.batch ≡ 0 = grind (arith, nat_tests, ap length slice) in
+    let none : c.args.batch ≡ [] = nothing_added c.args.batch zero in
+    answers_as c.plain.result disk (begun warehouse []) _ (sym (none_begun warehouse c.args.batch is.lawful.schema is.lawful.accepted none (idle warehouse)))
+    (answers c.plain.result (Hollow c.args.store) _ disk (begun warehouse []) c.plain.ensures.state c.plain.ensures.reply (warehouse, refl, is) refl)
 
-pub returns-in-Some-clause-answer : goal.returns-in-Some-clause-answer
-returns-in-Some-clause-answer g c = λ t warehouse is.
-    let disk = g.T.Site.disk c.args._site.now in
-    let now = belongs_again c.args.store c.refusal.new.store disk warehouse c.refusal.ensures.forest c.refusal.ensures.names is in
-    refused_begin c.refusal.new.store disk warehouse c.args.batch now c.refuse.result c.in-Some.refusal
-    (subst (λ (s : Schema). All (Agrees s) c.args.batch) is.schema c.requires.agree)
-    (subst (λ (s : Schema). IsRefused s (warehouse.facts ++ c.args.batch) c.in-Some.refusal) is.schema (subst (IsJudged c.args.store.forest.schema (warehouse.facts ++ c.args.batch)) c.in-Some.is (c.in_ok-refusal.ensures.judged warehouse.facts disk.files is.stored)))
-    c.refuse.ensures.state c.refuse.ensures.reply
+pub returns-then-is_empty-clause-any_moment : goal.returns-then-is_empty-clause-any_moment
+returns-then-is_empty-clause-any_moment g c = λ t warehouse is.
+    quiet (Idle c.args.store) (g.T.Site.disk c.args.site.now) (idle warehouse) (begun_or_refused (idle warehouse) warehouse c.args.batch).0 (warehouse, refl, is)
+    (λ told files. g.met.T.Site.only_now c.args.site.now told files t)
 
-pub returns-in-None-clause-any_moment : goal.returns-in-None-clause-any_moment
-returns-in-None-clause-any_moment g c = λ t warehouse is.
-    quiet (Idle c.args.store) (g.T.Site.disk c.args._site.now) (idle warehouse) (begun_or_refused (idle warehouse) warehouse c.args.batch).0 (warehouse, refl, is)
-    (λ told files. g.met.T.Site.only_now c.args._site.now told files t)
+pub returns-in-Ok-clause-answer : goal.returns-in-Ok-clause-answer
+returns-in-Ok-clause-answer g c = λ t warehouse is.
+    let old = g.T.Site.disk c.args.site.now in
+    let new = g.T.Site.disk c.begin.new.site in
+    let slice = c.as_slice.ensures in
+    let some : 0 < length c.args.batch = grind (arith, nat_tests, ap length slice) in
+    let attends = begin_attends c.args.store old new warehouse c.args.batch is c.in-Ok.refresh c.in-Ok.ensures.forest
+    (c.in-Ok.ensures.begun t warehouse.facts is.stored) some (c.in-Ok.ensures.ready t).opened.stable in
+    begun_answer c.in-Ok.refresh new warehouse c.args.batch attends c.plain-in-Ok.result c.plain-in-Ok.ensures.state c.plain-in-Ok.ensures.reply
 
-pub returns-in-Some-clause-any_moment : goal.returns-in-Some-clause-any_moment
-returns-in-Some-clause-any_moment g c = λ t warehouse is.
-    quiet (Idle c.args.store) (g.T.Site.disk c.args._site.now) (idle warehouse) (begun_or_refused (idle warehouse) warehouse c.args.batch).0 (warehouse, refl, is)
-    (λ told files. g.met.T.Site.only_now c.args._site.now told files t)
+pub returns-in-Ok-clause-any_moment : goal.returns-in-Ok-clause-any_moment
+returns-in-Ok-clause-any_moment g c = λ t warehouse is.
+    begin_moments c.args.store _ _ warehouse c.args.batch is (begun_or_refused (idle warehouse) warehouse c.args.batch).0 (c.begin.ensures.any_moment t warehouse.facts is.stored)
+
+pub returns-in-Ok-clause-unwritten : goal.returns-in-Ok-clause-unwritten
+returns-in-Ok-clause-unwritten g c = λ t warehouse is.
+    let old = g.T.Site.disk c.args.site.now in
+    let new = g.T.Site.disk c.begin.new.site in
+    let slice = c.as_slice.ensures in
+    let some : 0 < length c.args.batch = grind (arith, nat_tests, ap length slice) in
+    let attends = begin_attends c.args.store old new warehouse c.args.batch is c.in-Ok.refresh c.in-Ok.ensures.forest
+    (c.in-Ok.ensures.begun t warehouse.facts is.stored) some (c.in-Ok.ensures.ready t).opened.stable in
+    begun_writes c.in-Ok.refresh new warehouse c.args.batch attends c.plain-in-Ok.result _ _ c.begin.ensures.writes
+
+pub returns-in-Err-clause-answer : goal.returns-in-Err-clause-answer
+returns-in-Err-clause-answer g c = λ t warehouse is.
+    refused_answer c.args.store c.in-Err.fault.store (g.T.Site.disk c.args.site.now) (g.T.Site.disk c.begin.new.site) warehouse c.args.batch c.in-Err.fault.why is c.requires.agree
+    (c.in-Err.ensures.limit warehouse.facts (g.T.Site.disk c.args.site.now).files is.stored) c.in-Err.ensures.back (λ apart. ap g.T.Site.disk (c.in-Err.ensures.untouched apart))
+    (begun warehouse c.args.batch) c.refuse.result c.refuse.ensures.state c.refuse.ensures.reply
+
+pub returns-in-Err-clause-any_moment : goal.returns-in-Err-clause-any_moment
+returns-in-Err-clause-any_moment g c = λ t warehouse is.
+    begin_moments c.args.store _ _ warehouse c.args.batch is (begun_or_refused (idle warehouse) warehouse c.args.batch).0 (c.begin.ensures.any_moment t warehouse.facts is.stored)

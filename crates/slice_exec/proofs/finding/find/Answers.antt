@@ -74,7 +74,7 @@ returns-in-Ok-clause-points g c = λ t accepted stored.
     let agree = agree-is store c.args.view c.args.slice.now c.region-region.result c.as_slice-attrs.result.now c.as_slice-2.result.now attrs c.as_slice-2.ensures c.region-region.ensures.intervals
     c.region-region.ensures.inside in
     let found = c.in-Ok.ensures.points t (tree_entries forest.schema accepted (tree_of forest.mapping c.tree_of.result)) holds in
-    found-points store c.args.view c.args.slice.now low accepted stored.accepted stored.names agree c.in-Ok.points
+    found-points store c.args.view c.args.slice.now accepted stored.accepted stored.names c.requires.agrees c.requires.covering agree c.in-Ok.points
     (found ∙ (λ i. filter (is_inside (region i)) (tree_entries forest.schema accepted (tree_of forest.mapping (number i)))))
 
 pub returns-in-Err-clause-undamaged : goal.returns-in-Err-clause-undamaged

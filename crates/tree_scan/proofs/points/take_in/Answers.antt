@@ -29,7 +29,7 @@ returns-then-not-comes_after-clause-may c =
           ∙ first-follows c.args.shape.now c.args.number c.args.page.now c.in-Ok.head c.in-Ok.ensures.exact c.args.entries.now.items c.requires.points node c.leaf_entry.result leaf.some c.leaf_entry.ensures.value may),
     )
 
-may_follow : (c : goal.In_ok-push_all) → MayFollow c.args.shape.now c.args.number c.args.page.now c.args.entries.now.items
+may_follow : (c : goal.After-push_all) → MayFollow c.args.shape.now c.args.number c.args.page.now c.args.entries.now.items
 may_follow c =
     let node : c.in-Ok.head.node ≡ nodes.Leaf = search rules in
     let leaf = c.in-Ok.ensures.page.0 node in
@@ -43,10 +43,10 @@ returns-clause-may c = (λ _. may_follow c, λ _. refl)
 pub returns-clause-added : goal.returns-clause-added
 returns-clause-added c =
     let node : c.in-Ok.head.node ≡ nodes.Leaf = search rules in
-    λ _. c.in_ok-push_all.ensures ∙ leaf-adds c.args.shape.now c.args.number c.args.page.now c.in-Ok.head c.in-Ok.ensures.exact c.args.entries.now.items c.requires.points node
+    λ _. c.push_all.ensures.items ∙ leaf-adds c.args.shape.now c.args.number c.args.page.now c.in-Ok.head c.in-Ok.ensures.exact c.args.entries.now.items c.requires.points node
 
 pub returns-clause-points : goal.returns-clause-points
 returns-clause-points c =
     let node : c.in-Ok.head.node ≡ nodes.Leaf = search rules in
-    λ _. subst (ArePoints c.args.shape.now) (sym c.in_ok-push_all.ensures)
+    λ _. subst (ArePoints c.args.shape.now) (sym c.push_all.ensures.items)
     (leaf-points c.args.shape.now c.args.number c.args.page.now c.in-Ok.head c.in-Ok.ensures.exact c.args.entries.now.items c.requires.points node (c.in-Ok.ensures.page.0 node).holds (may_follow c))

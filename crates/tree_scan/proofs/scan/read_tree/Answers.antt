@@ -11,17 +11,17 @@ returns-in_err-read_page-clause-scanned g c = λ tells.
     let bytes = (g.T.Site.disk c.args.site.now).files c.args.place.now.file in
     let stop = c.in_err-read_page.field-0.0 in
     let read = subst (λ (f : Files). HasRead (f c.args.place.now.file) c.loop-number.number c.read_page.new.into (Err stop)) (c.loop-number.invariant.disk tells).files (c.in_err-read_page.ensures.page tells) in
-    answered c.args.place.now.shape bytes c.args.place.now.first c.args.place.now.pages stop c.from_residual.result c.from_residual.ensures.1
-    (stop-scanned c.args.place.now.shape bytes c.args.place.now.first c.loop-number.number c.read_page.new.into c.loop-number.entries.items (c.loop-number.invariant.so_far tells)
-    c.args.place.now.pages c.read_page.new.into stop (omega arith) (omega arith) read c.in_err-read_page.ensures.names)
+    answered c.args.place.now.shape bytes c.args.place.now.first c.args.place.now.pages c.loop-number.into.items stop c.from_residual.result c.from_residual.ensures.1
+    (stop-scanned c.args.place.now.shape bytes c.args.place.now.first c.loop-number.number c.read_page.new.into c.loop-number.into.items (c.loop-number.invariant.so_far tells)
+    c.args.place.now.pages c.read_page.new.into stop (omega arith) (omega arith) read c.in_err-read_page.ensures.names c.loop-number.into.items)
 
-pub returns-then-not-branch-clause-scanned : goal.returns-then-not-branch-clause-scanned
-returns-then-not-branch-clause-scanned g c = λ tells.
+pub returns-then-not-take_in-clause-scanned : goal.returns-then-not-take_in-clause-scanned
+returns-then-not-take_in-clause-scanned g c = λ tells.
     let bytes = (g.T.Site.disk c.args.site.now).files c.args.place.now.file in
     let page = subst (λ (f : Files). IsPageOf (f c.args.place.now.file) c.loop-number.number c.read_page.new.into) (c.loop-number.invariant.disk tells).files (c.in_ok-read_page.ensures.page tells) in
-    page-bad c.args.place.now.shape bytes c.args.place.now.first c.loop-number.number c.read_page.new.into c.loop-number.entries.items (c.loop-number.invariant.so_far tells)
+    page-bad c.args.place.now.shape bytes c.args.place.now.first c.loop-number.number c.read_page.new.into c.loop-number.into.items (c.loop-number.invariant.so_far tells)
     c.args.place.now.pages (omega arith) (omega arith) page
-    (λ may. true≢false (sym (c.in_ok-take_in.ensures.may.1 may) ∙ c.if-not-branch.true))
+    (λ may. true≢false (sym (c.take_in.ensures.may.1 may) ∙ c.if-not-take_in.true))
 
 pub loop-number-preserved : goal.loop-number-preserved
 loop-number-preserved g c =
@@ -29,9 +29,11 @@ loop-number-preserved g c =
       so_far = λ tells.
           let bytes = (g.T.Site.disk c.args.site.now).files c.args.place.now.file in
           let page = subst (λ (f : Files). IsPageOf (f c.args.place.now.file) c.loop-number.number c.read_page.new.into) (c.loop-number.invariant.disk tells).files (c.in_ok-read_page.ensures.page tells) in
-          more-good c.args.place.now.shape bytes c.args.place.now.first c.loop-number.number c.read_page.new.into c.loop-number.entries.items (c.loop-number.invariant.so_far tells)
-          (omega arith) page (c.in_ok-take_in.ensures.may.0 c.if-not-branch.false) c.take_in.new.entries.items (c.in_ok-take_in.ensures.added c.if-not-branch.false);
-      points = c.in_ok-take_in.ensures.points c.if-not-branch.false;
+          more-good c.args.place.now.shape bytes c.args.place.now.first c.loop-number.number c.read_page.new.into c.loop-number.into.items (c.loop-number.invariant.so_far tells)
+          (omega arith) page (c.take_in.ensures.may.0 c.if-not-take_in.false) c.take_in.new.entries.items (c.take_in.ensures.added c.if-not-take_in.false);
+      points = c.take_in.ensures.points c.if-not-take_in.false;
+      few = omega arith;
+      capacity = omega arith;
       disk = λ tells. Rests-then (g.T.Site.disk c.args.site.now) (g.T.Site.disk c.loop-number.site) (g.T.Site.disk c.read_page.new.site) (c.loop-number.invariant.disk tells) (c.in_ok-read_page.ensures.disk tells);
       faults = search rules;
       told_faults = search rules;
@@ -42,4 +44,4 @@ loop-number-preserved g c =
 pub returns-clause-scanned : goal.returns-clause-scanned
 returns-clause-scanned g c = λ tells.
     let all = c.loop-number.invariant.so_far tells c.args.place.now.pages (omega arith) in
-    (all.0, c.from_vec.ensures ∙ all.1)
+    all

@@ -2,6 +2,7 @@ use Rattle.std.proofs.Common.{◌∙◌, rules, sym, subst}
 use Rattle.cube_shell.specs.declared.state.State.{State}
 use Rattle.cube_shell.specs.Session.{Stands}
 use Rattle.cube_shell.proofs.Commanded.{untold, telling}
+use Rattle.cube_shell.proofs.Standing.{emits_stable, stands_on}
 use Rattle.cube_shell.specs.Told.{TellsDamage}
 use Rattle.cube_shell.specs.declared.stop.Stop.TheVariants as stops
 use Rattle.cube_shell.proofs.Told.{tells_none}
@@ -23,6 +24,13 @@ returns-in-Err-clause-any_moment g c = λ t world stands.
     let is = subst (λ (s : State). Stands s (g.T.Site.disk c.args.site.now) world) (sym c.replace-state.ensures.value) stands in
     let answer = c.in_ok-state.ensures.answer t world is in
     telling world c.args.command _ _ (c.act.ensures.any_moment t world is) _ c.in_ok-state.field-0.state _ (c.act.ensures.told t) answer.stands (c.deref.ensures.value ∙ answer.reply) (c.emit.ensures.disk t)
+
+pub returns-in-Ok-clause-stands : goal.returns-in-Ok-clause-stands
+returns-in-Ok-clause-stands g c = λ t world stands.
+    let is = subst (λ (s : State). Stands s (g.T.Site.disk c.args.site.now) world) (sym c.replace-state.ensures.value) stands in
+    let answer = c.in_ok-state.ensures.answer t world is in
+    let emits = c.emit.ensures.disk t in
+    stands_on _ _ emits.files (emits_stable _ _ _ emits) c.in_ok-state.field-0.state _ answer.stands
 
 pub returns-in_err-state-clause-damage : goal.returns-in_err-state-clause-damage
 returns-in_err-state-clause-damage g c = λ t.

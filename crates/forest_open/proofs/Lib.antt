@@ -1,0 +1,4 @@
+pub mod Declarations
+pub mod Declared
+pub mod NamesLong
+pub mod Openings

@@ -1,0 +1,48 @@
+-- A refresh begins, or its store is handed back.
+use Rattle.std.proofs.Common.{◌≡◌, ◌∙◌, ℕ, List, Result, Ok, Err, IfErr, IfOk, OnOk, sym, ap, subst}
+use Rattle.site_core.specs.Disk.{Disk, Files}
+use Rattle.site_core.specs.Moments.{LeavesOnly}
+use Rattle.fact_model.specs.declared.fact.Fact.{Fact}
+use Rattle.attr_dict.specs.Book.{names_at, no_names, shown_names}
+use Rattle.forest_root.specs.declared.forest.Forest.{Forest}
+use Rattle.forest_root.specs.declared.forest.Store.{Store}
+use Rattle.forest_store.specs.Held.{IsLive, KeepsFacts}
+use Rattle.forest_refresh.specs.declared.stop.BeginFault.{BeginFault}
+use Rattle.forest_refresh.specs.Back.{IsBack, IsCut}
+use Rattle.forest_refresh.specs.Begun.{Begun, IsRefreshOf}
+
+-- while its facts stay live, it adds the same batch to them
+live_again : (r : Begun) (facts batch : List Fact) (old new : Files) → IsRefreshOf r facts batch old → IsLive r.store.forest.schema r.store.forest.body facts new → IsRefreshOf r facts batch new
+live_again r facts batch old new is live = record {
+  accepted = is.accepted;
+  live = live;
+  all = is.all;
+  shown = is.shown;
+  names = is.names;
+  deltas = is.deltas;
+  entries = is.entries;
+  counted = is.counted;
+  masses = is.masses;
+}
+
+pub begun_on : (r : Begun) (facts batch : List Fact) (old new : Files) (result : Result Begun BeginFault) → IsRefreshOf r facts batch old → IfOk result (λ x. x ≡ r)
+    → OnOk result (IsLive r.store.forest.schema r.store.forest.body facts new) → IfOk result (λ x. IsRefreshOf x facts batch new)
+begun_on r facts batch old new (Ok x) is same live = subst (λ x. IsRefreshOf x facts batch new) (sym same) (live_again r facts batch old new is live)
+begun_on r facts batch old new (Err fault) is same live = tt
+
+-- what a moment keeps, by an equal forest
+pub kept_by : (old new : Forest) → new ≡ old → (before after : Disk) (facts : List Fact) → LeavesOnly before after (λ told files. (told ≡ before.told) × KeepsFacts new.schema facts files)
+    → LeavesOnly before after (λ told files. (told ≡ before.told) × KeepsFacts old.schema facts files)
+kept_by old new same before after facts run = subst (λ (f : Forest). LeavesOnly before after (λ told files. (told ≡ before.told) × KeepsFacts f.schema facts files)) same run
+
+-- the store with the names alone that slices know is the one that was whole
+pub cut_back : (store prepared : Store) (result : Result Begun BeginFault) → prepared.forest ≡ store.forest → prepared.shown ≡ store.shown
+    → ((a : ℕ) → shown_names prepared.dicts prepared.shown.at a ≡ names_at store.dicts a)
+    → IfErr result (λ fault. IsCut prepared fault.store) → IfErr result (λ fault. IsBack store fault.store)
+cut_back store prepared (Ok x) forest shown front cut = tt
+cut_back store prepared (Err fault) forest shown front cut = record {
+  forest = cut.forest ∙ forest;
+  shown = cut.shown ∙ shown;
+  kinds = cut.kinds ∙ prepared.kinds ∙ ap (λ (f : Forest). (no_names f.schema).kinds) forest ∙ sym store.kinds;
+  names = λ a. cut.names a ∙ front a;
+}

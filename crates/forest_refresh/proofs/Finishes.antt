@@ -1,0 +1,111 @@
+-- The end of a refresh: pages are written on the other side while the facts stay live, and then all facts are committed.
+use Rattle.std.proofs.Common.{◌≡◌, ◌≢◌, ◌∙◌, ◌+◌, ◌<◌, ◌≤◌, ◌++◌, ℕ, List, length, inl, sym, ap, subst, arith, length-append, take}
+use Rattle.site_core.specs.Disk.{Disk, Files}
+use Rattle.site_core.specs.Calls.{Changes}
+use Rattle.site_core.specs.Moments.{LeavesOnly}
+use Rattle.site_core.proofs.Run.{wider}
+use Rattle.fact_model.specs.declared.fact.Fact.{Fact}
+use Rattle.forest_root.specs.declared.body.Body.{Body}
+use Rattle.forest_root.specs.Body.{max_facts}
+use Rattle.forest_root.specs.Keeps.{IsBodyOf}
+use Rattle.forest_root.specs.declared.forest.Store.{Store}
+use Rattle.cube_schema.specs.declared.schema.Schema.{Schema}
+use Rattle.attr_dict.specs.Book.{Book, names_at}
+use Rattle.forest_commit.specs.Commit.{DiffersPast, IsLiveNow, slot_of}
+use Rattle.forest_commit.proofs.Kept.{live_paged, paged_moments}
+use Rattle.forest_commit.proofs.Lasting.{OnlyNow}
+use Rattle.forest_pages.specs.Forest.{body_counts, forest}
+use Rattle.forest_store.specs.Held.{AreAccepted, IsLive, held, names_text}
+use Rattle.forest_store.specs.Stored.{IsStoreOf, IsWhole}
+use Rattle.forest_store.proofs.Shown.{named_shown}
+use Rattle.forest_refresh.specs.declared.stop.RefreshStop.{RefreshStop}
+use Rattle.forest_refresh.specs.Begun.{Begun, IsBegun, IsNext, IsReady, IsRefreshOf, batch_size}
+use Rattle.forest_refresh.specs.Next.{HasNumbers}
+use Rattle.forest_refresh.specs.Refreshed.{KeepsEither}
+use Rattle.forest_refresh.specs.Trees.{TellsFirstDamage}
+use Rattle.forest_refresh.proofs.Committed.{live_now, other_slot, then_either}
+use Rattle.forest_refresh.proofs.Ready.{body_with, more_names}
+
+-- the body of the next generation, with its numbers of points
+abbrev pub with_counts : Body → List ℕ → Body
+with_counts next counts = record next { counts = counts }
+
+module _ (r : Begun) (begun : IsBegun r) where
+  -- no more facts than there may be
+  pub few_facts : r.store.forest.body.facts + batch_size r ≤ max_facts
+  few_facts = omega (arith, begun.more, begun.next.body.within.facts)
+
+  pub next_with : (counts : List ℕ) → HasNumbers (length r.store.forest.schema.views) (r.store.forest.body.facts + batch_size r) counts
+      → IsNext r.store.forest.body r.entries (with_counts r.next counts)
+  next_with counts numbers = record {
+    body = body_with r.next counts begun.next.body (record {
+      long = numbers.long;
+      few = λ i. omega (arith, numbers.few i, begun.more);
+      past = λ i past. numbers.past i (omega (arith, past, begun.next.views, r.store.forest.views));
+    });
+    views = begun.next.views;
+    schema_len = begun.next.schema_len;
+    generation = begun.next.generation;
+    names_len = begun.next.names_len;
+  }
+
+  module _ (facts batch : List Fact) (files : Files) (is : IsRefreshOf r facts batch files) where
+    -- with the numbers of points of all facts it is their body
+    pub body_of_all : (counts : List ℕ) → counts ≡ body_counts r.store.forest.schema (facts ++ batch) → IsBodyOf (held r.store.forest.schema (facts ++ batch)) (with_counts r.next counts)
+    body_of_all counts same = record {
+      views = begun.next.views ∙ r.store.forest.views;
+      schema_len = begun.next.schema_len ∙ is.live.at.body_is.schema_len;
+      names_len = omega (arith, begun.next.names_len, is.live.at.body_is.names_len, ap length (more_names r.store.forest.schema facts batch r.entries is.entries), length-append (names_text r.store.forest.schema facts) r.entries);
+      facts = is.counted;
+      masses = is.masses;
+      counts = same;
+    }
+
+  -- pages are written on the other side
+  module _ (facts batch : List Fact) (old mid : Disk) (is : IsRefreshOf r facts batch old.files) (ready : IsReady r old) (spare : ℕ) (at : spare ≡ slot_of r.next)
+      (run : Changes (DiffersPast (2 + spare) 0) old mid) where
+    low : spare < 2
+    low = omega (arith, at)
+
+    other : is.live.slot ≢ spare
+    other = subst (λ k. is.live.slot ≢ k) (sym at) (other_slot r.store.forest.body r.next r.entries begun.next is.live.slot is.live.at.decodes.1.within.side)
+
+    now : IsLiveNow (held r.store.forest.schema facts) is.live.slot r.store.forest.body old
+    now = live_now r.store.forest.schema r.store.forest.body facts is.live.slot old is.live.at ready.opened.stable
+
+    pub still_live : IsLiveNow (held r.store.forest.schema facts) is.live.slot r.store.forest.body mid
+    still_live = live_paged (held r.store.forest.schema facts) is.live.slot spare r.store.forest.body low other old mid now 0 run
+
+    pub while_written : OnlyNow old → LeavesOnly old mid (λ told files. (told ≡ old.told) × KeepsEither r.store.forest.schema facts (facts ++ batch) files)
+    while_written only_now = wider old mid _ _ (λ told files both. (both.0, inl (is.live.slot, r.store.forest.body, both.1)))
+        (paged_moments (held r.store.forest.schema facts) is.live.slot spare r.store.forest.body low other old mid now 0 run only_now)
+
+    -- and then the commit
+    pub then_committed : (new : Disk) → OnlyNow old → LeavesOnly mid new (λ told files. (told ≡ mid.told) × KeepsEither r.store.forest.schema facts (facts ++ batch) files)
+        → LeavesOnly old new (λ told files. (told ≡ old.told) × KeepsEither r.store.forest.schema facts (facts ++ batch) files)
+    then_committed new only_now last = then_either r.store.forest.schema facts (facts ++ batch) old mid new run.told (while_written only_now) last
+
+-- ---- by an equal refresh
+
+pub either_by : (r self : Begun) → r ≡ self → (facts all : List Fact) (old new : Disk)
+    → LeavesOnly old new (λ told files. (told ≡ old.told) × KeepsEither r.store.forest.schema facts all files)
+    → LeavesOnly old new (λ told files. (told ≡ old.told) × KeepsEither self.store.forest.schema facts all files)
+either_by r self same facts all old new run = subst (λ (b : Begun). LeavesOnly old new (λ told files. (told ≡ old.told) × KeepsEither b.store.forest.schema facts all files)) same run
+
+pub damage_by : (r self : Begun) → r ≡ self → (files : Files) (stop : RefreshStop) → TellsFirstDamage r.store.forest files r.deltas stop → TellsFirstDamage self.store.forest files self.deltas stop
+damage_by r self same files stop tells = subst (λ (b : Begun). TellsFirstDamage b.store.forest files b.deltas stop) same tells
+
+-- ---- the store of all facts
+
+pub store_of : (r : Begun) (facts batch : List Fact) (old new : Files) (done : Store) → IsRefreshOf r facts batch old → done.forest.schema ≡ r.store.forest.schema → done.dicts ≡ r.store.dicts
+    → IsWhole done → IsLive r.store.forest.schema done.forest.body (facts ++ batch) new → IsStoreOf done (facts ++ batch) new
+store_of r facts batch old new done is schema dicts whole live = record {
+  accepted = subst (λ (s : Schema). AreAccepted s (facts ++ batch)) (sym schema) is.all;
+  live = subst (λ (s : Schema). IsLive s done.forest.body (facts ++ batch) new) (sym schema) live;
+  names = named_shown done (facts ++ batch) whole (λ a. ap (λ (b : Book). names_at b a) dicts ∙ is.names a);
+}
+
+-- the side that holds all facts is that of the next body
+pub on_side : (schema : Schema) (all : List Fact) (spare slot : ℕ) (files : Files) → spare ≡ slot → take (length (forest schema all)) (files (2 + spare)) ≡ forest schema all
+    → take (length (forest schema all)) (files (2 + slot)) ≡ forest schema all
+on_side schema all spare slot files same pages = subst (λ k. take (length (forest schema all)) (files (2 + k)) ≡ forest schema all) same pages

@@ -1,0 +1,14 @@
+pub mod Added
+pub mod Begins
+pub mod Committed
+pub mod Damages
+pub mod Dropped
+pub mod Finishes
+pub mod Named
+pub mod Packings
+pub mod Prepared
+pub mod Ready
+pub mod Sides
+pub mod TreeMerges
+pub mod TreeReads
+pub mod Writings

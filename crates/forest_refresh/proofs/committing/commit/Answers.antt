@@ -1,0 +1,31 @@
+use Rattle.std.proofs.Common.{refl}
+use Rattle.forest_store.specs.Held.{held}
+use Rattle.forest_refresh.proofs.Committed.{either_facts, refresh_of}
+use Rattle.forest_refresh.proofs.committing.commit.Goals as goal
+
+-- src/committing.rt:61:5
+pub returns-in_err-finish-clause-any_moment : goal.returns-in_err-finish-clause-any_moment
+returns-in_err-finish-clause-any_moment g c = λ t accepted all old now fine is text pages.
+    let schema = c.args.store.forest.schema in
+    let live = c.args.store.forest.body in
+    either_facts schema accepted all _ _ fine (c.finish.ensures.any_moment t (held schema accepted) (held schema all) old live
+    (refresh_of schema accepted all old live c.args.names.now c.args.next _ _ now c.requires.next is text refl refl c.as_bytes.ensures) pages)
+
+-- src/committing.rt:23:1
+pub returns-clause-committed : goal.returns-clause-committed
+returns-clause-committed g c = λ t accepted all old now is text pages.
+    let schema = c.args.store.forest.schema in
+    let live = c.args.store.forest.body in
+    record {
+      slot = _;
+      at = (c.in_ok-finish.ensures.committed t (held schema accepted) (held schema all) old live
+          (refresh_of schema accepted all old live c.args.names.now c.args.next _ _ now c.requires.next is text refl refl c.as_bytes.ensures) pages).read;
+    }
+
+-- src/committing.rt:23:1
+pub returns-clause-any_moment : goal.returns-clause-any_moment
+returns-clause-any_moment g c = λ t accepted all old now fine is text pages.
+    let schema = c.args.store.forest.schema in
+    let live = c.args.store.forest.body in
+    either_facts schema accepted all _ _ fine (c.finish.ensures.any_moment t (held schema accepted) (held schema all) old live
+    (refresh_of schema accepted all old live c.args.names.now c.args.next _ _ now c.requires.next is text refl refl c.as_bytes.ensures) pages)

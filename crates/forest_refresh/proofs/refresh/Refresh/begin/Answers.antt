@@ -1,0 +1,17 @@
+use Rattle.forest_refresh.specs.Prepared.{begun_with}
+use Rattle.forest_refresh.proofs.Begins.{begun_on, cut_back, kept_by}
+use Rattle.forest_refresh.proofs.refresh.Refresh.begin.Goals as goal
+
+pub returns-in-Ok-clause-begun : goal.returns-in-Ok-clause-begun
+returns-in-Ok-clause-begun g c = λ t accepted is.
+    let adds = c.in-Ok.ensures.adds accepted _ is in
+    begun_on (begun_with c.prepare.new.store c.in-Ok.prepared) accepted c.args.facts _ _ c.shut_gate.result adds c.shut_gate.ensures.begun (c.shut_gate.ensures.live t accepted adds.live)
+
+pub returns-in-Ok-clause-any_moment : goal.returns-in-Ok-clause-any_moment
+returns-in-Ok-clause-any_moment g c = λ t accepted is.
+    kept_by c.args.store.forest c.prepare.new.store.forest c.prepare.ensures.forest (g.T.Site.disk c.args.site.now) (g.T.Site.disk c.shut_gate.new.site) accepted
+    (c.shut_gate.ensures.any_moment t accepted (c.in-Ok.ensures.adds accepted _ is).live)
+
+pub returns-in-Ok-clause-back : goal.returns-in-Ok-clause-back
+returns-in-Ok-clause-back g c =
+    cut_back c.args.store c.prepare.new.store c.shut_gate.result c.prepare.ensures.forest c.prepare.ensures.shown c.in-Ok.ensures.front c.shut_gate.ensures.back

@@ -1,0 +1,100 @@
+//! The points of a tree are merged with those of a batch.
+ghost use Rattle.std.specs.Prelude.{◌≡◌, ◌<◌, ◌≤◌, ◌+◌, ◌*◌, ◌++◌, ℕ, IsTrue, IfErr, OnOk, List, length, vec_capacity};
+ghost use Rattle.site_core.specs.Calls.{Rests};
+ghost use Rattle.fact_model.specs.declared.fact.Fact as facts;
+ghost use Rattle.view_points.specs.Codes.{names_of};
+ghost use Rattle.select_map.specs.Selection.{tree_of};
+ghost use Rattle.delta_agg.specs.Trees.{named_tree};
+ghost use Rattle.tree_pack.specs.Packing.{AreTreePoints};
+ghost use Rattle.tree_pack.specs.Pages.{count_of};
+ghost use Rattle.tree_scan.specs.Scanning.{page_points};
+ghost use Rattle.forest_root.specs.Body.{max_facts};
+ghost use Rattle.forest_root.specs.Causes.{HasCauseWhere};
+ghost use Rattle.forest_root.specs.Forest.{place_of};
+ghost use Rattle.forest_pages.specs.Forest.{tree_entries};
+ghost use Rattle.forest_store.specs.Held.{AreAccepted, IsLive};
+ghost use Rattle.forest_refresh.specs.Next.{counts_from};
+ghost use Rattle.forest_refresh.specs.Refreshed.{IsNoDamage};
+ghost use Rattle.forest_refresh.specs.Trees.{AreAdded, IsWholeFor, NamesPageOf, TellsDamageFor};
+
+use crate::reading::{ARITIES, tree_points};
+use crate::stop::RefreshStop;
+use cube_point::Entry;
+use delta_agg::{DoesNotJoin, merge_points};
+use forest_root::Forest;
+use page_fmt::PAGE;
+use site_core::Site;
+
+/// The old points of a tree are put into `old`, and these merged with those of a batch into `merged`, each of which has room for them.
+/// `Damaged` names the page at which the tree is damaged, or its first page where its cells do not join with those of the batch.
+pub(crate) fn merged_tree<T: Site>(
+    site: &mut T,
+    forest: &Forest,
+    tree: u32,
+    delta: &[Entry],
+    old: &mut Vec<Entry>,
+    merged: &mut Vec<Entry>,
+) -> Result<(), RefreshStop>
+    requires tree { tree < length forest.now.mapping.trees }
+    requires added { (most : ℕ) × AreAdded (place_of forest.now tree).shape most delta.now × (forest.now.body.facts + most ≤ max_facts) }
+    requires old_room { page_points * (place_of forest.now tree).pages ≤ vec_capacity old.old }
+    requires room { page_points * (place_of forest.now tree).pages + length delta.now ≤ vec_capacity merged.old }
+
+    ensures points { IsTrue T.tells → (accepted batch : List facts.Fact) → AreAccepted forest.now.schema accepted
+        → AreAccepted forest.now.schema (accepted ++ batch)
+        → IsLive forest.now.schema forest.now.body accepted (T.disk site.old).files
+        → delta.now ≡ named_tree (names_of (accepted ++ batch)) forest.now.schema batch (tree_of forest.now.mapping tree)
+        → OnOk result (merged.new.items ≡ tree_entries forest.now.schema (accepted ++ batch) (tree_of forest.now.mapping tree)) }
+    ensures undamaged { IsTrue T.tells → (accepted batch : List facts.Fact) → AreAccepted forest.now.schema accepted
+        → AreAccepted forest.now.schema (accepted ++ batch)
+        → IsLive forest.now.schema forest.now.body accepted (T.disk site.old).files
+        → delta.now ≡ named_tree (names_of (accepted ++ batch)) forest.now.schema batch (tree_of forest.now.mapping tree)
+        → IfErr result IsNoDamage }
+
+    // Whatever the files hold: points of the tree, of each arity no more than facts; or the page at which it is damaged.
+    ensures joined { IsTrue T.tells → OnOk result (IsWholeFor forest.now (T.disk site.old).files tree delta.now) }
+    ensures damaged { IsTrue T.tells → IfErr result (TellsDamageFor forest.now (T.disk site.old).files tree delta.now) }
+    ensures place { IfErr result (NamesPageOf (place_of forest.now tree)) }
+    ensures each { OnOk result (AreTreePoints (place_of forest.now tree).shape merged.new.items) }
+    ensures few { (most : ℕ) → AreAdded (place_of forest.now tree).shape most delta.now
+        → OnOk result ((arity : ℕ) → arity < 9 → count_of arity merged.new.items ≤ forest.now.body.facts + most) }
+    ensures old_capacity { vec_capacity old.old ≤ vec_capacity old.new }
+    ensures capacity { vec_capacity merged.old ≤ vec_capacity merged.new }
+    ensures disk { IsTrue T.tells → Rests (T.disk site.old) (T.disk site.new) }
+    ensures cause { HasCauseWhere RefreshStop.Disk (T.disk_faults site.old) (T.disk_faults site.new) result }
+    ensures told_faults { T.told_faults site.new ≡ T.told_faults site.old }
+    ensures reads { T.reads site.new ≤ T.reads site.old + (place_of forest.now tree).pages }
+    ensures writes { T.writes site.new ≡ T.writes site.old }
+{
+    tree_points(site, forest, tree, old)?;
+    match merge_points(old, delta, merged) {
+        Ok(()) => Ok(()),
+        Err(DoesNotJoin) => Err(bad_tree(forest, tree)),
+    }
+}
+
+/// The tree is not what the warehouse writes.
+fn bad_tree(forest: &Forest, tree: u32) -> RefreshStop
+    requires { tree < length forest.now.mapping.trees }
+    ensures { result ≡ RefreshStop.Damaged (place_of forest.now tree).file (4096 * (place_of forest.now tree).first) }
+{
+    let place = forest.place(tree);
+    RefreshStop::Damaged {
+        file: place.file,
+        offset: PAGE as u64 * place.first,
+    }
+}
+
+/// The number of points of each view, of which each tree has so many by arity.
+pub(crate) fn view_counts(forest: &Forest, by_tree: &[[u64; ARITIES]]) -> [u64; 32]
+    requires { length by_tree.now ≡ length forest.now.mapping.trees }
+    ensures { result ≡ counts_from forest.now.schema.views by_tree.now }
+{
+    let mut counts = [0; 32];
+    let views = forest.schema.views.as_slice();
+    for view in 0..views.len() {
+        let tree = forest.mapping.tree_of(view as u32) as usize;
+        counts[view] = by_tree[tree][views[view].as_slice().len()];
+    }
+    counts
+}

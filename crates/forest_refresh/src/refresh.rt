@@ -1,0 +1,223 @@
+//! A refresh that has begun, and how it ends.
+ghost use Rattle.std.specs.Prelude.{◌≡◌, ◌≢◌, ◌<◌, ◌≤◌, ◌+◌, ◌++◌, ℕ, IsTrue, IfOk, IfErr, OnOk, List, length, slice_index, vec_capacity};
+ghost use Rattle.std.specs.List.{All};
+ghost use Rattle.site_core.specs.Disk.{Files};
+ghost use Rattle.site_core.specs.Causes.{HasCause, Rose};
+ghost use Rattle.site_core.specs.Moments.{LeavesOnly};
+ghost use Rattle.fact_model.specs.declared.fact.Fact as declared;
+ghost use Rattle.attr_dict.specs.Admitting.{names_with};
+ghost use Rattle.attr_dict.specs.Book.{names_at};
+ghost use Rattle.cube_schema.specs.Agreeing.{Agrees};
+ghost use Rattle.forest_root.specs.Causes.{HasCauseWhere};
+ghost use Rattle.forest_store.specs.Held.{IsLive, KeepsFacts};
+ghost use Rattle.forest_store.specs.Opened.{IsOpened};
+ghost use Rattle.forest_store.specs.Sides.{page_count, page_total};
+ghost use Rattle.forest_store.specs.Stored.{IsStoreOf, IsWhole};
+ghost use Rattle.forest_refresh.specs.Back.{IsBack, IsCut};
+ghost use Rattle.forest_refresh.specs.Begun.{IsBegun, IsReady, IsRefreshOf};
+ghost use Rattle.forest_refresh.specs.Limits.{TellsLimit};
+ghost use Rattle.forest_refresh.specs.Prepared.{begun_with};
+ghost use Rattle.forest_refresh.specs.Refreshed.{IsNoDamage, KeepsEither, NamesPageIn};
+ghost use Rattle.forest_refresh.specs.Rooms.{HasRoom};
+ghost use Rattle.forest_refresh.specs.Trees.{TellsFirstDamage, deltas_by};
+
+use crate::committing::commit;
+use crate::preparing::{Prepared, prepare};
+use crate::room::Room;
+use crate::stop::{BeginFault, BeginStop, RefreshStop};
+use crate::writing::write_trees;
+use delta_agg::DeltaList;
+use fact_model::{FactList, Text};
+use forest_commit::slot;
+use forest_root::{Body, Store};
+use site_core::{Fault, Site};
+use std::alloc::Global;
+use std::marker::Model;
+
+/// A batch that is being taken in. Its points are made and its names have codes; the files keep the facts without it.
+#[derive(Drop)]
+pub struct Refresh {
+    store: Store,
+    deltas: DeltaList,
+    names: Text,
+    next: Body,
+    room: Room,
+}
+
+impl Model for Refresh {
+    ghost use Rattle.std.specs.Prelude.{vec_capacity};
+    ghost use Rattle.forest_refresh.specs.Begun.{Begun, IsBegun};
+    ghost use Rattle.forest_refresh.specs.Rooms.{HasRoom};
+
+    ghost Value = { Begun };
+
+    ghost view = { λ r. record { store = r.store; deltas = r.deltas; entries = r.names; next = r.next } };
+
+    ghost invariant = { λ r. record { begun : IsBegun (record { store = r.store; deltas = r.deltas; entries = r.names; next = r.next }); room : HasRoom r.store.forest r.deltas (vec_capacity r.room.before) (vec_capacity r.room.merged) (vec_capacity r.room.rows) } };
+}
+
+impl Refresh {
+    /// Begins to take in a batch of at least one fact: tries the limits, gives codes to its new names, which slices do not know, makes its
+    /// points, takes all memory that is needed to the end, and then shuts the gate of the next generation.
+    ///
+    /// `FactsFull`, `NamesFull` and `Mass` name the first limit that all facts would pass, in this order. They and `Memory` come before any
+    /// call on a file. The store is handed back as it was, also after `Disk`, and then nothing is said of the gate. A stop at any moment
+    /// leaves the facts without the batch.
+    pub fn begin<T: Site>(
+        alloc: Global,
+        site: &mut T,
+        store: Store,
+        facts: FactList,
+    ) -> Result<Refresh, BeginFault>
+        requires some { 0 < length facts }
+        requires agree { All (Agrees store.forest.schema) facts }
+        requires whole { IsWhole store }
+        requires opened { IsTrue T.tells → IsOpened store.forest.body (T.disk site.old) }
+
+        ensures begun { IsTrue T.tells → (accepted : List declared.Fact) → IsStoreOf store accepted (T.disk site.old).files
+            → IfOk result (λ refresh. IsRefreshOf refresh accepted facts (T.disk site.new).files) }
+        ensures limit { (accepted : List declared.Fact) (files : Files) → IsStoreOf store accepted files
+            → IfErr result (λ fault. TellsLimit store.forest.schema (accepted ++ facts) fault.why) }
+        ensures any_moment { IsTrue T.tells → (accepted : List declared.Fact) → IsStoreOf store accepted (T.disk site.old).files
+            → LeavesOnly (T.disk site.old) (T.disk site.new) (λ told files.
+            (told ≡ (T.disk site.old).told) × KeepsFacts store.forest.schema accepted files) }
+
+        ensures ready { IsTrue T.tells → IfOk result (λ refresh. IsReady refresh (T.disk site.new)) }
+        ensures points { IfOk result (λ refresh. refresh.deltas ≡ deltas_by (names_with store.dicts facts) store.forest.schema facts) }
+        // The root file alone is written.
+        ensures others { IsTrue T.tells → (file : ℕ) → file ≢ 0 → (T.disk site.new).files file ≡ (T.disk site.old).files file }
+        ensures forest { IfOk result (λ refresh. refresh.store.forest ≡ store.forest) }
+        ensures back { IfErr result (λ fault. IsBack store fault.store) }
+        ensures untouched { IfErr result (λ fault. fault.why ≢ BeginStop.Disk → site.new ≡ site.old) }
+        ensures told { IsTrue T.tells → (T.disk site.new).told ≡ (T.disk site.old).told }
+        ensures cause { IfErr result (λ fault. fault.why ≡ BeginStop.Disk → Rose (T.disk_faults site.old) (T.disk_faults site.new)) }
+        ensures disk_faults { OnOk result (T.disk_faults site.new ≡ T.disk_faults site.old) }
+        ensures told_faults { T.told_faults site.new ≡ T.told_faults site.old }
+        ensures reads { T.reads site.new ≤ T.reads site.old + 1 }
+        ensures writes { T.writes site.new ≤ T.writes site.old + 1 }
+    {
+        let mut store = store;
+        match prepare(alloc, &mut store, &facts) {
+            Ok(prepared) => shut_gate(site, store, prepared),
+            Err(why) => Err(BeginFault { store, why }),
+        }
+    }
+
+    /// The store without the batch. Its dictionaries hold the batch's names already, which slices do not know.
+    pub fn store(&self) -> &Store
+        ensures { result.now ≡ self.now.store }
+    {
+        &self.store
+    }
+
+    /// How many facts there will be.
+    pub fn facts(&self) -> u64
+        ensures { result ≡ self.now.next.facts }
+    {
+        self.next.facts
+    }
+
+    /// Merges the old trees with the points of the batch, writes the new ones on the other side, and commits them. It takes no memory. The
+    /// answer is the store of all facts; after a stop the store is gone, and the files are to be opened again.
+    ///
+    /// A stop at any moment leaves the facts without the batch or all of them. `Damaged` names the page at which the first damaged tree of
+    /// the live side is so, which is the tree's first page where its cells do not join with those of the batch.
+    pub fn finish<T: Site>(self, site: &mut T) -> Result<Store, RefreshStop>
+        requires ready { IsTrue T.tells → IsReady self (T.disk site.old) }
+
+        ensures finished { IsTrue T.tells → (accepted batch : List declared.Fact) → IsRefreshOf self accepted batch (T.disk site.old).files
+            → IfOk result (λ store. IsStoreOf store (accepted ++ batch) (T.disk site.new).files) }
+        ensures undamaged { IsTrue T.tells → (accepted batch : List declared.Fact) → IsRefreshOf self accepted batch (T.disk site.old).files
+            → IfErr result IsNoDamage }
+        ensures any_moment { IsTrue T.tells → (accepted batch : List declared.Fact) → IsRefreshOf self accepted batch (T.disk site.old).files
+            → LeavesOnly (T.disk site.old) (T.disk site.new) (λ told files.
+            (told ≡ (T.disk site.old).told) × KeepsEither self.store.forest.schema accepted (accepted ++ batch) files) }
+        ensures writes { IsTrue T.tells → (accepted batch : List declared.Fact) → IsRefreshOf self accepted batch (T.disk site.old).files
+            → T.writes site.new ≤ T.writes site.old + (page_count self.store.forest.schema (accepted ++ batch) + 3) }
+
+        // Whatever the files hold.
+        ensures damaged { IsTrue T.tells → IfErr result (TellsFirstDamage self.store.forest (T.disk site.old).files self.deltas) }
+        ensures place { IfErr result (NamesPageIn self.store.forest.body self.store.forest.schema) }
+        ensures opened { IsTrue T.tells → IfOk result (λ store. IsOpened store.forest.body (T.disk site.new)) }
+        ensures schema { IfOk result (λ store. store.forest.schema ≡ self.store.forest.schema) }
+        ensures generation { IfOk result (λ store. store.forest.body.generation ≡ self.store.forest.body.generation + 1) }
+        ensures whole { IfOk result IsWhole }
+        ensures told { IsTrue T.tells → (T.disk site.new).told ≡ (T.disk site.old).told }
+        ensures cause { HasCauseWhere RefreshStop.Disk (T.disk_faults site.old) (T.disk_faults site.new) result }
+        ensures told_faults { T.told_faults site.new ≡ T.told_faults site.old }
+        ensures reads { T.reads site.new ≤ T.reads site.old + page_total self.store.forest.body self.store.forest.schema }
+    {
+        let Refresh {
+            store,
+            deltas,
+            names,
+            next,
+            mut room,
+        } = self;
+        let counts = write_trees(site, &store.forest, &deltas, slot(&next), &mut room)?;
+        let next = Body { counts, ..next };
+        match commit(site, store, &names, next) {
+            Ok(store) => Ok(store),
+            Err(Fault) => Err(RefreshStop::Disk),
+        }
+    }
+
+    /// Drops the batch and its names, without a call on a file.
+    pub fn abandon(self) -> Store
+        ensures store { (accepted batch : List declared.Fact) (files : Files) → IsRefreshOf self accepted batch files → IsStoreOf result accepted files }
+        ensures forest { result.forest ≡ self.store.forest }
+        ensures whole { IsWhole result }
+    {
+        let Refresh { store, .. } = self;
+        without_batch(store)
+    }
+}
+
+/// Shuts the gate of the next generation for what was prepared.
+fn shut_gate<T: Site>(site: &mut T, store: Store, prepared: Prepared) -> Result<Refresh, BeginFault>
+    requires begun { IsBegun (begun_with store prepared) }
+    requires room { HasRoom store.forest prepared.deltas (vec_capacity prepared.room.before) (vec_capacity prepared.room.merged) (vec_capacity prepared.room.rows) }
+    requires opened { IsTrue T.tells → IsOpened store.forest.body (T.disk site.old) }
+
+    ensures begun { IfOk result (λ refresh. refresh ≡ begun_with store prepared) }
+    ensures live { IsTrue T.tells → (accepted : List declared.Fact) → IsLive store.forest.schema store.forest.body accepted (T.disk site.old).files
+        → OnOk result (IsLive store.forest.schema store.forest.body accepted (T.disk site.new).files) }
+    ensures any_moment { IsTrue T.tells → (accepted : List declared.Fact) → IsLive store.forest.schema store.forest.body accepted (T.disk site.old).files
+        → LeavesOnly (T.disk site.old) (T.disk site.new) (λ told files.
+        (told ≡ (T.disk site.old).told) × KeepsFacts store.forest.schema accepted files) }
+    ensures ready { IsTrue T.tells → OnOk result (IsReady (begun_with store prepared) (T.disk site.new)) }
+    ensures others { IsTrue T.tells → (file : ℕ) → file ≢ 0 → (T.disk site.new).files file ≡ (T.disk site.old).files file }
+    ensures back { IfErr result (λ fault. IsCut store fault.store) }
+    ensures why { IfErr result (λ fault. fault.why ≡ BeginStop.Disk) }
+    ensures told { IsTrue T.tells → (T.disk site.new).told ≡ (T.disk site.old).told }
+    ensures cause { HasCause (T.disk_faults site.old) (T.disk_faults site.new) result }
+    ensures told_faults { T.told_faults site.new ≡ T.told_faults site.old }
+    ensures reads { T.reads site.new ≤ T.reads site.old + 1 }
+    ensures writes { T.writes site.new ≤ T.writes site.old + 1 }
+{
+    match forest_commit::begin(site, slot(&prepared.next)) {
+        Ok(()) => Ok(Refresh {
+            store,
+            deltas: prepared.deltas,
+            names: prepared.names,
+            next: prepared.next,
+            room: prepared.room,
+        }),
+        Err(Fault) => Err(BeginFault {
+            store: without_batch(store),
+            why: BeginStop::Disk,
+        }),
+    }
+}
+
+/// The store with the names alone that slices know.
+fn without_batch(store: Store) -> Store
+    requires { (a : ℕ) → slice_index store.shown.at a ≤ length (names_at store.dicts a) }
+    ensures cut { IsCut store result }
+    ensures whole { IsWhole result }
+{
+    let mut store = store;
+    let shown = store.shown;
+    store.dicts.forget(&shown);
+    store
+}
