@@ -83,6 +83,13 @@ module _ (r : Begun) (new : Disk) (warehouse : Warehouse) (batch : List Fact) (i
   one_begins [] some = absurd (omega (arith, some))
   one_begins (x ∷ xs) some = refl
 
+  -- so it begins
+  pub does_begin : costs.begins (idle warehouse) (begun_or_refused (idle warehouse) warehouse batch).0 ≡ 0 → ⊥
+  does_begin none =
+      let one : costs.begins (idle warehouse) (begun_or_refused (idle warehouse) warehouse batch).0 ≡ 1 =
+      ap (λ (a : Answer). costs.begins (idle warehouse) a.0) now_begun ∙ one_begins batch is.some in
+      omega (arith, none, one)
+
   -- which one write tells
   pub begun_writes : (result : Result Answered Stop) (old now : ℕ) → now ≤ old + 1
       → OnOk result (now ≤ old + costs.begins (idle warehouse) (begun_or_refused (idle warehouse) warehouse batch).0)
@@ -108,6 +115,12 @@ back_belongs store back disk warehouse same is = record {
 -- a refusal has a limit as its cause
 pub no_fault : (schema : Schema) (why : BeginStop) (text : List ℕ) → refusal_text schema why ≡ Some text → why ≡ begins.Disk → ⊥
 no_fault schema why text refused is = let none : refusal_text schema begins.Disk ≡ Some text = subst (λ (w : BeginStop). refusal_text schema w ≡ Some text) is refused in absurd (cc)
+
+-- a batch that is refused has made no call
+pub refused_silent : (schema : Schema) (why : BeginStop) (result : Result Answered Stop) (old new : ℕ) → IfOk result (λ done. refusal_text schema why ≡ Some done.reply.items)
+    → ((why ≡ begins.Disk → ⊥) → new ≡ old) → OnOk result (new ≡ old)
+refused_silent schema why (Ok done) old new text same = same (no_fault schema why done.reply.items text)
+refused_silent schema why (Err stop) old new text same = tt
 
 module _ (store back : Store) (old new : Disk) (warehouse : Warehouse) (batch : List Fact) (why : BeginStop) (is : Belongs store old warehouse)
     (each : All (Agrees store.forest.schema) batch) (limit : TellsLimit store.forest.schema (warehouse.facts ++ batch) why)

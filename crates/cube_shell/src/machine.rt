@@ -46,6 +46,9 @@ pub fn act<T: Site>(
     ensures unwritten { IsTrue T.tells → (world : World) → Stands state (T.disk site.old) world
         → (act world command).0.kept ≡ world.kept
         → OnOk result (T.writes site.new ≤ T.writes site.old + begins world (act world command).0) }
+    ensures silent { IsTrue T.tells → (world : World) → Stands state (T.disk site.old) world
+        → (act world command).0.kept ≡ world.kept → begins world (act world command).0 ≡ 0
+        → OnOk result (T.writes site.new ≡ T.writes site.old) }
     ensures running { IfOk result (λ done. IsRunning done.state) }
     ensures fit { IsTrue T.tells → IfOk result (λ done. IsFit done.state (T.disk site.new)) }
     ensures told { IsTrue T.tells → (T.disk site.new).told ≡ (T.disk site.old).told }

@@ -41,6 +41,8 @@ pub fn begin<T: Site>(
     ensures damage { IfErr result IsNoDamage }
     ensures unwritten { IsTrue T.tells → (world : World) → Stands state (T.disk site.old) world
         → OnOk result (T.writes site.new ≤ T.writes site.old + begins world (begin world block).0) }
+    ensures silent { IsTrue T.tells → (world : World) → Stands state (T.disk site.old) world
+        → begins world (begin world block).0 ≡ 0 → OnOk result (T.writes site.new ≡ T.writes site.old) }
     ensures running { IfOk result (λ done. IsRunning done.state) }
     ensures fit { IsTrue T.tells → IfOk result (λ done. IsFit done.state (T.disk site.new)) }
     ensures told { IsTrue T.tells → (T.disk site.new).told ≡ (T.disk site.old).told }
@@ -74,6 +76,8 @@ fn begin_block<T: Site>(
     ensures damage { IfErr result IsNoDamage }
     ensures unwritten { IsTrue T.tells → (warehouse : Warehouse) → Belongs store (T.disk site.old) warehouse
         → OnOk result (T.writes site.new ≤ T.writes site.old + begins (idle warehouse) (begin (idle warehouse) block).0) }
+    ensures silent { IsTrue T.tells → (warehouse : Warehouse) → Belongs store (T.disk site.old) warehouse
+        → begins (idle warehouse) (begin (idle warehouse) block).0 ≡ 0 → OnOk result (T.writes site.new ≡ T.writes site.old) }
     ensures running { IfOk result (λ done. IsRunning done.state) }
     ensures fit { IsTrue T.tells → IfOk result (λ done. IsFit done.state (T.disk site.new)) }
     ensures told { IsTrue T.tells → (T.disk site.new).told ≡ (T.disk site.old).told }
@@ -108,6 +112,9 @@ fn begin_batch<T: Site>(
     ensures damage { IfErr result IsNoDamage }
     ensures unwritten { IsTrue T.tells → (warehouse : Warehouse) → Belongs store (T.disk site.old) warehouse
         → OnOk result (T.writes site.new ≤ T.writes site.old + begins (idle warehouse) (begun_or_refused (idle warehouse) warehouse batch).0) }
+    ensures silent { IsTrue T.tells → (warehouse : Warehouse) → Belongs store (T.disk site.old) warehouse
+        → begins (idle warehouse) (begun_or_refused (idle warehouse) warehouse batch).0 ≡ 0
+        → OnOk result (T.writes site.new ≡ T.writes site.old) }
     ensures running { IfOk result (λ done. IsRunning done.state) }
     ensures fit { IsTrue T.tells → IfOk result (λ done. IsFit done.state (T.disk site.new)) }
     ensures told { IsTrue T.tells → (T.disk site.new).told ≡ (T.disk site.old).told }

@@ -106,6 +106,9 @@ impl Session {
         ensures unwritten { IsTrue T.tells → (world : World) → Stands self.old.state (T.disk site.old) world
             → (act world command).0.kept ≡ world.kept
             → OnOk result (T.writes site.new ≤ T.writes site.old + begins world (act world command).0) }
+        ensures silent { IsTrue T.tells → (world : World) → Stands self.old.state (T.disk site.old) world
+            → (act world command).0.kept ≡ world.kept → begins world (act world command).0 ≡ 0
+            → OnOk result (T.writes site.new ≡ T.writes site.old) }
         ensures stopped { OnErr result (self.new.state ≡ State.Stopped) }
         ensures running { OnOk result (IsRunning self.new.state) }
         ensures fit { IsTrue T.tells → OnOk result (IsFit self.new.state (T.disk site.new)) }

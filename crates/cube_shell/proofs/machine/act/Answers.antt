@@ -21,6 +21,10 @@ pub returns-in-Schema-clause-unwritten : goal.returns-in-Schema-clause-unwritten
 returns-in-Schema-clause-unwritten g c = λ t world is stays.
     no_more c.declare.result _ _ _ (c.declare.ensures.unwritten t world is (sym (ap (λ (a : Answer). a.0.kept) (ap (act world) c.in-Schema.is ∙ act_schema world _)) ∙ stays))
 
+pub returns-in-Schema-clause-silent : goal.returns-in-Schema-clause-silent
+returns-in-Schema-clause-silent g c = λ t world is stays none.
+    c.declare.ensures.unwritten t world is (sym (ap (λ (a : Answer). a.0.kept) (ap (act world) c.in-Schema.is ∙ act_schema world _)) ∙ stays)
+
 pub returns-in-Load-clause-answer : goal.returns-in-Load-clause-answer
 returns-in-Load-clause-answer g c = λ t world is.
     answers_as c.load.result _ _ _ (sym (ap (act world) c.in-Load.is ∙ act_load world _)) (c.load.ensures.answer t world is)
@@ -32,6 +36,10 @@ returns-in-Load-clause-any_moment g c = λ t world is.
 pub returns-in-Load-clause-unwritten : goal.returns-in-Load-clause-unwritten
 returns-in-Load-clause-unwritten g c = λ t world is stays.
     no_more c.load.result _ _ _ (c.load.ensures.unwritten t world is (sym (ap (λ (a : Answer). a.0.kept) (ap (act world) c.in-Load.is ∙ act_load world _)) ∙ stays))
+
+pub returns-in-Load-clause-silent : goal.returns-in-Load-clause-silent
+returns-in-Load-clause-silent g c = λ t world is stays none.
+    c.load.ensures.unwritten t world is (sym (ap (λ (a : Answer). a.0.kept) (ap (act world) c.in-Load.is ∙ act_load world _)) ∙ stays)
 
 pub returns-in-Slice-clause-answer : goal.returns-in-Slice-clause-answer
 returns-in-Slice-clause-answer g c = λ t world is.
@@ -112,6 +120,10 @@ returns-in-Begin-clause-unwritten g c = λ t world is stays.
     subst (λ (a : Answer). OnOk c.begin.result (g.T.Site.writes c.begin.new.site ≤ g.T.Site.writes c.args.site.now + begins world a.0))
     (sym (ap (act world) c.in-Begin.is ∙ act_begin world _)) (c.begin.ensures.unwritten t world is)
 
+pub returns-in-Begin-clause-silent : goal.returns-in-Begin-clause-silent
+returns-in-Begin-clause-silent g c = λ t world is stays none.
+    c.begin.ensures.silent t world is (sym (ap (λ (a : Answer). begins world a.0) (ap (act world) c.in-Begin.is ∙ act_begin world _)) ∙ none)
+
 pub returns-in-Begin-clause-damage : goal.returns-in-Begin-clause-damage
 returns-in-Begin-clause-damage g c = λ t.
     subst (λ (k : Command). IfErr c.begin.result (TellsDamage c.args.state (g.T.Site.disk c.args.site.now).files k)) (sym c.in-Begin.is) c.begin.ensures.damage
@@ -139,6 +151,10 @@ returns-in-Finish-clause-any_moment g c = λ t world is.
 pub returns-in-Finish-clause-unwritten : goal.returns-in-Finish-clause-unwritten
 returns-in-Finish-clause-unwritten g c = λ t world is stays.
     no_more c.finish.result _ _ _ (c.finish.ensures.unwritten t world is (sym (ap (λ (a : Answer). a.0.kept) (ap (act world) c.in-Finish.is ∙ act_finish world)) ∙ stays))
+
+pub returns-in-Finish-clause-silent : goal.returns-in-Finish-clause-silent
+returns-in-Finish-clause-silent g c = λ t world is stays none.
+    c.finish.ensures.unwritten t world is (sym (ap (λ (a : Answer). a.0.kept) (ap (act world) c.in-Finish.is ∙ act_finish world)) ∙ stays)
 
 pub returns-in-Finish-clause-damage : goal.returns-in-Finish-clause-damage
 returns-in-Finish-clause-damage g c = λ t.

@@ -6,7 +6,7 @@ use Rattle.cube_shell.specs.World.{idle}
 use Rattle.cube_shell.proofs.Acts.{nothing_added}
 use Rattle.cube_shell.proofs.Answering.{answers, answers_as, quiet}
 use Rattle.cube_shell.proofs.Limits.{none_begun}
-use Rattle.cube_shell.proofs.Takings.{begin_attends, begin_moments, begun_answer, begun_writes, refused_answer}
+use Rattle.cube_shell.proofs.Takings.{begin_attends, begin_moments, begun_answer, begun_writes, does_begin, refused_answer, refused_silent}
 use Rattle.cube_shell.proofs.pending.begin_batch.Goals as goal
 
 pub returns-then-is_empty-clause-answer : goal.returns-then-is_empty-clause-answer
@@ -46,6 +46,21 @@ returns-in-Ok-clause-unwritten g c = λ t warehouse is.
     let attends = begin_attends c.args.store old new warehouse c.args.batch is c.in-Ok.refresh c.in-Ok.ensures.forest
     (c.in-Ok.ensures.begun t warehouse.facts is.stored) some (c.in-Ok.ensures.ready t).opened.stable in
     begun_writes c.in-Ok.refresh new warehouse c.args.batch attends c.plain-in-Ok.result _ _ c.begin.ensures.writes
+
+pub returns-in-Ok-clause-silent : goal.returns-in-Ok-clause-silent
+returns-in-Ok-clause-silent g c = λ t warehouse is none.
+    let old = g.T.Site.disk c.args.site.now in
+    let new = g.T.Site.disk c.begin.new.site in
+    let slice = c.as_slice.ensures in
+    let some : 0 < length c.args.batch = grind (arith, nat_tests, ap length slice) in
+    let attends = begin_attends c.args.store old new warehouse c.args.batch is c.in-Ok.refresh c.in-Ok.ensures.forest
+    (c.in-Ok.ensures.begun t warehouse.facts is.stored) some (c.in-Ok.ensures.ready t).opened.stable in
+    absurd (does_begin c.in-Ok.refresh new warehouse c.args.batch attends none)
+
+pub returns-in-Err-clause-silent : goal.returns-in-Err-clause-silent
+returns-in-Err-clause-silent g c = λ t warehouse is none.
+    refused_silent c.in-Err.fault.store.forest.schema c.in-Err.fault.why c.refuse.result (g.T.Site.writes c.args.site.now) (g.T.Site.writes c.begin.new.site) c.refuse.ensures.reply
+    (λ apart. ap g.T.Site.writes (c.in-Err.ensures.untouched apart))
 
 pub returns-in-Err-clause-answer : goal.returns-in-Err-clause-answer
 returns-in-Err-clause-answer g c = λ t warehouse is.
