@@ -78,6 +78,10 @@ deltas_of schema all batch = deltas_by (names_of all) schema batch
 abbrev pub IsWholeFor : Forest → Files → ℕ → List Entry → Type 0
 IsWholeFor forest files t delta = (es : List Entry) × IsTreeIn forest files t es × AllJoin es delta
 
+-- all trees are, each for the points added to it
+abbrev pub AreAllWhole : Forest → Files → List (List Entry) → Type 0
+AreAllWhole forest files deltas = (t : ℕ) → t < length forest.mapping.trees → IsWholeFor forest files t (get_or deltas t [])
+
 -- the tree is damaged at this page for these points: it is damaged there whatever they are; or it is whole, but not all its cells that meet
 -- theirs join, and it is the tree's first page
 abbrev pub IsDamagedFor : Forest → Files → ℕ → List Entry → ℕ → Type 0

@@ -19,7 +19,7 @@ ghost use Rattle.forest_refresh.specs.Limits.{TellsLimit};
 ghost use Rattle.forest_refresh.specs.Prepared.{begun_with};
 ghost use Rattle.forest_refresh.specs.Refreshed.{IsNoDamage, KeepsEither, NamesPageIn};
 ghost use Rattle.forest_refresh.specs.Rooms.{HasRoom};
-ghost use Rattle.forest_refresh.specs.Trees.{TellsFirstDamage, deltas_by};
+ghost use Rattle.forest_refresh.specs.Trees.{AreAllWhole, TellsFirstDamage, deltas_by};
 
 use crate::committing::commit;
 use crate::preparing::{Prepared, prepare};
@@ -120,8 +120,9 @@ impl Refresh {
     /// Merges the old trees with the points of the batch, writes the new ones on the other side, and commits them. It takes no memory. The
     /// answer is the store of all facts; after a stop the store is gone, and the files are to be opened again.
     ///
-    /// A stop at any moment leaves the facts without the batch or all of them. `Damaged` names the page at which the first damaged tree of
-    /// the live side is so, which is the tree's first page where its cells do not join with those of the batch.
+    /// A stop at any moment leaves the facts without the batch or all of them. `Damaged` comes exactly where a tree of the live side is
+    /// damaged, unless a file fails before. It names the page at which the first of them is so, which is the tree's first page where its
+    /// cells do not join with those of the batch.
     pub fn finish<T: Site>(self, site: &mut T) -> Result<Store, RefreshStop>
         requires ready { IsTrue T.tells → IsReady self (T.disk site.old) }
 
@@ -136,11 +137,14 @@ impl Refresh {
             → T.writes site.new ≤ T.writes site.old + (page_count self.store.forest.schema (accepted ++ batch) + 3) }
 
         // Whatever the files hold.
+        ensures joined { IsTrue T.tells → OnOk result (AreAllWhole self.store.forest (T.disk site.old).files self.deltas) }
         ensures damaged { IsTrue T.tells → IfErr result (TellsFirstDamage self.store.forest (T.disk site.old).files self.deltas) }
         ensures place { IfErr result (NamesPageIn self.store.forest.body self.store.forest.schema) }
         ensures opened { IsTrue T.tells → IfOk result (λ store. IsOpened store.forest.body (T.disk site.new)) }
         ensures schema { IfOk result (λ store. store.forest.schema ≡ self.store.forest.schema) }
         ensures generation { IfOk result (λ store. store.forest.body.generation ≡ self.store.forest.body.generation + 1) }
+        ensures facts { IfOk result (λ store. store.forest.body.facts ≡ self.next.facts) }
+        ensures names { IfOk result (λ store. store.dicts ≡ self.store.dicts) }
         ensures whole { IfOk result IsWhole }
         ensures told { IsTrue T.tells → (T.disk site.new).told ≡ (T.disk site.old).told }
         ensures cause { HasCauseWhere RefreshStop.Disk (T.disk_faults site.old) (T.disk_faults site.new) result }
@@ -165,6 +169,7 @@ impl Refresh {
     /// Drops the batch and its names, without a call on a file.
     pub fn abandon(self) -> Store
         ensures store { (accepted batch : List declared.Fact) (files : Files) → IsRefreshOf self accepted batch files → IsStoreOf result accepted files }
+        ensures cut { IsCut self.store result }
         ensures forest { result.forest ≡ self.store.forest }
         ensures whole { IsWhole result }
     {

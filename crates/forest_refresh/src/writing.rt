@@ -20,7 +20,7 @@ ghost use Rattle.forest_store.specs.Sides.{page_count, page_total};
 ghost use Rattle.forest_refresh.specs.Next.{HasNumbers};
 ghost use Rattle.forest_refresh.specs.Refreshed.{IsNoDamage, NamesPageIn};
 ghost use Rattle.forest_refresh.specs.Rooms.{HasRoom};
-ghost use Rattle.forest_refresh.specs.Trees.{AreAdded, AreAllAdded, IsWholeFor, NamesPageOf, TellsDamageFor, TellsFirstDamage, by_arity, deltas_of};
+ghost use Rattle.forest_refresh.specs.Trees.{AreAdded, AreAllAdded, AreAllWhole, IsWholeFor, NamesPageOf, TellsDamageFor, TellsFirstDamage, by_arity, deltas_of};
 
 use crate::merging::{merged_tree, view_counts};
 use crate::reading::{ARITIES, counts};
@@ -74,6 +74,7 @@ pub(crate) fn write_trees<T: Site>(
     // Whatever the files hold: of no view more points than there are facts; or where the first tree is damaged.
     ensures few { (most : ℕ) → AreAllAdded forest.now most deltas.now
         → IfOk result (HasNumbers (length forest.now.schema.views) (forest.now.body.facts + most)) }
+    ensures joined { IsTrue T.tells → OnOk result (AreAllWhole forest.now (T.disk site.old).files deltas.now) }
     ensures damaged { IsTrue T.tells → IfErr result (TellsFirstDamage forest.now (T.disk site.old).files deltas.now) }
     ensures place { IfErr result (NamesPageIn forest.now.body forest.now.schema) }
     ensures disk { IsTrue T.tells → Changes (DiffersPast (2 + slot) 0) (T.disk site.old) (T.disk site.new) }

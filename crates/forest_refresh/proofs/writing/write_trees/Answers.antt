@@ -150,3 +150,7 @@ returns-clause-few g c = λ most are.
     subst (HasNumbers (length forest.schema.views) (forest.body.facts + most)) (sym (told g at))
     (has-numbers forest.schema.views c.loop-tree.room.rows.items (few_views forest.schema forest.lawful) (forest.body.facts + most) c.loop-tree.tree
     (λ v lt. omega (arith, end g at, (selection forest).valid.within v lt)) (c.loop-tree.invariant.few most are))
+
+pub returns-clause-joined : goal.returns-clause-joined
+returns-clause-joined g c = λ tells t lt.
+    c.loop-tree.invariant.joined tells t (omega (arith, lt, end g (goal.at.returns-clause-joined g c).After-view_counts))

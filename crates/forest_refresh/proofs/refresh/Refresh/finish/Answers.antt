@@ -3,7 +3,7 @@ use Rattle.forest_store.specs.Sides.{page_count}
 use Rattle.forest_refresh.specs.declared.refresh.Refresh.TheInside.{Inside}
 use Rattle.forest_refresh.specs.Begun.{Begun, IsReady, IsRefreshOf, batch_size}
 use Rattle.forest_refresh.specs.Refreshed.{IsNoDamage}
-use Rattle.forest_refresh.specs.Trees.{TellsFirstDamage}
+use Rattle.forest_refresh.specs.Trees.{AreAllWhole, TellsFirstDamage}
 use Rattle.forest_refresh.proofs.Finishes.{body_of_all, damage_by, either_by, few_facts, next_with, on_side, still_live, store_of, then_committed, while_written}
 use Rattle.forest_refresh.proofs.Ready.{err_if, err_then, more_names}
 use Rattle.forest_refresh.proofs.refresh.Refresh.finish.Goals as goal
@@ -64,6 +64,10 @@ returns-in-Ok-clause-finished g c = λ t accepted batch was.
     (body_of_all r begun accepted batch old.files is c.in_ok-counts.counts (c.in_ok-counts.ensures.counts t accepted batch is.accepted is.all is.live is.deltas))
     (more_names schema accepted batch r.entries is.entries)
     (on_side schema (accepted ++ batch) c.slot.result _ mid.files c.slot.ensures (c.in_ok-counts.ensures.written t accepted batch is.accepted is.all is.live is.deltas)))
+
+pub returns-in-Ok-clause-joined : goal.returns-in-Ok-clause-joined
+returns-in-Ok-clause-joined g c = λ t.
+    subst (λ (r : Begun). AreAllWhole r.store.forest (g.T.Site.disk c.args.site.now).files r.deltas) c.self.view_is (c.in_ok-counts.ensures.joined t)
 
 pub returns-in-Ok-clause-any_moment : goal.returns-in-Ok-clause-any_moment
 returns-in-Ok-clause-any_moment g c = λ t accepted batch was.
