@@ -4,11 +4,11 @@ use Rattle.std.proofs.lemmas.List.{get_or_past}
 use Rattle.std.proofs.lemmas.List.FromFn.{get_or-map-range_with_len, length-map-range_with_len}
 use Rattle.std.proofs.lemmas.Bool.{cases_lt}
 use Rattle.std.proofs.lemmas.Nat.{mod_below}
+use Rattle.draws.specs.Draw.{draw}
 use Rattle.site_core.specs.Disk.{Files}
 use Rattle.site_core.proofs.Files.{with_file-other}
 use Rattle.site_mem.specs.declared.step.Step.{Step}
 use Rattle.site_mem.specs.declared.step.Step.TheVariants.{Wrote, Tore, Synced, Told, Untold}
-use Rattle.site_mem.specs.Draw.{draw}
 use Rattle.site_mem.specs.History.{texts_of, read_after, MayLeave}
 use Rattle.site_mem.specs.Image.{pictured, filled_files, drawn_files, drawn_file, drawn_length, state_behind, state_before}
 use Rattle.site_mem.specs.Unstable.{stable_after, reach, stable, is_unstable, full_length, IsOutcome}

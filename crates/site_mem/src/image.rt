@@ -3,14 +3,14 @@ ghost use Rattle.std.specs.Prelude.{◌≡◌, ◌<◌, ◌+◌, ◌%◌, ◌^�
 ghost use Rattle.site_mem.specs.History.{files_of, texts_of};
 ghost use Rattle.site_mem.specs.Unstable.{is_torn, reach};
 
-use crate::draw::Draws;
 use crate::step::Step;
 use crate::tape::Tape;
+use draws::Draws;
 use fact_model::{Memory, Text};
 use std::alloc::Global;
 
 impl Tape {
-    ghost use Rattle.site_mem.specs.Draw.{draw, next_state};
+    ghost use Rattle.draws.specs.Draw.{draw, next_state};
     ghost use Rattle.site_mem.specs.Tape.{tape_disk, tape_stable, tape_unstable, tape_full, tape_byte};
     ghost use Rattle.site_mem.specs.Tape.{tape_filled, tape_drawn, tape_drawn_length, tape_drawn_file, tape_state_behind};
 

@@ -1,5 +1,5 @@
 use Rattle.std.proofs.Common.{◌≡◌, ◌+◌, ◌%◌}
-use Rattle.site_mem.specs.Draw.{draw, state_after}
+use Rattle.draws.specs.Draw.{draw, state_after}
 use Rattle.site_mem.specs.Image.{pictured, unstable_below}
 use Rattle.site_mem.specs.Tape.{tape_first, tape_steps}
 use Rattle.site_mem.proofs.tape.Tape.drawn.Given as goal

@@ -1,7 +1,7 @@
 use Rattle.std.proofs.Common.{◌*◌, ◌/◌, ◌^◌, ap}
 use Rattle.std.proofs.Math.Nat.{mod-add-mod}
-use Rattle.site_mem.specs.Draw.{next_state, draw}
-use Rattle.site_mem.proofs.draw.Draws.draw.Goals as goal
+use Rattle.draws.specs.Draw.{next_state, draw}
+use Rattle.draws.proofs.draw.Draws.draw.Goals as goal
 
 pub returns-clause-value : goal.returns-clause-value
 unfolding next_state draw

@@ -1,4 +1,4 @@
--- The generator that draws images.
+-- The states of the generator, and the numbers drawn.
 use Rattle.std.specs.Prelude.{ℕ, zero, suc, ◌+◌, ◌*◌, ◌/◌, ◌%◌, ◌^◌}
 
 -- a draw replaces the state by this
