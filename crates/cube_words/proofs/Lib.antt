@@ -1,0 +1,4 @@
+pub mod NoWords
+mod CacheApp
+mod CacheReads
+mod DefaultReads
