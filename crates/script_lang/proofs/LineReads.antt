@@ -1,9 +1,9 @@
 -- A reading that goes on by one line, or by what is there of it.
-use Rattle.std.proofs.Common.{◌≡◌, ◌<◌, ◌≤◌, ◌≢◌, ℕ, ◌+◌, Bool, true, false, cond, Option, List, [], ◌∷◌, ◌++◌, length, take, drop, sym, ◌∙◌, ap, subst, append-nil, arith, option_to_list, drop-drop, length-drop, Result, Ok, Err, OnErr, IfOk}
+use Rattle.std.proofs.Common.{◌≡◌, ◌<◌, ◌≤◌, ◌≢◌, ℕ, ◌+◌, Bool, true, false, cond, Option, List, [], ◌∷◌, ◌++◌, length, take, drop, sym, ◌∙◌, ap, subst, append-nil, arith, option_to_list, drop-drop, length-drop, length-take-le, Result, Ok, Err, OnErr, IfOk}
 use Rattle.script_lang.specs.declared.command.Command.{Command}
 use Rattle.script_lang.specs.Script.{lines_from, after_line, commands_in}
 use Rattle.script_lang.specs.Place.{Place}
-use Rattle.script_lang.specs.Reading.{Reading, commands_from, to_come, whole_with, ready}
+use Rattle.script_lang.specs.Reading.{Reading, unread_in, IsBuffer, commands_from, to_come, whole_with, ready}
 use Rattle.script_lang.proofs.Feeds.{to_feed, line_goes_on, feed_there}
 
 pub on_err : {T E : Type 0} (r : Result T E) (P : Type 0) → P → OnErr r P
@@ -13,12 +13,15 @@ on_err (Err e) P p = p
 abbrev pub reading : Bool → Place → List ℕ → Reading
 reading over place rest = record { over = over; place = place; rest = rest }
 
-module _ (now : Reading) (over : Bool) (place next : Place) (fed slice rest front : List ℕ) (at count : ℕ)
-    (view : reading over place (drop at fed) ≡ now) (all : slice ≡ fed) (rest_is : rest ≡ drop at slice)
+module _ (now : Reading) (over : Bool) (place next : Place) (buffer slice rest front : List ℕ) (at end count : ℕ)
+    (view : reading over place (unread_in at end buffer) ≡ now) (all : slice ≡ buffer) (rest_is : rest ≡ unread_in at end slice)
     (to : count ≡ to_feed rest) (front_is : front ≡ take count rest)
     (extended : next ≡ record { block = place.block; line = place.line ++ front }) where
+  abbrev pub fed : List ℕ
+  fed = take end buffer
+
   left : rest ≡ drop at fed
-  left = rest_is ∙ ap (λ (l : List ℕ). drop at l) all
+  left = rest_is ∙ ap (unread_in at end) all
 
   went_on : (ends : Bool) (more : List ℕ)
       → commands_from ends place (rest ++ more) ≡ commands_from ends next (drop count rest ++ more)
@@ -50,14 +53,13 @@ module _ (now : Reading) (over : Bool) (place next : Place) (fed slice rest fron
   pub moved_whole : (more : List ℕ) → whole_with now more ≡ whole_with (reading over next (drop (at + count) fed)) more
   moved_whole more = ap (λ (r : Reading). whole_with r more) (sym view) ∙ from false more
 
-  module _ (length_is : ℕ) (is_length : length_is ≡ length fed) (inside : at + count ≢ length_is)
-      (fits : count ≤ length rest) (within : at ≤ length fed)
+  module _ (inside : at + count ≢ end) (fits : count ≤ length rest) (window : IsBuffer at end buffer)
       (last : Place) (command : Option Command) (gives : command ≡ (after_line next.block next.line).0)
       (is : last ≡ record { block = (after_line next.block next.line).1; line = [] }) where
     there : drop (at + count) fed ≡ 10 ∷ drop (at + count + 1) fed
     there =
         let lt : to_feed rest < length rest = omega
-        (arith, inside, is_length, to, fits, within, ap length left, length-drop at fed) in
+        (arith, inside, to, fits, ap length left, length-drop at fed, length-take-le end buffer window.within) in
         let at_feed : drop count rest
         ≡ 10 ∷ drop (count + 1) rest = subst (λ k. drop k rest ≡ 10 ∷ drop (k + 1) rest) (sym to)
         (feed_there rest lt) in

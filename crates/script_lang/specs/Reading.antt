@@ -1,5 +1,5 @@
 -- A script that is being read: which commands are still to come.
-use Rattle.std.specs.Prelude.{ℕ, Bool, true, false, cond, List, [], ◌++◌, ◌≡◌, Option, None, option_to_list}
+use Rattle.std.specs.Prelude.{ℕ, ◌≤◌, Bool, true, false, cond, List, [], ◌++◌, ◌≡◌, length, take, drop, Option, None, option_to_list}
 use Rattle.script_lang.specs.declared.command.Command.{Command}
 use Rattle.script_lang.specs.Script.{lines_from, commands_in}
 use Rattle.script_lang.specs.Place.{Place}
@@ -11,6 +11,17 @@ pub record Reading : Type 0 where
   pub place : Place
   -- the bytes that were fed and not looked at
   pub rest : List ℕ
+
+-- the bytes of a buffer that were fed and not looked at: of those before an end, those from a place on
+abbrev pub unread_in : ℕ → ℕ → List ℕ → List ℕ
+unread_in at end buffer = drop at (take end buffer)
+
+-- a buffer with a place and an end in it
+pub record IsBuffer (at end : ℕ) (buffer : List ℕ) : Type 0 where
+  -- no more is looked at than was fed
+  pub fed : at ≤ end
+  -- no more was fed than the buffer has
+  pub within : end ≤ length buffer
 
 abbrev pub nothing_read : Reading
 nothing_read = record { over = false; place = record { block = None; line = [] }; rest = [] }

@@ -40,3 +40,10 @@ pub fn after(bytes: &[u8], place: usize) -> &[u8]
 {
     bytes.get(place..).unwrap_or(&[])
 }
+
+/// The bytes from a place on, up to another, or none.
+pub fn between(bytes: &[u8], place: usize, end: usize) -> &[u8]
+    ensures { result.now ≡ drop place (take end bytes.now) }
+{
+    after(front(bytes, end), place)
+}

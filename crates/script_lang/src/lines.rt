@@ -1,14 +1,15 @@
 //! The commands of a script that is fed in pieces.
-ghost use Rattle.std.specs.Prelude.{◌≡◌, ◌==◌, ◌<◌, [], true, false, IfOk, IfSome, OnOk, OnErr, length, None};
+ghost use Rattle.std.specs.Prelude.{◌≡◌, ◌==◌, ◌<◌, ◌≤◌, [], true, false, IfOk, IfSome, OnOk, OnErr, length, take, vec_len, None};
 ghost use Rattle.script_lang.specs.Script.{KeepsLimit};
 ghost use Rattle.script_lang.specs.Reading.{nothing_read, with_more, Gives, IsFirstReady, IsFirstWhole, StillToCome, StillReady, ready};
 
 use crate::command::Command;
-use crate::cuts::{after, front, place_of};
+use crate::cuts::{between, front, place_of};
 use crate::reader::Reader;
 use fact_model::Memory;
 use std::alloc::Global;
 use std::marker::Model;
+use std::mem;
 
 /// A script that is fed in pieces, and gives its commands one after the other. Each byte is looked at once, except after want
 /// of memory.
@@ -17,19 +18,20 @@ pub struct Lines {
     alloc: Global,
     over: bool,
     reader: Reader,
+    // The buffer of what was fed last. Of its bytes those before `end` count, and of these those before `at` are read.
     fed: Vec<u8>,
     at: usize,
+    end: usize,
 }
 
 impl Model for Lines {
-    ghost use Rattle.std.specs.Prelude.{◌≤◌, length, drop};
-    ghost use Rattle.script_lang.specs.Reading.{Reading};
+    ghost use Rattle.script_lang.specs.Reading.{Reading, unread_in, IsBuffer};
 
     ghost Value = { Reading };
 
-    ghost view = { λ l. record { over = l.over; place = l.reader; rest = drop l.at l.fed.items } };
+    ghost view = { λ l. record { over = l.over; place = l.reader; rest = unread_in l.at l.end l.fed.items } };
 
-    ghost invariant = { λ l. l.at ≤ length l.fed.items };
+    ghost invariant = { λ l. IsBuffer l.at l.end l.fed.items };
 }
 
 impl Lines {
@@ -43,6 +45,7 @@ impl Lines {
             reader: Reader::new(alloc),
             fed: Vec::new(alloc),
             at: 0,
+            end: 0,
         }
     }
 
@@ -53,17 +56,44 @@ impl Lines {
         ensures err { OnErr result (self.new ≡ self.old) }
     {
         self.forget_read();
-        Ok(self.fed.extend_from_slice(piece)?)
+        self.fed.truncate(self.end);
+        self.fed.extend_from_slice(piece)?;
+        self.end = self.fed.len();
+        Ok(())
     }
 
-    /// Empties the buffer, where all of it is read.
+    /// Begins at the front of the buffer again, where all that counts is read.
     fn forget_read(&mut self)
         ensures { self.new ≡ self.old }
     {
-        if self.at == self.fed.len() {
-            self.fed.clear();
+        if self.at == self.end {
             self.at = 0;
+            self.end = 0;
         }
+    }
+
+    /// Appends the first so many bytes of a buffer, as `feed` does, but keeps the buffer itself and copies none of its bytes. It
+    /// takes no memory.
+    pub fn take_over(&mut self, buffer: Vec<u8>, count: usize)
+        requires goes_on { self.old.over ≡ false }
+        requires read { self.old.rest ≡ [] }
+        requires within { count ≤ vec_len buffer }
+        ensures { self.new ≡ with_more self.old (take count buffer.items) }
+    {
+        self.fed = buffer;
+        self.at = 0;
+        self.end = count;
+    }
+
+    /// Gives back the buffer that was taken over or fed last, so that the next piece needs no other; an empty one where there is
+    /// none. It takes no memory.
+    pub fn give_back(&mut self) -> Vec<u8>
+        requires read { self.old.rest ≡ [] }
+        ensures { self.new ≡ self.old }
+    {
+        self.at = 0;
+        self.end = 0;
+        mem::replace(&mut self.fed, Vec::new(self.alloc))
     }
 
     /// Tells that the script is over. It takes no memory.
@@ -82,6 +112,7 @@ impl Lines {
         ensures ready { IfOk result (IsFirstReady self.old self.new) }
         ensures whole { self.old.over ≡ false → IfOk result (IsFirstWhole self.old self.new) }
         ensures none { IfOk result (λ command. command ≡ None → ready self.new ≡ []) }
+        ensures read { IfOk result (λ command. command ≡ None → self.new.rest ≡ []) }
         ensures kept { OnErr result (StillToCome self.old self.new) }
         ensures kept_ready { OnErr result (StillReady self.old self.new) }
     {
@@ -102,7 +133,7 @@ impl Lines {
     fn is_read(&self) -> bool
         ensures { result ≡ (length self.now.rest == 0) }
     {
-        self.at == self.fed.len()
+        self.at == self.end
     }
 
     /// Reads to the end of a line, or to the end of what was fed.
@@ -117,11 +148,11 @@ impl Lines {
         ensures kept { OnErr result (StillToCome self.old self.new) }
         ensures kept_ready { OnErr result (StillReady self.old self.new) }
     {
-        let rest = after(self.fed.as_slice(), self.at);
+        let rest = between(self.fed.as_slice(), self.at, self.end);
         let count = place_of(b'\n', rest);
         self.reader.extend(front(rest, count))?;
         self.at += count;
-        if self.at == self.fed.len() {
+        if self.at == self.end {
             return Ok(None);
         }
         let command = self.reader.end_line(self.alloc)?;
@@ -138,6 +169,7 @@ impl Lines {
         ensures fits { IfOk result (λ command. IfSome command KeepsLimit) }
         ensures ready { IfOk result (IsFirstReady self.old self.new) }
         ensures none { IfOk result (λ command. command ≡ None → ready self.new ≡ []) }
+        ensures read { self.new.rest ≡ [] }
         ensures kept { OnErr result (StillToCome self.old self.new) }
         ensures kept_ready { OnErr result (StillReady self.old self.new) }
     {
