@@ -1,5 +1,5 @@
 -- Two laws of the plain machine: each reply has a byte, and a command that makes no stage leaves what is known.
-use Rattle.std.proofs.Common.{◌⊎◌, inl, inr, ◌≡◌, ◌<◌, ℕ, ◌+◌, Bool, true, false, cond, List, [], ◌∷◌, ◌++◌, length, map, Option, Some, None, Result, Ok, Err, refl, ◌∙◌, ap, append-nil, arith, length-append, codes, decimal, nat_lt, nat_le}
+use Rattle.std.proofs.Common.{◌≡◌, ◌<◌, ℕ, ◌+◌, Bool, true, false, cond, List, [], ◌∷◌, ◌++◌, length, map, Option, Some, None, Result, Ok, Err, refl, ◌∙◌, ap, append-nil, arith, length-append, codes, decimal, nat_lt, nat_le}
 use Rattle.std.proofs.lemmas.Bool.Decides.{nat_tests}
 use Rattle.cube_schema.specs.declared.schema.Schema.{Schema}
 use Rattle.cube_schema.specs.declared.schema.SchemaRefusal.{SchemaRefusal}
@@ -7,7 +7,8 @@ use Rattle.cube_schema.specs.declared.schema.SchemaRefusal.TheVariants as schema
 use Rattle.cube_schema.specs.Reading.{schema_of}
 use Rattle.fact_csv.specs.Batch.{batch_of}
 use Rattle.fact_csv.specs.declared.refusal.RowRefusal.{RowRefusal}
-use Rattle.fact_csv.specs.declared.refusal.RowRefusal.TheVariants as rows
+use Rattle.fact_csv.specs.declared.refusal.RowRefusal.TheVariants as refusals
+use Rattle.fact_gen.specs.Generated.{generated}
 use Rattle.fact_model.specs.declared.fact.Fact.{Fact}
 use Rattle.fact_model.specs.declared.slice.Row.{Row}
 use Rattle.fact_model.specs.declared.slice.Slice.{Slice}
@@ -17,12 +18,14 @@ use Rattle.script_lang.specs.declared.command.Block.{Block}
 use Rattle.script_lang.specs.declared.command.Block.TheVariants.{Whole, Long}
 use Rattle.script_lang.specs.declared.command.Command.{Command}
 use Rattle.script_lang.specs.declared.command.Command.TheVariants as says
+use Rattle.cube_shell.specs.declared.batch.BatchSource.{BatchSource}
+use Rattle.cube_shell.specs.declared.batch.BatchSource.TheVariants.{Rows, Generator}
 use Rattle.cube_shell.specs.World.{Kept, World, Warehouse, idle}
 use Rattle.reply_text.specs.Replies.{line, numbered, schema_text, batch_text, slice_text, answer_text}
 use Rattle.slice_lang.specs.declared.refusal.SliceRefusal.{SliceRefusal}
 use Rattle.slice_lang.specs.declared.refusal.SliceRefusal.TheVariants as slices
 use Rattle.slice_lang.specs.Reading.{slice_of}
-use Rattle.cube_shell.specs.Machine.{Answer, abandon, accepted, act, begin, begun, begun_or_refused, block_read, committed, declare, declare_over, declared, fact_limit, facts_or_refusal, finish, first_full, first_heavy, full_refusal, heavy_refusal, is_covered, load, pending_over, read_by, refusal_of, replies_with, rows_reply, slice, slice_over, slice_reply, status_over, status_text, step, take_over, unless}
+use Rattle.cube_shell.specs.Machine.{Answer, abandon, accepted, act, batch_from, begin, begun, begun_or_refused, block_read, committed, declare, declare_over, declared, fact_limit, facts_or_refusal, finish, first_full, first_heavy, full_refusal, heavy_refusal, is_covered, load, pending_over, read_by, refusal_of, replies_with, rows_reply, slice, slice_over, slice_reply, status_over, status_text, step, take_over, unless}
 use Rattle.cube_shell.specs.Headline.{size, makes_stage}
 
 -- ---- replies have a byte
@@ -49,11 +52,11 @@ schema_some schemas.NoView = some_line (codes "refused schema no view")
 schema_some schemas.Memory = some_line []
 
 batch_some : (refusal : RowRefusal) → 0 < length (batch_text refusal)
-batch_some rows.Rows = some_line (codes "refused rows")
-batch_some (rows.Fields row) = behind (codes "refused row ") _ (behind (decimal row) _ (some_line (codes " fields")))
-batch_some (rows.Number row field) = behind (codes "refused row ") _ (behind (decimal row) _ (some_number (codes " number ") field))
-batch_some (rows.Long row field) = behind (codes "refused row ") _ (behind (decimal row) _ (some_number (codes " long ") field))
-batch_some rows.Memory = some_line []
+batch_some refusals.Rows = some_line (codes "refused rows")
+batch_some (refusals.Fields row) = behind (codes "refused row ") _ (behind (decimal row) _ (some_line (codes " fields")))
+batch_some (refusals.Number row field) = behind (codes "refused row ") _ (behind (decimal row) _ (some_number (codes " number ") field))
+batch_some (refusals.Long row field) = behind (codes "refused row ") _ (behind (decimal row) _ (some_number (codes " long ") field))
+batch_some refusals.Memory = some_line []
 
 declared_some : (world : World) (read : Result Schema SchemaRefusal) → 0 < length (declared world read).1
 declared_some world (Err refusal) = schema_some refusal
@@ -111,11 +114,20 @@ block_some : (world : World) (taken : List Fact → Answer) (schema : Schema) (b
 block_some world taken schema Long each = some_line (codes "refused block")
 block_some world taken schema (Whole bytes) each = read_some world taken (batch_of schema bytes) each
 
-take_some : (world : World) (taken : Warehouse → List Fact → Answer) (kept : Kept) (pending : Option (List Fact)) (block : Block)
-    → ((warehouse : Warehouse) (batch : List Fact) → 0 < length (taken warehouse batch).1) → 0 < length (take_over world taken kept pending block).1
-take_some world taken None pending block each = some_line (codes "refused no schema")
-take_some world taken (Some warehouse) (Some batch) block each = some_line (codes "refused pending")
-take_some world taken (Some warehouse) None block each = block_some world (taken warehouse) warehouse.schema block (each warehouse)
+source_some : (world : World) (taken : List Fact → Answer) (schema : Schema) (source : BatchSource) → ((batch : List Fact) → 0 < length (taken batch).1)
+    → 0 < length (read_by world taken (batch_from schema source)).1
+source_some world taken schema (Rows block) each = block_some world taken schema block each
+source_some world taken schema (Generator start rows) each = by (nat_le rows 262144)
+  where
+    by : (b : Bool) → 0 < length (read_by world taken (cond b (Ok (generated schema start rows)) (Err (batch_text refusals.Rows)))).1
+    by true = each (generated schema start rows)
+    by false = batch_some refusals.Rows
+
+take_some : (world : World) (taken : Warehouse → List Fact → Answer) (kept : Kept) (pending : Option (List Fact)) (source : BatchSource)
+    → ((warehouse : Warehouse) (batch : List Fact) → 0 < length (taken warehouse batch).1) → 0 < length (take_over world taken kept pending source).1
+take_some world taken None pending source each = some_line (codes "refused no schema")
+take_some world taken (Some warehouse) (Some batch) source each = some_line (codes "refused pending")
+take_some world taken (Some warehouse) None source each = source_some world (taken warehouse) warehouse.schema source (each warehouse)
 
 pending_some : (world : World) (answer : Warehouse → List Fact → Answer) (kept : Kept) (pending : Option (List Fact))
     → ((warehouse : Warehouse) (batch : List Fact) → 0 < length (answer warehouse batch).1) → 0 < length (pending_over world answer kept pending).1
@@ -158,8 +170,9 @@ status_some (Some warehouse) (Some batch) =
 pub reply_some : (world : World) (command : Command) → 0 < length (act world command).1
 unfolding act
 reply_some world (says.Schema block) = declare_some world world.kept block
-reply_some world (says.Load block) = take_some world (accepted world) world.kept world.pending block (accepted_some world)
-reply_some world (says.Begin block) = take_some world (begun_or_refused world) world.kept world.pending block (begun_some world)
+reply_some world (says.Load block) = take_some world (accepted world) world.kept world.pending (Rows block) (accepted_some world)
+reply_some world (says.Generate start rows) = take_some world (accepted world) world.kept world.pending (Generator start rows) (accepted_some world)
+reply_some world (says.Begin block) = take_some world (begun_or_refused world) world.kept world.pending (Rows block) (begun_some world)
 reply_some world (says.Step n) = pending_some world _ world.kept world.pending (λ warehouse batch. some_line (codes "stepped"))
 reply_some world says.Finish = pending_some world committed world.kept world.pending committed_some
 reply_some world says.Abandon = pending_some world _ world.kept world.pending (λ warehouse batch. some_line (codes "abandoned"))
@@ -167,7 +180,6 @@ reply_some world (says.Slice text) = slice_some world.kept text
 reply_some world says.Status = status_some world.kept world.pending
 reply_some world says.LongLine = some_line (codes "refused long line")
 reply_some world says.OpenBlock = some_line (codes "refused open block")
-reply_some world (says.Generate start rows) = some_line (codes "refused unknown")
 reply_some world says.Unknown = some_line (codes "refused unknown")
 
 -- ---- stages
@@ -208,13 +220,13 @@ read_stage : (world : World) (kept : Kept) → world.kept ≡ kept → (taken : 
 read_stage world kept is taken (Err text) each = λ h. is
 read_stage world kept is taken (Ok batch) each = each batch
 
-take_stage : (world : World) (taken : Warehouse → List Fact → Answer) (kept : Kept) (pending : Option (List Fact)) → world.kept ≡ kept → (block : Block)
+take_stage : (world : World) (taken : Warehouse → List Fact → Answer) (kept : Kept) (pending : Option (List Fact)) → world.kept ≡ kept → (source : BatchSource)
     → ((warehouse : Warehouse) (batch : List Fact) → world.kept ≡ Some warehouse → StaysOrGrows (Some warehouse) (taken warehouse batch))
-    → StaysOrGrows kept (take_over world taken kept pending block)
-take_stage world taken None pending is block each = λ h. is
-take_stage world taken (Some warehouse) (Some batch) is block each = λ h. is
-take_stage world taken (Some warehouse) None is block each =
-    read_stage world (Some warehouse) is (taken warehouse) (block_read warehouse.schema block) (λ batch. each warehouse batch is)
+    → StaysOrGrows kept (take_over world taken kept pending source)
+take_stage world taken None pending is source each = λ h. is
+take_stage world taken (Some warehouse) (Some batch) is source each = λ h. is
+take_stage world taken (Some warehouse) None is source each =
+    read_stage world (Some warehouse) is (taken warehouse) (batch_from warehouse.schema source) (λ batch. each warehouse batch is)
 
 pending_stage : (world : World) (answer : Warehouse → List Fact → Answer) (kept : Kept) (pending : Option (List Fact)) → world.kept ≡ kept
     → ((warehouse : Warehouse) (batch : List Fact) → world.kept ≡ Some warehouse → StaysOrGrows (Some warehouse) (answer warehouse batch))
@@ -223,14 +235,18 @@ pending_stage world answer None pending is each = λ h. is
 pending_stage world answer (Some warehouse) None is each = λ h. is
 pending_stage world answer (Some warehouse) (Some batch) is each = each warehouse batch is
 
+load_stage : (world : World) (source : BatchSource) → StaysOrGrows world.kept (load world source)
+load_stage world source =
+    take_stage world (accepted world) world.kept world.pending refl source
+    (λ warehouse batch is. unless_stage world (Some warehouse) is (committed warehouse batch) (refusal_of warehouse.schema (warehouse.facts ++ batch)) (committed_stage warehouse batch))
+
 pub no_stage : (world : World) (command : Command) → makes_stage world command ≡ false → (act world command).0.kept ≡ world.kept
 unfolding act
 no_stage world (says.Schema block) = declare_stage world world.kept refl block
-no_stage world (says.Load block) =
-    take_stage world (accepted world) world.kept world.pending refl block
-    (λ warehouse batch is. unless_stage world (Some warehouse) is (committed warehouse batch) (refusal_of warehouse.schema (warehouse.facts ++ batch)) (committed_stage warehouse batch))
+no_stage world (says.Load block) = load_stage world (Rows block)
+no_stage world (says.Generate start rows) = load_stage world (Generator start rows)
 no_stage world (says.Begin block) =
-    take_stage world (begun_or_refused world) world.kept world.pending refl block
+    take_stage world (begun_or_refused world) world.kept world.pending refl (Rows block)
     (λ warehouse batch is. unless_stage world (Some warehouse) is (begun warehouse batch) (refusal_of warehouse.schema (warehouse.facts ++ batch)) (λ h. refl))
 no_stage world (says.Step n) = pending_stage world (λ warehouse batch. replies_with world (codes "stepped")) world.kept world.pending refl (λ warehouse batch is h. is)
 no_stage world says.Finish = pending_stage world committed world.kept world.pending refl (λ warehouse batch is. committed_stage warehouse batch)
@@ -239,7 +255,6 @@ no_stage world (says.Slice text) = λ h. refl
 no_stage world says.Status = λ h. refl
 no_stage world says.LongLine = λ h. refl
 no_stage world says.OpenBlock = λ h. refl
-no_stage world (says.Generate start rows) = λ h. refl
 no_stage world says.Unknown = λ h. refl
 
 -- ---- what each command does
@@ -248,9 +263,13 @@ pub act_schema : (world : World) (block : Block) → act world (says.Schema bloc
 unfolding act
 act_schema world block = refl
 
-pub act_load : (world : World) (block : Block) → act world (says.Load block) ≡ load world block
+pub act_load : (world : World) (block : Block) → act world (says.Load block) ≡ load world (Rows block)
 unfolding act
 act_load world block = refl
+
+pub act_generate : (world : World) (start rows : ℕ) → act world (says.Generate start rows) ≡ load world (Generator start rows)
+unfolding act
+act_generate world start rows = refl
 
 pub act_slice : (world : World) (text : List ℕ) → act world (says.Slice text) ≡ slice world text
 unfolding act
@@ -284,17 +303,6 @@ pub act_abandon : (world : World) → act world says.Abandon ≡ abandon world
 unfolding act
 act_abandon world = refl
 
-pub act_generate : (world : World) (start rows : ℕ) → act world (says.Generate start rows) ≡ replies_with world (codes "refused unknown")
-unfolding act
-act_generate world start rows = refl
-
 pub act_unknown : (world : World) → act world says.Unknown ≡ replies_with world (codes "refused unknown")
 unfolding act
 act_unknown world = refl
-
--- the command that is not known yet, and a line that is none
-pub act_others : (world : World) (command : Command)
-    → ((start : ℕ) × (rows : ℕ) × (command ≡ says.Generate start rows)) ⊎ (command ≡ says.Unknown)
-    → act world command ≡ replies_with world (codes "refused unknown")
-act_others world command (inl generate) = ap (act world) generate.2 ∙ act_generate world generate.0 generate.1
-act_others world command (inr is) = ap (act world) is ∙ act_unknown world

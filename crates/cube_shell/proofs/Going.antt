@@ -114,3 +114,7 @@ pub opened_moments : (old mid new : Disk) (w : World) (cs : List Command) → Re
 opened_moments old mid new w cs rests only run = joined old mid new (AfterRun w cs old)
     (each_moment Stays old mid (AfterRun w cs old) (λ told files left. inr (only told files left)) (λ told files same after. inr (same, subst old.may_leave (sym after.2) after.1)) rests)
     (wider mid new (AfterStop w cs mid.told) (AfterRun w cs old) (λ told files a. inl (subst (λ (l : List ℕ). AfterStop w cs l told files) rests.told a)) run)
+
+-- no file is opened
+pub unopened_moments : (d : Disk) (w : World) (cs : List Command) → OnlyNow d → LeavesOnly d d (AfterRun w cs d)
+unopened_moments d w cs only = started d (AfterRun w cs d) (λ told files left. inr (only told files left))

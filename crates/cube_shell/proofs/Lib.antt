@@ -1,6 +1,6 @@
 pub mod Acts
 pub mod Answering
-pub mod BlockReads
+pub mod BatchReads
 pub mod Commanded
 pub mod Declarings
 pub mod Going

@@ -37,20 +37,16 @@ module _ (old new into : List ℕ) (count : ℕ) (gives : Gives old new count in
     pub piece_left : script ≡ take (taken + count) script ++ new
     piece_left = all ∙ ap (λ (l : List ℕ). l ++ new) (sym front_is)
 
-    pub piece_taken : (buffer more : List ℕ) → buffer ≡ into
-        → take taken script ++ (take count buffer ++ more) ≡ take (taken + count) script ++ more
-    piece_taken buffer more same =
-        sym (append_assoc (take taken script) (take count buffer) more)
-        ∙ ap (λ (l : List ℕ). (take taken script ++ take count l) ++ more) same ∙ ap (λ (l : List ℕ). l ++ more) (sym front_is)
+    pub piece_taken : (more : List ℕ) → take taken script ++ (take count into ++ more) ≡ take (taken + count) script ++ more
+    piece_taken more = sym (append_assoc (take taken script) (take count into) more) ∙ ap (λ (l : List ℕ). l ++ more) (sym front_is)
 
-  -- the piece is still to be fed, and then what is left
-  pub piece_to_come : (reading : Reading) (buffer : List ℕ) → buffer ≡ into
-      → to_come reading old ≡ to_come reading (take count buffer ++ new)
-  piece_to_come reading buffer same = ap (to_come reading) (gives.bytes ∙ ap (λ (l : List ℕ). take count l ++ new) (sym same))
+  -- by the same reading, the piece is still to be fed, and then what is left
+  pub piece_to_come : (before reading : Reading) → reading ≡ before → to_come before old ≡ to_come reading (take count into ++ new)
+  piece_to_come before reading same = ap (λ (r : Reading). to_come r old) (sym same) ∙ ap (to_come reading) gives.bytes
 
   -- no piece, and so the end
-  pub end_to_come : (reading : Reading) → count ≡ 0 → to_come reading old ≡ to_come reading []
-  end_to_come reading none = ap (to_come reading) (gives.end none)
+  pub end_to_come : (before reading : Reading) → reading ≡ before → count ≡ 0 → to_come before old ≡ to_come reading []
+  end_to_come before reading same none = ap (λ (r : Reading). to_come r old) (sym same) ∙ ap (to_come reading) (gives.end none)
 
 -- where no command is whole, none is given
 pub none_given : (old new : Reading) (given : Option Command) (command : Command) → ready old ≡ []

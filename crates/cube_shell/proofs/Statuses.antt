@@ -1,5 +1,5 @@
 -- The statuses of stops.
-use Rattle.std.proofs.Common.{◌≡◌, sym, subst, Result, Ok, Err, OnOk, IfErr}
+use Rattle.std.proofs.Common.{◌≡◌, refl, sym, subst, Result, Ok, Err, OnOk, IfErr}
 use Rattle.std.specs.Result.{IsErrAnd, IsErrOf}
 use Rattle.site_core.specs.Disk.{Files}
 use Rattle.cube_shell.specs.declared.stop.Stop.{Stop}
@@ -8,7 +8,9 @@ use Rattle.cube_shell.specs.declared.status.Status.{Status}
 use Rattle.cube_shell.specs.declared.status.Status.TheVariants.{Done, Usage, Input, Disk, Output, Damaged, Memory, TooLong}
 use Rattle.forest_open.specs.Opening.{Place}
 use Rattle.cube_shell.specs.Damage.{StopsAt, EndsAt, EndsForBreak, TellsBreak}
-use Rattle.cube_shell.specs.Ends.{IsNoDamage, IsUndamaged, status_of}
+use Rattle.cube_shell.specs.Ends.{IsNoDamage, IsUndamaged, status_of, words_status}
+use Rattle.cube_words.specs.declared.words.WordsStop.{WordsStop}
+use Rattle.cube_words.specs.declared.words.WordsStop.TheVariants as words
 
 never_too_long : (stop : Stop) → status_of stop ≡ TooLong → ⊥
 never_too_long stops.Disk is = cc
@@ -20,6 +22,17 @@ never_too_long stops.Memory is = cc
 pub not_too_long : {A : Type 0} (r : Result A Status) (stop : Stop) → IsErrAnd r (λ status. status ≡ status_of stop) → IsErrOf r TooLong → ⊥
 not_too_long (Ok x) stop from is = cc
 not_too_long (Err e) stop from is = never_too_long stop cc
+
+never_input : (stop : Stop) → status_of stop ≡ Input → ⊥
+never_input stops.Disk is = cc
+never_input stops.Output is = cc
+never_input (stops.Damaged file offset) is = cc
+never_input stops.Memory is = cc
+
+-- nor is it a source that fails
+pub not_input : {A : Type 0} (r : Result A Status) (stop : Stop) → IsErrAnd r (λ status. status ≡ status_of stop) → IsErrOf r Input → ⊥
+not_input (Ok x) stop from is = cc
+not_input (Err e) stop from is = never_input stop cc
 
 ends_at : (place : Place) (stop : Stop) → StopsAt place stop → EndsAt place (status_of stop)
 ends_at place stops.Disk is = tt
@@ -71,3 +84,17 @@ none_told files TooLong is = tt
 pub none_told_as : {A : Type 0} (r : Result A Status) (files : Files) → IfErr r IsUndamaged → IfErr r (EndsForBreak files)
 none_told_as (Ok x) files is = tt
 none_told_as (Err e) files is = none_told files e is
+
+-- ---- words that are not taken
+
+-- what is so of both ends is so of the run
+pub ended_by_words : {A : Type 0} (P : Status → Type 0) (r : Result A Status) (stop : WordsStop) → IsErrAnd r (λ status. status ≡ words_status stop)
+    → (stop ≡ words.Usage → P Usage) → P Memory → IfErr r P × OnOk r ⊥
+ended_by_words P (Ok x) stop from usage memory = absurd from
+ended_by_words P (Err e) words.Usage from usage memory = (subst P (sym from) (usage refl), tt)
+ended_by_words P (Err e) words.Memory from usage memory = (subst P (sym from) memory, tt)
+
+-- an end that is another is not this one
+pub not_ended_so : {A : Type 0} (r : Result A Status) (status : Status) → IfErr r (λ e. e ≡ status → ⊥) → IsErrOf r status → ⊥
+not_ended_so (Ok x) status another is = cc
+not_ended_so (Err e) status another is = another cc

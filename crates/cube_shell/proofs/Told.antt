@@ -1,8 +1,6 @@
 -- Stops that tell no damage, and damage that a command tells.
 use Rattle.std.proofs.Common.{◌≡◌, ◌≢◌, ℕ, ◌+◌, ◌%◌, inl, inr, List, [], get_or, Result, Ok, Err, IfErr, sym, ◌∙◌, ap, subst, arith}
 use Rattle.site_core.specs.Disk.{Files}
-use Rattle.fact_csv.specs.Batch.{batch_of}
-use Rattle.fact_csv.specs.declared.refusal.RowRefusal.{RowRefusal}
 use Rattle.fact_model.specs.declared.fact.Fact.{Fact}
 use Rattle.fact_model.specs.declared.slice.Slice.{Slice}
 use Rattle.forest_root.specs.Forest.{place_of}
@@ -12,20 +10,21 @@ use Rattle.attr_dict.specs.Admitting.{names_with}
 use Rattle.forest_refresh.specs.Begun.{Begun}
 use Rattle.forest_refresh.specs.Trees.{AreGoodIn, IsDamagedFor, IsFirstBadIn, IsWholeFor, TellsFirstDamage, by_arity, deltas_by, entries_at}
 use Rattle.forest_refresh.specs.declared.stop.RefreshStop.TheVariants as refreshes
-use Rattle.script_lang.specs.declared.command.Block.{Block}
-use Rattle.script_lang.specs.declared.command.Block.TheVariants.{Whole, Long}
 use Rattle.script_lang.specs.declared.command.Command.{Command}
 use Rattle.script_lang.specs.declared.command.Command.TheVariants as says
 use Rattle.slice_lang.specs.Reading.{slice_of}
 use Rattle.slice_lang.specs.declared.refusal.SliceRefusal.{SliceRefusal}
 use Rattle.cube_shell.specs.declared.answered.Answered.{Answered}
+use Rattle.cube_shell.specs.declared.batch.BatchSource.{BatchSource}
+use Rattle.cube_shell.specs.declared.batch.BatchSource.TheVariants.{Rows, Generator}
 use Rattle.cube_shell.specs.declared.state.State.{State}
 use Rattle.cube_shell.specs.declared.state.State.TheVariants.{Stopped, Empty, Idle, Hollow, Pending}
 use Rattle.cube_shell.specs.declared.stop.Stop.{Stop}
 use Rattle.cube_shell.specs.declared.stop.Stop.TheVariants as stops
 use Rattle.cube_shell.specs.Ends.{IsNoDamage}
+use Rattle.cube_shell.specs.Machine.{batch_from}
 use Rattle.cube_shell.specs.Sliced.{TellsSliceDamage}
-use Rattle.cube_shell.specs.Told.{FinishTells, LoadTells, SliceTells, TellsBatchDamage, TellsBlockDamage, TellsDamage, TellsReadDamage, TellsRefreshDamage}
+use Rattle.cube_shell.specs.Told.{FinishTells, LoadTells, SliceTells, TellsBatchDamage, TellsDamage, TellsReadDamage, TellsRefreshDamage}
 
 -- ---- no damage is told
 
@@ -47,20 +46,16 @@ refresh_none r files stops.Output is = tt
 refresh_none r files (stops.Damaged file offset) is = absurd is
 refresh_none r files stops.Memory is = tt
 
-read_none : (kept : Store) (files : Files) (read : Result (List Fact) RowRefusal) (stop : Stop) → IsNoDamage stop → TellsReadDamage kept files read stop
+read_none : (kept : Store) (files : Files) (read : Result (List Fact) (List ℕ)) (stop : Stop) → IsNoDamage stop → TellsReadDamage kept files read stop
 read_none kept files (Ok batch) stop is = batch_none kept files batch stop is
-read_none kept files (Err refusal) stop is = is
+read_none kept files (Err text) stop is = is
 
-block_none : (kept : Store) (files : Files) (block : Block) (stop : Stop) → IsNoDamage stop → TellsBlockDamage kept files block stop
-block_none kept files (Whole bytes) stop is = read_none kept files (batch_of kept.forest.schema bytes) stop is
-block_none kept files Long stop is = is
-
-load_none : (state : State) (files : Files) (block : Block) (stop : Stop) → IsNoDamage stop → LoadTells state files block stop
-load_none Stopped files block stop is = is
-load_none Empty files block stop is = is
-load_none (Idle kept) files block stop is = block_none kept files block stop is
-load_none (Hollow kept) files block stop is = is
-load_none (Pending r) files block stop is = is
+load_none : (state : State) (files : Files) (source : BatchSource) (stop : Stop) → IsNoDamage stop → LoadTells state files source stop
+load_none Stopped files source stop is = is
+load_none Empty files source stop is = is
+load_none (Idle kept) files source stop is = read_none kept files (batch_from kept.forest.schema source) stop is
+load_none (Hollow kept) files source stop is = is
+load_none (Pending r) files source stop is = is
 
 finish_none : (state : State) (files : Files) (stop : Stop) → IsNoDamage stop → FinishTells state files stop
 finish_none Stopped files stop is = is
@@ -78,7 +73,8 @@ text_none (Pending r) files text stop is = slice_none r.store files (slice_of r.
 
 pub tells_none : (state : State) (files : Files) (command : Command) (stop : Stop) → IsNoDamage stop → TellsDamage state files command stop
 tells_none state files (says.Slice text) stop is = text_none state files text stop is
-tells_none state files (says.Load block) stop is = load_none state files block stop is
+tells_none state files (says.Load block) stop is = load_none state files (Rows block) stop is
+tells_none state files (says.Generate start rows) stop is = load_none state files (Generator start rows) stop is
 tells_none state files (says.Schema block) stop is = is
 tells_none state files says.Status stop is = is
 tells_none state files says.LongLine stop is = is
@@ -87,7 +83,6 @@ tells_none state files (says.Begin block) stop is = is
 tells_none state files (says.Step n) stop is = is
 tells_none state files says.Finish stop is = finish_none state files stop is
 tells_none state files says.Abandon stop is = is
-tells_none state files (says.Generate start rows) stop is = is
 tells_none state files says.Unknown stop is = is
 
 -- want of memory alone

@@ -7,6 +7,8 @@ use Rattle.forest_open.specs.declared.stop.OpenStop.{OpenStop}
 use Rattle.forest_open.specs.declared.stop.OpenStop.TheVariants as opens
 use Rattle.forest_refresh.specs.declared.stop.BeginStop.{BeginStop}
 use Rattle.forest_refresh.specs.declared.stop.BeginStop.TheVariants as begins
+use Rattle.cube_words.specs.declared.words.WordsStop.{WordsStop}
+use Rattle.cube_words.specs.declared.words.WordsStop.TheVariants as words
 use Rattle.forest_refresh.specs.declared.stop.RefreshStop.{RefreshStop}
 use Rattle.forest_refresh.specs.declared.stop.RefreshStop.TheVariants as refreshes
 use Rattle.cube_shell.specs.declared.stop.Stop.{Stop}
@@ -106,11 +108,21 @@ begin_stop begins.FactsFull = stops.Memory
 begin_stop (begins.NamesFull a) = stops.Memory
 begin_stop (begins.Mass m) = stops.Memory
 
+abbrev pub words_status : WordsStop → Status
+words_status words.Usage = Usage
+words_status words.Memory = Memory
+
 abbrev pub status_of : Stop → Status
 status_of stops.Disk = Disk
 status_of stops.Output = Output
 status_of (stops.Damaged file offset) = Damaged file offset
 status_of stops.Memory = Memory
+
+-- the words were not taken, unless memory ran out
+abbrev pub IsUsageOrMemory : Status → Type 0
+IsUsageOrMemory Usage = Unit {0}
+IsUsageOrMemory Memory = Unit {0}
+IsUsageOrMemory _ = ⊥
 
 -- the run was completed, unless memory ran out
 abbrev pub IsDoneOrMemory : Status → Type 0

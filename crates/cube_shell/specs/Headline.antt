@@ -8,7 +8,7 @@ use Rattle.cube_shell.specs.declared.status.Status.TheVariants.{Done}
 use Rattle.script_lang.specs.Script.{commands, whole}
 use Rattle.script_lang.specs.declared.command.Command.{Command}
 use Rattle.cube_shell.specs.Machine.{act}
-use Rattle.cube_shell.specs.World.{Kept, World, bare}
+use Rattle.cube_shell.specs.World.{Kept, World}
 use Rattle.cube_shell.specs.Keeps.{Keeps}
 
 -- the replies to all commands, joined
@@ -101,3 +101,9 @@ pub record LeftOff (now : Disk) (world : World) (script : List ℕ) (limit : ℕ
   pub within : looked_at ≤ limit
   pub last_pull : limit < looked_at + 65536
   pub finished : Finished now world (whole (take looked_at script)) before
+
+-- A run whose source failed: the commands that are whole in the bytes that it gave were carried out, and their replies told.
+pub record CutOff (now : Disk) (world : World) (script left before : List ℕ) : Type 0 where
+  pub given : List ℕ
+  pub cut : script ≡ given ++ left
+  pub finished : Finished now world (whole given) before

@@ -9,6 +9,8 @@ use Rattle.cube_schema.specs.Reading.{schema_of}
 use Rattle.view_points.specs.Codes.{names_of}
 use Rattle.fact_csv.specs.Batch.{batch_of}
 use Rattle.fact_csv.specs.declared.refusal.RowRefusal.{RowRefusal}
+use Rattle.fact_csv.specs.declared.refusal.RowRefusal.TheVariants as refusals
+use Rattle.fact_gen.specs.Generated.{generated}
 use Rattle.fact_model.specs.declared.fact.Fact.{Fact}
 use Rattle.fact_model.specs.declared.slice.Slice.{Slice}
 use Rattle.fact_model.specs.Fact.{mass, mass_limit}
@@ -17,7 +19,9 @@ use Rattle.script_lang.specs.declared.command.Block.{Block}
 use Rattle.script_lang.specs.declared.command.Block.TheVariants.{Whole, Long}
 use Rattle.script_lang.specs.declared.command.Command.{Command}
 use Rattle.script_lang.specs.declared.command.Command.TheVariants as says
-use Rattle.cube_shell.specs.World.{Kept, World, Warehouse, bare, idle, begun_with}
+use Rattle.cube_shell.specs.declared.batch.BatchSource.{BatchSource}
+use Rattle.cube_shell.specs.declared.batch.BatchSource.TheVariants.{Rows, Generator}
+use Rattle.cube_shell.specs.World.{Kept, World, Warehouse, idle, begun_with}
 use Rattle.reply_text.specs.Replies.{line, committed_text, facts_text, pending_text, schema_text, batch_text, full_text, mass_text, slice_text, answer_text}
 use Rattle.slice_lang.specs.declared.refusal.SliceRefusal.{SliceRefusal}
 use Rattle.slice_lang.specs.Reading.{slice_of}
@@ -54,7 +58,7 @@ declare_over world None (Whole bytes) = declared world (schema_of bytes)
 abbrev pub declare : World → Block → Answer
 declare world block = declare_over world world.kept block
 
--- ---- load and begin
+-- ---- load, generate and begin
 
 -- the name of the first of these measures, the first of which is measure m, whose mass passes the limit
 abbrev pub first_heavy : ℕ → List (List ℕ) → List Fact → Option (List ℕ)
@@ -111,22 +115,32 @@ abbrev pub block_read : Schema → Block → Result (List Fact) (List ℕ)
 block_read schema Long = Err (line (codes "refused block"))
 block_read schema (Whole bytes) = facts_or_refusal (batch_of schema bytes)
 
+-- so many facts are made from a start, unless they are too many for a batch
+abbrev pub generated_within : Schema → ℕ → ℕ → Result (List Fact) (List ℕ)
+generated_within schema start rows = cond (nat_le rows 262144) (Ok (generated schema start rows)) (Err (batch_text refusals.Rows))
+
+-- the facts of a batch, or the refusal
+abbrev pub batch_from : Schema → BatchSource → Result (List Fact) (List ℕ)
+batch_from schema (Rows block) = block_read schema block
+batch_from schema (Generator start rows) = generated_within schema start rows
+
 -- the facts are taken so
 abbrev pub read_by : World → (List Fact → Answer) → Result (List Fact) (List ℕ) → Answer
 read_by world taken (Err text) = (world, text)
 read_by world taken (Ok batch) = taken batch
 
--- a block of facts is taken so, where a schema is declared and no batch is pending
-abbrev pub take_over : World → (Warehouse → List Fact → Answer) → Kept → Option (List Fact) → Block → Answer
-take_over world taken None pending block = replies_with world (codes "refused no schema")
-take_over world taken (Some warehouse) (Some batch) block = replies_with world (codes "refused pending")
-take_over world taken (Some warehouse) None block = read_by world (taken warehouse) (block_read warehouse.schema block)
+-- a batch is taken so, where a schema is declared and no batch is pending
+abbrev pub take_over : World → (Warehouse → List Fact → Answer) → Kept → Option (List Fact) → BatchSource → Answer
+take_over world taken None pending source = replies_with world (codes "refused no schema")
+take_over world taken (Some warehouse) (Some batch) source = replies_with world (codes "refused pending")
+take_over world taken (Some warehouse) None source = read_by world (taken warehouse) (batch_from warehouse.schema source)
 
-abbrev pub load : World → Block → Answer
-load world block = take_over world (accepted world) world.kept world.pending block
+-- the batch of a block, or of the generator
+abbrev pub load : World → BatchSource → Answer
+load world source = take_over world (accepted world) world.kept world.pending source
 
 abbrev pub begin : World → Block → Answer
-begin world block = take_over world (begun_or_refused world) world.kept world.pending block
+begin world block = take_over world (begun_or_refused world) world.kept world.pending (Rows block)
 
 -- ---- step, finish and abandon
 
@@ -183,7 +197,8 @@ status_text world = status_over world.kept world.pending
 -- what is known behind a command, and the reply
 unfoldable pub act : World → Command → Answer
 act world (says.Schema block) = declare world block
-act world (says.Load block) = load world block
+act world (says.Load block) = load world (Rows block)
+act world (says.Generate start rows) = load world (Generator start rows)
 act world (says.Begin block) = begin world block
 act world (says.Step n) = step world
 act world says.Finish = finish world
@@ -192,5 +207,4 @@ act world (says.Slice text) = slice world text
 act world says.Status = (world, status_text world)
 act world says.LongLine = replies_with world (codes "refused long line")
 act world says.OpenBlock = replies_with world (codes "refused open block")
-act world (says.Generate start rows) = replies_with world (codes "refused unknown")
 act world says.Unknown = replies_with world (codes "refused unknown")

@@ -2,7 +2,7 @@
 #![tactic(auto)]
 
 mod answered;
-mod blocks;
+mod batch;
 mod committing;
 mod declaring;
 mod loading;

@@ -1,4 +1,4 @@
-//! The command `load`.
+//! The commands `load` and `generate`.
 ghost use Rattle.std.specs.Prelude.{◌≡◌, IsTrue, OnOk, IfOk, IfErr, Some};
 ghost use Rattle.std.specs.List.{All};
 ghost use Rattle.cube_schema.specs.Agreeing.{Agrees};
@@ -9,11 +9,11 @@ ghost use Rattle.cube_shell.specs.Ends.{IsNoDamage, StopCause, begin_stop};
 ghost use Rattle.cube_shell.specs.Machine.{accepted, load};
 ghost use Rattle.cube_shell.specs.Refusals.{refusal_text};
 ghost use Rattle.cube_shell.specs.Session.{Belongs, Between, IsAnswer, IsFit, IsRunning, Stands};
-ghost use Rattle.cube_shell.specs.Told.{LoadTells, TellsBatchDamage, TellsBlockDamage};
+ghost use Rattle.cube_shell.specs.Told.{LoadTells, TellsBatchDamage, TellsSourceDamage};
 ghost use Rattle.cube_shell.specs.World.{Warehouse, World, idle};
 
 use crate::answered::{Answered, plain};
-use crate::blocks::{Read, read_block};
+use crate::batch::{BatchSource, Read, read_source};
 use crate::committing::{acknowledge, commit};
 use crate::state::State;
 use crate::stop::Stop;
@@ -21,29 +21,28 @@ use cube_schema::Schema;
 use fact_model::FactList;
 use forest_refresh::{BeginFault, BeginStop, Refresh};
 use forest_root::Store;
-use script_lang::Block;
 use site_core::Site;
 use std::alloc::Global;
 
-/// Takes in the facts of a block, or refuses them.
+/// Takes in a batch, or refuses it.
 pub fn load<T: Site>(
     alloc: Global,
     state: State,
-    block: Block,
+    source: BatchSource,
     site: &mut T,
 ) -> Result<Answered, Stop>
     requires running { IsRunning state }
     requires fit { IsTrue T.tells → IsFit state (T.disk site.old) }
 
     ensures answer { IsTrue T.tells → (world : World) → Stands state (T.disk site.old) world
-        → IfOk result (IsAnswer (T.disk site.new) (load world block)) }
+        → IfOk result (IsAnswer (T.disk site.new) (load world source)) }
     ensures any_moment { IsTrue T.tells → (world : World) → Stands state (T.disk site.old) world
-        → Between (T.disk site.old) (T.disk site.new) world (load world block).0 }
+        → Between (T.disk site.old) (T.disk site.new) world (load world source).0 }
     ensures undamaged { IsTrue T.tells → (world : World) → Stands state (T.disk site.old) world
         → IfErr result IsNoDamage }
-    ensures damage { IsTrue T.tells → IfErr result (LoadTells state (T.disk site.old).files block) }
+    ensures damage { IsTrue T.tells → IfErr result (LoadTells state (T.disk site.old).files source) }
     ensures unwritten { IsTrue T.tells → (world : World) → Stands state (T.disk site.old) world
-        → (load world block).0.kept ≡ world.kept → OnOk result (T.writes site.new ≡ T.writes site.old) }
+        → (load world source).0.kept ≡ world.kept → OnOk result (T.writes site.new ≡ T.writes site.old) }
 
     ensures running { IfOk result (λ done. IsRunning done.state) }
     ensures fit { IsTrue T.tells → IfOk result (λ done. IsFit done.state (T.disk site.new)) }
@@ -55,31 +54,31 @@ pub fn load<T: Site>(
     match state {
         State::Stopped => Err(Stop::Memory),
         State::Empty => plain(alloc, State::Empty, "refused no schema"),
-        State::Idle(store) => load_block(alloc, store, block, site),
+        State::Idle(store) => load_source(alloc, store, source, site),
         State::Hollow(store) => plain(alloc, State::Hollow(store), "refused pending"),
         State::Pending(refresh) => plain(alloc, State::Pending(refresh), "refused pending"),
     }
 }
 
-/// Takes in the facts of a block by the schema, or refuses them.
-fn load_block<T: Site>(
+/// Takes in a batch by the schema, or refuses it.
+fn load_source<T: Site>(
     alloc: Global,
     store: Store,
-    block: Block,
+    source: BatchSource,
     site: &mut T,
 ) -> Result<Answered, Stop>
     requires whole { IsWhole store }
     requires fit { IsTrue T.tells → IsOpened store.forest.body (T.disk site.old) }
 
     ensures answer { IsTrue T.tells → (warehouse : Warehouse) → Belongs store (T.disk site.old) warehouse
-        → IfOk result (IsAnswer (T.disk site.new) (load (idle warehouse) block)) }
+        → IfOk result (IsAnswer (T.disk site.new) (load (idle warehouse) source)) }
     ensures any_moment { IsTrue T.tells → (warehouse : Warehouse) → Belongs store (T.disk site.old) warehouse
-        → Between (T.disk site.old) (T.disk site.new) (idle warehouse) (load (idle warehouse) block).0 }
+        → Between (T.disk site.old) (T.disk site.new) (idle warehouse) (load (idle warehouse) source).0 }
     ensures undamaged { IsTrue T.tells → (warehouse : Warehouse) → Belongs store (T.disk site.old) warehouse
         → IfErr result IsNoDamage }
-    ensures damage { IsTrue T.tells → IfErr result (TellsBlockDamage store (T.disk site.old).files block) }
+    ensures damage { IsTrue T.tells → IfErr result (TellsSourceDamage store (T.disk site.old).files source) }
     ensures unwritten { IsTrue T.tells → (warehouse : Warehouse) → Belongs store (T.disk site.old) warehouse
-        → (load (idle warehouse) block).0.kept ≡ Some warehouse → OnOk result (T.writes site.new ≡ T.writes site.old) }
+        → (load (idle warehouse) source).0.kept ≡ Some warehouse → OnOk result (T.writes site.new ≡ T.writes site.old) }
 
     ensures running { IfOk result (λ done. IsRunning done.state) }
     ensures fit { IsTrue T.tells → IfOk result (λ done. IsFit done.state (T.disk site.new)) }
@@ -88,7 +87,7 @@ fn load_block<T: Site>(
     ensures disk_faults { OnOk result (T.disk_faults site.new ≡ T.disk_faults site.old) }
     ensures told_faults { T.told_faults site.new ≡ T.told_faults site.old }
 {
-    match read_block(alloc, &store.forest.schema, block)? {
+    match read_source(alloc, &store.forest.schema, source)? {
         Read::Batch(batch) => take_in(alloc, store, batch, site),
         Read::Refused(reply) => Ok(Answered {
             state: State::Idle(store),

@@ -9,6 +9,7 @@ ghost use Rattle.cube_shell.specs.Told.{TellsDamage};
 ghost use Rattle.cube_shell.specs.World.{World};
 
 use crate::answered::{Answered, plain};
+use crate::batch::BatchSource;
 use crate::declaring::declare;
 use crate::loading::load;
 use crate::pending::{abandon, begin, finish, step};
@@ -62,7 +63,11 @@ pub fn act<T: Site>(
         Command::Load(block) => {
             // No page is kept over a commit.
             pages.clear();
-            load(alloc, state, block, site)
+            load(alloc, state, BatchSource::Rows(block), site)
+        }
+        Command::Generate { start, rows } => {
+            pages.clear();
+            load(alloc, state, BatchSource::Generator { start, rows }, site)
         }
         Command::Slice(text) => slice(alloc, pages, state, text.as_bytes(), site),
         Command::Status => status(alloc, state),
@@ -75,7 +80,7 @@ pub fn act<T: Site>(
         Command::Abandon => abandon(alloc, state, site),
         Command::LongLine => plain(alloc, state, "refused long line"),
         Command::OpenBlock => plain(alloc, state, "refused open block"),
-        Command::Generate { .. } | Command::Unknown => plain(alloc, state, "refused unknown"),
+        Command::Unknown => plain(alloc, state, "refused unknown"),
     }
 }
 

@@ -12,7 +12,7 @@ ghost use Rattle.cube_shell.specs.Told.{FinishTells};
 ghost use Rattle.cube_shell.specs.World.{Warehouse, World, idle};
 
 use crate::answered::{Answered, plain};
-use crate::blocks::{Read, read_block};
+use crate::batch::{Read, read_block};
 use crate::committing::{acknowledge, commit};
 use crate::loading::refuse;
 use crate::state::State;

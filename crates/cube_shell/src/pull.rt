@@ -7,11 +7,22 @@ use crate::status::Status;
 use site_core::Source;
 use std::alloc::{AllocError, Global};
 
-/// Room for one piece, which has 65,536 bytes.
-pub fn room(alloc: Global) -> Result<Vec<u8>, AllocError>
-    ensures { IfOk result (λ bytes. vec_len bytes ≡ 65536) }
+/// The most bytes of a piece.
+const LONGEST_PIECE: usize = 65_536;
+
+/// Room for a piece of at most so many bytes: in this buffer, where it has any room, so that no piece but the first takes memory.
+pub fn room(alloc: Global, mut buffer: Vec<u8>, most: usize) -> Result<Vec<u8>, AllocError>
+    requires { 0 < most }
+    ensures some { IfOk result (λ bytes. 0 < vec_len bytes) }
+    ensures piece { IfOk result (λ bytes. vec_len bytes ≤ 65536) }
+    ensures most { IfOk result (λ bytes. vec_len bytes ≤ most) }
 {
-    vec![in alloc; 0u8; 65_536]
+    let count = most.min(LONGEST_PIECE);
+    if buffer.is_empty() {
+        return vec![in alloc; 0u8; count];
+    }
+    buffer.truncate(count);
+    Ok(buffer)
 }
 
 /// Pulls a piece of at most as many bytes as there is room for, and answers how many came: none only at the end of the script.

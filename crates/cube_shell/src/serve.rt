@@ -1,10 +1,10 @@
 //! The commands of a script, carried out one after the other while its pieces come.
-ghost use Rattle.std.specs.Prelude.{◌≡◌, ◌≤◌, ◌+◌, ◌^◌, ◌↔◌, ◌++◌, ℕ, List, [], false, IsTrue, OnOk, IfErr, IsErrOf};
+ghost use Rattle.std.specs.Prelude.{◌≡◌, ◌≤◌, ◌+◌, ◌^◌, ◌↔◌, ◌++◌, ℕ, List, [], false, IsTrue, OnOk, IfErr, IsErrOf, take, vec_len};
 ghost use Rattle.site_core.specs.Moments.{LeavesOnly};
 ghost use Rattle.script_lang.specs.Reading.{nothing_read, ready, to_come, whole_with};
 ghost use Rattle.script_lang.specs.Script.{commands};
 ghost use Rattle.cube_shell.specs.Ends.{EndCause, StopCause, Stayed, IsNoDamage, IsUndamaged, faults};
-ghost use Rattle.cube_shell.specs.Headline.{AfterStop, Finished, LeftOff};
+ghost use Rattle.cube_shell.specs.Headline.{AfterStop, CutOff, Finished, LeftOff};
 ghost use Rattle.cube_shell.specs.Pulls.{Gave, GaveAtMost};
 ghost use Rattle.cube_shell.specs.Session.{IsFit, IsRunning, Onward, Stands};
 ghost use Rattle.cube_shell.specs.World.{World};
@@ -42,6 +42,9 @@ pub fn serve<S: Source, T: Site>(
         → (IsErrOf result Status.TooLong ↔ Gave (S.left source.old) (S.left source.new) (limit + 1)) }
     ensures left_off { IsTrue S.tells → IsTrue T.tells → (world : World) → Stands session.old.state (T.disk site.old) world
         → IsErrOf result Status.TooLong → LeftOff (T.disk site.new) world (S.left source.old) limit (T.disk site.old).told }
+    ensures cut_off { IsTrue S.tells → IsTrue T.tells → (world : World) → Stands session.old.state (T.disk site.old) world
+        → IsErrOf result Status.Input
+        → CutOff (T.disk site.new) world (S.left source.old) (S.left source.new) (T.disk site.old).told }
     ensures bounded { IsTrue S.tells → GaveAtMost (S.left source.old) (S.left source.new) (limit + 1) }
     ensures no_usage { IsErrOf result Status.Usage → ⊥ }
     ensures cause { IfErr result (EndCause (faults (S.faults source.old) (T.disk_faults site.old) (T.told_faults site.old))
@@ -50,10 +53,9 @@ pub fn serve<S: Source, T: Site>(
         (faults (S.faults source.new) (T.disk_faults site.new) (T.told_faults site.new))) }
 {
     let mut lines = Lines::new(alloc);
-    let mut buffer = room(alloc)?;
     let mut taken = 0;
     loop {
-        buffer.truncate((limit + 1 - taken) as usize);
+        let mut buffer = room(alloc, lines.give_back(), (limit + 1 - taken) as usize)?;
         let count = pull(source, &mut buffer)?;
         if count == 0 {
             return Ok(take_end(session, &mut lines, site)?);
@@ -62,31 +64,35 @@ pub fn serve<S: Source, T: Site>(
         if taken > limit {
             return Err(Status::TooLong);
         }
-        take_piece(session, &mut lines, site, &buffer[..count])?;
+        take_piece(session, &mut lines, site, buffer, count)?;
     }
 }
 
-/// Takes in a piece of the script, and carries out the commands that are whole then.
+/// Takes in a piece of the script, the first bytes of a buffer, and carries out the commands that are whole then.
 fn take_piece<T: Site>(
     session: &mut Session,
     lines: &mut Lines,
     site: &mut T,
-    piece: &[u8],
+    buffer: Vec<u8>,
+    count: usize,
 ) -> Result<(), Stop>
     requires running { IsRunning session.old.state }
     requires fit { IsTrue T.tells → IsFit session.old.state (T.disk site.old) }
     requires goes_on { lines.old.over ≡ false }
+    requires read { lines.old.rest ≡ [] }
+    requires within { count ≤ vec_len buffer }
 
     ensures onward { IsTrue T.tells → (world : World) (more : List ℕ) → Stands session.old.state (T.disk site.old) world
-        → OnOk result (Onward session.new.state (T.disk site.new) world (to_come lines.old (piece.now ++ more))
+        → OnOk result (Onward session.new.state (T.disk site.new) world (to_come lines.old (take count buffer.items ++ more))
         (T.disk site.old).told (to_come lines.new more)) }
     ensures whole { IsTrue T.tells → (world : World) (more : List ℕ) → Stands session.old.state (T.disk site.old) world
-        → OnOk result (Onward session.new.state (T.disk site.new) world (whole_with lines.old (piece.now ++ more))
+        → OnOk result (Onward session.new.state (T.disk site.new) world (whole_with lines.old (take count buffer.items ++ more))
         (T.disk site.old).told (whole_with lines.new more)) }
     ensures ready { OnOk result (ready lines.new ≡ []) }
+    ensures read { OnOk result (lines.new.rest ≡ []) }
     ensures any_moment { IsTrue T.tells → (world : World) (more : List ℕ) → Stands session.old.state (T.disk site.old) world
         → LeavesOnly (T.disk site.old) (T.disk site.new)
-        (AfterStop world (to_come lines.old (piece.now ++ more)) (T.disk site.old).told) }
+        (AfterStop world (to_come lines.old (take count buffer.items ++ more)) (T.disk site.old).told) }
     ensures undamaged { IsTrue T.tells → (world : World) → Stands session.old.state (T.disk site.old) world
         → IfErr result IsNoDamage }
     ensures goes_on { lines.new.over ≡ false }
@@ -97,7 +103,7 @@ fn take_piece<T: Site>(
     ensures disk_faults { OnOk result (T.disk_faults site.new ≡ T.disk_faults site.old) }
     ensures told_faults { OnOk result (T.told_faults site.new ≡ T.told_faults site.old) }
 {
-    lines.feed(piece)?;
+    lines.take_over(buffer, count);
     carry_out(session, lines, site)
 }
 
@@ -140,6 +146,7 @@ fn carry_out<T: Site>(session: &mut Session, lines: &mut Lines, site: &mut T) ->
         → IfErr result IsNoDamage }
     ensures nothing { ready lines.old ≡ [] → IfErr result IsNoDamage }
     ensures ready { OnOk result (ready lines.new ≡ []) }
+    ensures read { OnOk result (lines.new.rest ≡ []) }
     ensures over { lines.new.over ≡ lines.old.over }
 
     ensures running { OnOk result (IsRunning session.new.state) }

@@ -25,23 +25,22 @@ use site_core::{Fault, Site};
 use std::alloc::Global;
 use std::mem;
 
-/// The most pages that may be kept between slices. None is kept yet.
-const KEPT_PAGES: u32 = 64;
-
 /// The warehouse between two commands of a script.
 #[derive(Drop)]
 pub struct Session {
     alloc: Global,
-    pages: Pages,
+    /// The pages that are kept between slices.
+    pub pages: Pages,
     /// What it has.
     pub state: State,
 }
 
 impl Session {
-    /// Opens the files. Nothing is changed, also after an error; it never answers `Output`.
+    /// Opens the files, for a session that may keep so many pages between slices. Nothing is changed, also after an error; it never
+    /// answers `Output`.
     ///
     /// `Damaged` comes exactly where the files break a rule of opening, and names the first one, unless a file fails or memory runs out before.
-    pub fn start<T: Site>(alloc: Global, site: &mut T) -> Result<Session, Stop>
+    pub fn start<T: Site>(alloc: Global, site: &mut T, cache: u32) -> Result<Session, Stop>
         ensures opened { IsTrue T.tells → (kept : Kept) → Keeps (T.disk site.old).files kept
             → IfOk result (λ session. Stands session.state (T.disk site.new) (bare kept)) }
         ensures undamaged { IsTrue T.tells → (kept : Kept) → Keeps (T.disk site.old).files kept
@@ -53,6 +52,7 @@ impl Session {
             → T.reads site.new ≤ T.reads site.old + open_cost kept }
 
         ensures running { IfOk result (λ session. IsRunning session.state) }
+        ensures cache { IfOk result (λ session. session.pages.capacity ≡ cache) }
         ensures fit { IsTrue T.tells → IfOk result (λ session. IsFit session.state (T.disk site.new)) }
         ensures disk { IsTrue T.tells → Rests (T.disk site.old) (T.disk site.new) }
         ensures cause { IfErr result (StopCause (T.disk_faults site.old) (T.disk_faults site.new) (T.told_faults site.old) (T.told_faults site.new)) }
@@ -61,7 +61,7 @@ impl Session {
         ensures told_faults { T.told_faults site.new ≡ T.told_faults site.old }
         ensures writes { T.writes site.new ≡ T.writes site.old }
     {
-        let pages = Pages::new(alloc, KEPT_PAGES)?;
+        let pages = Pages::new(alloc, cache)?;
         match forest_open::open_store(alloc, site) {
             Ok(Some(store)) => Ok(Session {
                 alloc,
@@ -111,6 +111,7 @@ impl Session {
             → OnOk result (T.writes site.new ≡ T.writes site.old) }
         ensures stopped { OnErr result (self.new.state ≡ State.Stopped) }
         ensures running { OnOk result (IsRunning self.new.state) }
+        ensures cache { self.new.pages.capacity ≡ self.old.pages.capacity }
         ensures fit { IsTrue T.tells → OnOk result (IsFit self.new.state (T.disk site.new)) }
         ensures cause { IfErr result (StopCause (T.disk_faults site.old) (T.disk_faults site.new) (T.told_faults site.old) (T.told_faults site.new)) }
         ensures disk_faults { OnOk result (T.disk_faults site.new ≡ T.disk_faults site.old) }

@@ -3,6 +3,7 @@ ghost use Rattle.std.specs.Prelude.{◌≡◌};
 ghost use Rattle.cube_shell.specs.Ends.{code_of};
 
 use crate::stop::Stop;
+use cube_words::WordsStop;
 use fact_model::Memory;
 use std::alloc::AllocError;
 
@@ -62,6 +63,19 @@ impl From<AllocError> for Status {
 
     fn from(_error: AllocError) -> Status {
         Status::Memory
+    }
+}
+
+impl From<WordsStop> for Status {
+    ghost use Rattle.cube_shell.specs.Ends.{words_status};
+
+    ghost from_gives = { λ stop status. status ≡ words_status stop };
+
+    fn from(stop: WordsStop) -> Status {
+        match stop {
+            WordsStop::Usage => Status::Usage,
+            WordsStop::Memory => Status::Memory,
+        }
     }
 }
 

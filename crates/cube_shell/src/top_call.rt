@@ -1,13 +1,14 @@
 //! The top call, which carries the headline.
-ghost use Rattle.std.specs.Prelude.{◌≡◌, ◌≢◌, ◌≤◌, ◌+◌, ◌^◌, ◌↔◌, [], IsTrue, OnOk, IfErr, IsErrOf, length};
+ghost use Rattle.std.specs.Prelude.{◌≡◌, ◌≤◌, ◌+◌, ◌^◌, ◌↔◌, [], IsTrue, OnOk, IfErr, IsErrOf, length, map, string_bytes};
 ghost use Rattle.site_core.specs.Causes.{Rose};
 ghost use Rattle.site_core.specs.Moments.{LeavesOnly};
 ghost use Rattle.forest_open.specs.Breaks.{BreaksAt};
 ghost use Rattle.forest_open.specs.Opening.{Place};
 ghost use Rattle.script_lang.specs.Script.{commands};
+ghost use Rattle.cube_words.specs.Words.{AreValid};
 ghost use Rattle.cube_shell.specs.Damage.{EndsAt, EndsForBreak};
-ghost use Rattle.cube_shell.specs.Ends.{EndCause, StatusCause, Stayed, IsDoneOrMemory, IsUndamaged, faults};
-ghost use Rattle.cube_shell.specs.Headline.{AfterRun, Finished, Headline, LeftOff};
+ghost use Rattle.cube_shell.specs.Ends.{EndCause, StatusCause, Stayed, IsDoneOrMemory, IsUndamaged, IsUsageOrMemory, faults};
+ghost use Rattle.cube_shell.specs.Headline.{AfterRun, CutOff, Finished, Headline, LeftOff};
 ghost use Rattle.cube_shell.specs.Keeps.{Keeps};
 ghost use Rattle.cube_shell.specs.Pulls.{Gave, GaveAtMost};
 ghost use Rattle.cube_shell.specs.World.{Kept, bare};
@@ -15,6 +16,7 @@ ghost use Rattle.cube_shell.specs.World.{Kept, bare};
 use crate::serve::serve;
 use crate::session::Session;
 use crate::status::Status;
+use cube_words::cache_of;
 use site_core::{Site, Source};
 use std::alloc::Global;
 
@@ -34,25 +36,28 @@ pub fn run<S: Source, T: Site>(
     ensures undamaged { IsTrue T.tells → (kept : Kept) → Keeps (T.disk site.old).files kept
         → IsUndamaged result }
     ensures complete { IsTrue S.tells → IsTrue T.tells → (kept : Kept) → Keeps (T.disk site.old).files kept
-        → words.now ≡ [] → length (S.left source.old) ≤ 2 ^ 30
+        → AreValid (map string_bytes words.now) → length (S.left source.old) ≤ 2 ^ 30
         → ¬ (Rose (S.faults source.old) (S.faults source.new))
         → ¬ (Rose (T.disk_faults site.old) (T.disk_faults site.new))
         → ¬ (Rose (T.told_faults site.old) (T.told_faults site.new)) → IsDoneOrMemory result }
-    ensures broken { IsTrue T.tells → words.now ≡ [] → (place : Place) → BreaksAt (T.disk site.old).files place
+    ensures broken { IsTrue T.tells → AreValid (map string_bytes words.now) → (place : Place) → BreaksAt (T.disk site.old).files place
         → EndsAt place result }
-    ensures unpulled { IsTrue T.tells → words.now ≡ [] → (place : Place) → BreaksAt (T.disk site.old).files place
+    ensures unpulled { IsTrue T.tells → AreValid (map string_bytes words.now) → (place : Place) → BreaksAt (T.disk site.old).files place
         → source.new ≡ source.old }
-    ensures untold { IsTrue T.tells → words.now ≡ [] → (place : Place) → BreaksAt (T.disk site.old).files place
+    ensures untold { IsTrue T.tells → AreValid (map string_bytes words.now) → (place : Place) → BreaksAt (T.disk site.old).files place
         → (T.disk site.new).told ≡ (T.disk site.old).told }
     ensures damaged { IsTrue S.tells → IsTrue T.tells → Gave (S.left source.old) (S.left source.new) 0
         → EndsForBreak (T.disk site.old).files result }
-    ensures usage { (result ≡ Status.Usage) ↔ (words.now ≢ []) }
-    ensures unread { result ≡ Status.Usage → source.new ≡ source.old }
-    ensures untouched { result ≡ Status.Usage → site.new ≡ site.old }
+    ensures usage { result ≡ Status.Usage → ¬ (AreValid (map string_bytes words.now)) }
+    ensures faulty { ¬ (AreValid (map string_bytes words.now)) → IsUsageOrMemory result }
+    ensures unread { ¬ (AreValid (map string_bytes words.now)) → source.new ≡ source.old }
+    ensures untouched { ¬ (AreValid (map string_bytes words.now)) → site.new ≡ site.old }
     ensures too_long { IsTrue S.tells
         → ((result ≡ Status.TooLong) ↔ Gave (S.left source.old) (S.left source.new) (2 ^ 30 + 1)) }
     ensures left_off { IsTrue S.tells → IsTrue T.tells → (kept : Kept) → Keeps (T.disk site.old).files kept
         → result ≡ Status.TooLong → LeftOff (T.disk site.new) (bare kept) (S.left source.old) (2 ^ 30) (T.disk site.old).told }
+    ensures cut_off { IsTrue S.tells → IsTrue T.tells → (kept : Kept) → Keeps (T.disk site.old).files kept
+        → result ≡ Status.Input → CutOff (T.disk site.new) (bare kept) (S.left source.old) (S.left source.new) (T.disk site.old).told }
     ensures bounded { IsTrue S.tells → GaveAtMost (S.left source.old) (S.left source.new) (2 ^ 30 + 1) }
     ensures cause { StatusCause (faults (S.faults source.old) (T.disk_faults site.old) (T.told_faults site.old))
         (faults (S.faults source.new) (T.disk_faults site.new) (T.told_faults site.new)) result }
@@ -60,9 +65,10 @@ pub fn run<S: Source, T: Site>(
     run_within(alloc, words, source, site, SCRIPT_LIMIT)
 }
 
-/// Runs a script within a limit of bytes, which is at most 2^30. Any word is `Usage`. The files are opened first, and damage that
-/// is found then is named before the first pull. The script is pulled in pieces, and at most one byte past the limit; after each
-/// pull every command that is whole by then is carried out. Each status but `Done` ends the run at once.
+/// Runs a script within a limit of bytes, which is at most 2^30. The words are those after the program's name, and words that do not
+/// give its one option are `Usage`. Then the files are opened, and damage that is found is named before the first pull. The script is
+/// pulled in pieces of at most 65,536 bytes, and at most one byte past the limit; after each pull every command that is whole by then is
+/// carried out, and its reply told. Each status but `Done` ends the run at once, and a batch that is pending at the end is dropped.
 pub fn run_within<S: Source, T: Site>(
     alloc: Global,
     words: &[String],
@@ -76,25 +82,28 @@ pub fn run_within<S: Source, T: Site>(
     ensures undamaged { IsTrue T.tells → (kept : Kept) → Keeps (T.disk site.old).files kept
         → IsUndamaged result }
     ensures complete { IsTrue S.tells → IsTrue T.tells → (kept : Kept) → Keeps (T.disk site.old).files kept
-        → words.now ≡ [] → length (S.left source.old) ≤ limit
+        → AreValid (map string_bytes words.now) → length (S.left source.old) ≤ limit
         → ¬ (Rose (S.faults source.old) (S.faults source.new))
         → ¬ (Rose (T.disk_faults site.old) (T.disk_faults site.new))
         → ¬ (Rose (T.told_faults site.old) (T.told_faults site.new)) → IsDoneOrMemory result }
-    ensures broken { IsTrue T.tells → words.now ≡ [] → (place : Place) → BreaksAt (T.disk site.old).files place
+    ensures broken { IsTrue T.tells → AreValid (map string_bytes words.now) → (place : Place) → BreaksAt (T.disk site.old).files place
         → EndsAt place result }
-    ensures unpulled { IsTrue T.tells → words.now ≡ [] → (place : Place) → BreaksAt (T.disk site.old).files place
+    ensures unpulled { IsTrue T.tells → AreValid (map string_bytes words.now) → (place : Place) → BreaksAt (T.disk site.old).files place
         → source.new ≡ source.old }
-    ensures untold { IsTrue T.tells → words.now ≡ [] → (place : Place) → BreaksAt (T.disk site.old).files place
+    ensures untold { IsTrue T.tells → AreValid (map string_bytes words.now) → (place : Place) → BreaksAt (T.disk site.old).files place
         → (T.disk site.new).told ≡ (T.disk site.old).told }
     ensures damaged { IsTrue S.tells → IsTrue T.tells → Gave (S.left source.old) (S.left source.new) 0
         → EndsForBreak (T.disk site.old).files result }
-    ensures usage { (result ≡ Status.Usage) ↔ (words.now ≢ []) }
-    ensures unread { result ≡ Status.Usage → source.new ≡ source.old }
-    ensures untouched { result ≡ Status.Usage → site.new ≡ site.old }
+    ensures usage { result ≡ Status.Usage → ¬ (AreValid (map string_bytes words.now)) }
+    ensures faulty { ¬ (AreValid (map string_bytes words.now)) → IsUsageOrMemory result }
+    ensures unread { ¬ (AreValid (map string_bytes words.now)) → source.new ≡ source.old }
+    ensures untouched { ¬ (AreValid (map string_bytes words.now)) → site.new ≡ site.old }
     ensures too_long { IsTrue S.tells
         → ((result ≡ Status.TooLong) ↔ Gave (S.left source.old) (S.left source.new) (limit + 1)) }
     ensures left_off { IsTrue S.tells → IsTrue T.tells → (kept : Kept) → Keeps (T.disk site.old).files kept
         → result ≡ Status.TooLong → LeftOff (T.disk site.new) (bare kept) (S.left source.old) limit (T.disk site.old).told }
+    ensures cut_off { IsTrue S.tells → IsTrue T.tells → (kept : Kept) → Keeps (T.disk site.old).files kept
+        → result ≡ Status.Input → CutOff (T.disk site.new) (bare kept) (S.left source.old) (S.left source.new) (T.disk site.old).told }
     ensures bounded { IsTrue S.tells → GaveAtMost (S.left source.old) (S.left source.new) (limit + 1) }
     ensures cause { StatusCause (faults (S.faults source.old) (T.disk_faults site.old) (T.told_faults site.old))
         (faults (S.faults source.new) (T.disk_faults site.new) (T.told_faults site.new)) result }
@@ -120,31 +129,32 @@ fn attempt<S: Source, T: Site>(
         → LeavesOnly (T.disk site.old) (T.disk site.new) (AfterRun (bare kept) (commands (S.left source.old)) (T.disk site.old)) }
     ensures undamaged { IsTrue T.tells → (kept : Kept) → Keeps (T.disk site.old).files kept
         → IfErr result IsUndamaged }
-    ensures broken { IsTrue T.tells → words.now ≡ [] → (place : Place) → BreaksAt (T.disk site.old).files place
+    ensures broken { IsTrue T.tells → AreValid (map string_bytes words.now) → (place : Place) → BreaksAt (T.disk site.old).files place
         → IfErr result (EndsAt place) × OnOk result ⊥ }
-    ensures unpulled { IsTrue T.tells → words.now ≡ [] → (place : Place) → BreaksAt (T.disk site.old).files place
+    ensures unpulled { IsTrue T.tells → AreValid (map string_bytes words.now) → (place : Place) → BreaksAt (T.disk site.old).files place
         → source.new ≡ source.old }
-    ensures untold { IsTrue T.tells → words.now ≡ [] → (place : Place) → BreaksAt (T.disk site.old).files place
+    ensures untold { IsTrue T.tells → AreValid (map string_bytes words.now) → (place : Place) → BreaksAt (T.disk site.old).files place
         → (T.disk site.new).told ≡ (T.disk site.old).told }
     ensures damaged { IsTrue S.tells → IsTrue T.tells → Gave (S.left source.old) (S.left source.new) 0
         → IfErr result (EndsForBreak (T.disk site.old).files) }
     ensures read { IsTrue S.tells → OnOk result (S.left source.new ≡ []) }
-    ensures usage { IsErrOf result Status.Usage ↔ (words.now ≢ []) }
-    ensures unread { words.now ≢ [] → source.new ≡ source.old }
-    ensures untouched { words.now ≢ [] → site.new ≡ site.old }
+    ensures usage { IsErrOf result Status.Usage → ¬ (AreValid (map string_bytes words.now)) }
+    ensures faulty { ¬ (AreValid (map string_bytes words.now)) → IfErr result IsUsageOrMemory × OnOk result ⊥ }
+    ensures unread { ¬ (AreValid (map string_bytes words.now)) → source.new ≡ source.old }
+    ensures untouched { ¬ (AreValid (map string_bytes words.now)) → site.new ≡ site.old }
     ensures too_long { IsTrue S.tells
         → (IsErrOf result Status.TooLong ↔ Gave (S.left source.old) (S.left source.new) (limit + 1)) }
     ensures left_off { IsTrue S.tells → IsTrue T.tells → (kept : Kept) → Keeps (T.disk site.old).files kept
         → IsErrOf result Status.TooLong → LeftOff (T.disk site.new) (bare kept) (S.left source.old) limit (T.disk site.old).told }
+    ensures cut_off { IsTrue S.tells → IsTrue T.tells → (kept : Kept) → Keeps (T.disk site.old).files kept
+        → IsErrOf result Status.Input → CutOff (T.disk site.new) (bare kept) (S.left source.old) (S.left source.new) (T.disk site.old).told }
     ensures bounded { IsTrue S.tells → GaveAtMost (S.left source.old) (S.left source.new) (limit + 1) }
     ensures cause { IfErr result (EndCause (faults (S.faults source.old) (T.disk_faults site.old) (T.told_faults site.old))
         (faults (S.faults source.new) (T.disk_faults site.new) (T.told_faults site.new))) }
     ensures faults { OnOk result (Stayed (faults (S.faults source.old) (T.disk_faults site.old) (T.told_faults site.old))
         (faults (S.faults source.new) (T.disk_faults site.new) (T.told_faults site.new))) }
 {
-    if !words.is_empty() {
-        return Err(Status::Usage);
-    }
-    let mut session = Session::start(alloc, site)?;
+    let cache = cache_of(alloc, words)?;
+    let mut session = Session::start(alloc, site, cache)?;
     serve(alloc, &mut session, source, site, limit)
 }

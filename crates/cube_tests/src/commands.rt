@@ -111,8 +111,8 @@ fn without_a_schema_a_script_tells_this(rt: HostRuntime) -> Result<(), Fail> {
             "refused nothing pending\nrefused nothing pending\n",
         ),
         (
-            "abandon\ngenerate 1 5\n",
-            "refused nothing pending\nrefused unknown\n",
+            "abandon\ngenerate 1 262145\n",
+            "refused nothing pending\nrefused no schema\n",
         ),
         (
             "slice\n Status\nend\n",
@@ -152,7 +152,11 @@ fn behind_a_schema_a_script_tells_this(rt: HostRuntime) -> Result<(), Fail> {
             "load\n-1,0\nend\nload\n1,1.5\nend\n",
             "refused row 1 number 1\nrefused row 1 number 2\n",
         ),
-        ("generate 1 5\nstatus\n", "refused unknown\nfacts 0\n"),
+        ("generate 1 5\nstatus\n", "committed 5\nfacts 5\n"),
+        (
+            "generate 1\ngenerate 1 5 \ngenerate 1 18446744073709551616\n",
+            "refused unknown\nrefused unknown\nrefused unknown\n",
+        ),
         (
             "load\r\n3,5\r\n\r\n1,-2\r\nend\r\nslice sum(m) by a\r\n",
             "committed 2\n1,-2\n3,5\nrows 2\n",
@@ -189,8 +193,8 @@ fn a_batch_that_begins_is_pending_to_its_end(rt: HostRuntime) -> Result<(), Fail
             "begun\nfacts 0 pending 0\ncommitted 0\nfacts 0\n",
         ),
         (
-            "begin\nend\nload\n1,1\nend\nbegin\nend\n",
-            "begun\nrefused pending\nrefused pending\n",
+            "begin\nend\nload\n1,1\nend\nbegin\nend\ngenerate 1 5\n",
+            "begun\nrefused pending\nrefused pending\nrefused pending\n",
         ),
         (
             "begin\nend\nabandon\nabandon\n",
@@ -223,6 +227,8 @@ fn a_command_that_changes_nothing_calls_no_file(rt: HostRuntime) -> Result<(), F
     for (script, told) in [
         ("load\n\nend\n", "committed 0\n"),
         ("load\n3\nend\n", "refused row 1 fields\n"),
+        ("generate 1 0\n", "committed 0\n"),
+        ("generate 1 262145\n", "refused rows\n"),
         ("schema\nend\n", "refused declared\n"),
         ("status\n", "facts 0\n"),
         ("slice sum(m) by a\n", "rows 0\n"),
@@ -318,5 +324,49 @@ fn a_load_is_refused_by_its_first_fault(rt: HostRuntime) -> Result<(), Fail> {
         let told = format!(in alloc; "committed 1\nrefused {refusal}\ncommitted 2\nfacts 2\n")?;
         tells_behind(&rt, alloc, schema, script.as_str(), told.as_str())?;
     }
+    Ok(())
+}
+
+/// A schema with a text and a number, and the facts of three rows.
+const PARTS: &str =
+    "attr part text\nattr year number\nmeasure qty\nview part,year\nview year\nview\n";
+
+const BOLTS: &str = "load\nbolt,1997,5\nnut,1997,-2\nbolt,1998,4\nend\n";
+
+#[test]
+fn batch_refusals(rt: HostRuntime) -> Result<(), Fail> {
+    let alloc = rt.alloc();
+    let long = String::from_utf8(vec![in alloc; b't'; 256]?)?;
+    let script = format!(in alloc;
+        "{BOLTS}load\na,1\nend\nload\na,4294967294,1\nend\nload\n{long},1,1\nend\nload\npart,year,qty\nend\ngenerate 1 262145\n"
+    )?;
+    let told =
+        "committed 3\nrefused row 1 fields\nrefused row 1 number 2\nrefused row 1 long 1\nrefused row 1 number 2\nrefused rows\n";
+    tells_behind(&rt, alloc, PARTS, script.as_str(), told)?;
+    Ok(())
+}
+
+// From the start 0 the first two draws take 167951807 and 218396424.
+#[test]
+fn generator_draws(rt: HostRuntime) -> Result<(), Fail> {
+    let number = "attr n number\nmeasure m\nview n\n";
+    let text = "attr n text max 2\nmeasure m\nview n\n";
+    for (schema, row) in [(number, "807,281"), (text, "v1,281")] {
+        let told = format!(in rt.alloc(); "committed 1\n{row}\nrows 1\n")?;
+        let script = "generate 0 1\nslice sum(m) by n\n";
+        tells_behind(&rt, rt.alloc(), schema, script, told.as_str())?;
+    }
+    Ok(())
+}
+
+#[test]
+fn hundred_thousand_facts(rt: HostRuntime) -> Result<(), Fail> {
+    tells_behind(
+        &rt,
+        rt.alloc(),
+        PARTS,
+        "generate 1 100000\nslice count\nload\n",
+        "committed 100000\n100000\nrows 1\nrefused open block\n",
+    )?;
     Ok(())
 }

@@ -284,3 +284,66 @@ fn script_limit(rt: HostRuntime) -> Result<(), Fail> {
     }
     Ok(())
 }
+
+const BY_YEAR: Commands<'_> = &[
+    (
+        "schema\nattr part text\nattr year number\nmeasure qty\nview part,year\nview year\nview\nend\n",
+        "declared\n",
+    ),
+    (
+        "load\nbolt,1997,5\nnut,1997,-2\nbolt,1998,4\nend\n",
+        "committed 3\n",
+    ),
+    (
+        "slice sum(qty),count by year\n",
+        "1997,3,2\n1998,4,1\nrows 2\n",
+    ),
+];
+
+#[test]
+fn pieces_of_one_byte(rt: HostRuntime) -> Result<(), Fail> {
+    tells(&rt, rt.alloc(), BY_YEAR)
+}
+
+/// With these words the script of `by-year` over empty files ends so, and tells its replies exactly where it is done.
+fn ends_by_words(
+    rt: &impl Abort,
+    alloc: Global,
+    words: &[&str],
+    status: Status,
+) -> Result<(), Fail> {
+    let mut texts = Vec::new(alloc);
+    for word in words {
+        texts.push(String::from_str(alloc, word)?)?;
+    }
+    let script = script_of(alloc, BY_YEAR)?;
+    let mut source = MemorySource::new(Text::from_bytes(alloc, &script)?, 64);
+    let mut site = MemorySite::new(alloc);
+    let ended = run(alloc, &texts, &mut source, &mut site);
+    assert_eq!(rt; ended, status, "{words:?}");
+    if status == Status::Done {
+        assert_eq!(rt;
+            site.told(),
+            replies_of(alloc, BY_YEAR)?.as_slice(),
+            "{words:?}"
+        );
+    } else {
+        assert_eq!(rt; site.calls().len(), 0, "{words:?}");
+        // What was not pulled is still there.
+        run(alloc, &[], &mut source, &mut site);
+        assert_eq!(rt;
+            site.told(),
+            replies_of(alloc, BY_YEAR)?.as_slice(),
+            "{words:?}"
+        );
+    }
+    Ok(())
+}
+
+#[test]
+fn cache_words(rt: HostRuntime) -> Result<(), Fail> {
+    let alloc = rt.alloc();
+    ends_by_words(&rt, alloc, &["--cache", "0"], Status::Done)?;
+    ends_by_words(&rt, alloc, &["--cache=4096"], Status::Done)?;
+    ends_by_words(&rt, alloc, &["--cache", "x"], Status::Usage)
+}

@@ -2,7 +2,7 @@ use Rattle.std.proofs.Common.{◌≤◌, ◌+◌, ◌∙◌, ℕ, List, IfErr, O
 use Rattle.cube_shell.specs.Costs.{begins}
 use Rattle.cube_shell.specs.Machine.{Answer, abandon, act, slice}
 use Rattle.cube_shell.specs.Session.{abandon_text, state_text, step_text}
-use Rattle.cube_shell.proofs.Acts.{act_abandon, act_begin, act_finish, act_load, act_long_line, act_open_block, act_others, act_schema, act_slice, act_status, act_step}
+use Rattle.cube_shell.proofs.Acts.{act_abandon, act_begin, act_finish, act_generate, act_load, act_long_line, act_open_block, act_schema, act_slice, act_status, act_step, act_unknown}
 use Rattle.cube_shell.proofs.Answering.{abandon_known, answers_as, between_as, no_more, quiet, status_known, step_known, stood, told_only}
 use Rattle.cube_shell.specs.Told.{SliceTells, TellsDamage}
 use Rattle.script_lang.specs.declared.command.Command.{Command}
@@ -73,13 +73,29 @@ pub returns-in-OpenBlock-clause-any_moment : goal.returns-in-OpenBlock-clause-an
 returns-in-OpenBlock-clause-any_moment g c = λ t world stands.
     quiet c.args.state (g.T.Site.disk c.args.site.now) world (act world c.args.command).0 stands (λ told files. g.met.T.Site.only_now c.args.site.now told files t)
 
+pub returns-in-Unknown-clause-answer : goal.returns-in-Unknown-clause-answer
+returns-in-Unknown-clause-answer g c = λ t world stands.
+    told_only c.plain-in-Unknown.result c.args.state _ (g.T.Site.disk c.args.site.now) world c.args.command c.plain-in-Unknown.ensures.state c.plain-in-Unknown.ensures.reply stands (ap (act world) c.in-Unknown.is ∙ act_unknown world)
+
+pub returns-in-Unknown-clause-any_moment : goal.returns-in-Unknown-clause-any_moment
+returns-in-Unknown-clause-any_moment g c = λ t world stands.
+    quiet c.args.state (g.T.Site.disk c.args.site.now) world (act world c.args.command).0 stands (λ told files. g.met.T.Site.only_now c.args.site.now told files t)
+
 pub returns-in-Generate-clause-answer : goal.returns-in-Generate-clause-answer
-returns-in-Generate-clause-answer g c = λ t world stands.
-    told_only c.plain-in-Generate.result c.args.state _ (g.T.Site.disk c.args.site.now) world c.args.command c.plain-in-Generate.ensures.state c.plain-in-Generate.ensures.reply stands (act_others world c.args.command c.in-Generate.is)
+returns-in-Generate-clause-answer g c = λ t world is.
+    answers_as c.load-in-Generate.result _ _ _ (sym (ap (act world) c.in-Generate.is ∙ act_generate world _ _)) (c.load-in-Generate.ensures.answer t world is)
 
 pub returns-in-Generate-clause-any_moment : goal.returns-in-Generate-clause-any_moment
-returns-in-Generate-clause-any_moment g c = λ t world stands.
-    quiet c.args.state (g.T.Site.disk c.args.site.now) world (act world c.args.command).0 stands (λ told files. g.met.T.Site.only_now c.args.site.now told files t)
+returns-in-Generate-clause-any_moment g c = λ t world is.
+    between_as _ _ world _ _ (sym (ap (act world) c.in-Generate.is ∙ act_generate world _ _)) (c.load-in-Generate.ensures.any_moment t world is)
+
+pub returns-in-Generate-clause-unwritten : goal.returns-in-Generate-clause-unwritten
+returns-in-Generate-clause-unwritten g c = λ t world is stays.
+    no_more c.load-in-Generate.result _ _ _ (c.load-in-Generate.ensures.unwritten t world is (sym (ap (λ (a : Answer). a.0.kept) (ap (act world) c.in-Generate.is ∙ act_generate world _ _)) ∙ stays))
+
+pub returns-in-Generate-clause-silent : goal.returns-in-Generate-clause-silent
+returns-in-Generate-clause-silent g c = λ t world is stays none.
+    c.load-in-Generate.ensures.unwritten t world is (sym (ap (λ (a : Answer). a.0.kept) (ap (act world) c.in-Generate.is ∙ act_generate world _ _)) ∙ stays)
 
 pub returns-in-Schema-clause-damage : goal.returns-in-Schema-clause-damage
 returns-in-Schema-clause-damage g c = λ t.
@@ -105,7 +121,8 @@ pub returns-in-OpenBlock-clause-damage : goal.returns-in-OpenBlock-clause-damage
 returns-in-OpenBlock-clause-damage g c = λ t. memory_tells c.plain-in-OpenBlock.result c.args.state (g.T.Site.disk c.args.site.now).files c.args.command c.plain-in-OpenBlock.ensures.memory
 
 pub returns-in-Generate-clause-damage : goal.returns-in-Generate-clause-damage
-returns-in-Generate-clause-damage g c = λ t. memory_tells c.plain-in-Generate.result c.args.state (g.T.Site.disk c.args.site.now).files c.args.command c.plain-in-Generate.ensures.memory
+returns-in-Generate-clause-damage g c = λ t.
+    subst (λ (k : Command). IfErr c.load-in-Generate.result (TellsDamage c.args.state (g.T.Site.disk c.args.site.now).files k)) (sym c.in-Generate.is) (c.load-in-Generate.ensures.damage t)
 
 pub returns-in-Begin-clause-answer : goal.returns-in-Begin-clause-answer
 returns-in-Begin-clause-answer g c = λ t world is.

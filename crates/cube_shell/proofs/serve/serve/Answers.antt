@@ -6,24 +6,18 @@ use Rattle.cube_shell.specs.Headline.{Finished}
 use Rattle.cube_shell.specs.Session.{Onward}
 use Rattle.cube_shell.proofs.Going.{all_done, started_moments, started_onward, then_moments, then_onward}
 use Rattle.cube_shell.proofs.Pieces.{given_more, piece_left, piece_taken, piece_to_come, end_to_come}
-use Rattle.cube_shell.proofs.Statuses.{not_too_long, undamaged_as}
+use Rattle.cube_shell.proofs.Statuses.{not_input, not_too_long, undamaged_as}
 use Rattle.cube_shell.proofs.serve.serve.Goals as goal
 
-pub returns-in_err-buffer-clause-any_moment : goal.returns-in_err-buffer-clause-any_moment
-returns-in_err-buffer-clause-any_moment g c = λ s t world stands.
-    started_moments c.args.session.now.state (g.T.Site.disk c.args.site.now) world (commands (g.S.Source.left c.args.source.now)) stands
-    (λ told files. g.met.T.Site.only_now c.args.site.now told files t)
-
-pub loop-buffer-init : goal.loop-buffer-init
-loop-buffer-init g c =
+pub loop-lines-init : goal.loop-lines-init
+loop-lines-init g c =
     let disk = g.T.Site.disk c.args.site.now in
     let left = g.S.Source.left c.args.source.now in
     record {
       running = c.requires.running;
       fit = c.requires.fit;
       over = ap (λ (r : Reading). r.over) c.new-lines.ensures;
-      some = omega (arith, c.in_ok-buffer.ensures);
-      piece = omega (arith, c.in_ok-buffer.ensures);
+      read = ap (λ (r : Reading). r.rest) c.new-lines.ensures;
       start = λ none. c.new-lines.ensures;
       taken = omega arith;
       given = λ s. omega arith;
@@ -45,73 +39,72 @@ loop-buffer-init g c =
 
 pub returns-in_err-take_end-clause-any_moment : goal.returns-in_err-take_end-clause-any_moment
 returns-in_err-take_end-clause-any_moment g c = λ s t world stands.
-    let o = c.loop-buffer.invariant.onward s t world stands in
-    then_moments (g.T.Site.disk c.args.site.now) (g.T.Site.disk c.loop-buffer.site) (g.T.Site.disk c.take_end.new.site) _ world _ _ _ []
-    o (end_to_come _ _ _ _ (c.in_ok-count.ensures.bytes s) c.loop-buffer.lines c.if-count-eq0.true)
-    (c.loop-buffer.invariant.any_moment s t world stands) (c.take_end.ensures.any_moment t o.now o.stands)
+    let o = c.loop-lines.invariant.onward s t world stands in
+    then_moments (g.T.Site.disk c.args.site.now) (g.T.Site.disk c.loop-lines.site) (g.T.Site.disk c.take_end.new.site) _ world _ _ _ []
+    o (end_to_come _ _ _ _ (c.in_ok-count.ensures.bytes s) c.loop-lines.lines c.give_back.new.self c.give_back.ensures c.if-count-eq0.true)
+    (c.loop-lines.invariant.any_moment s t world stands) (c.take_end.ensures.any_moment t o.now o.stands)
 
 pub returns-then-count-eq0-clause-any_moment : goal.returns-then-count-eq0-clause-any_moment
 returns-then-count-eq0-clause-any_moment g c = λ s t world stands.
-    let o = c.loop-buffer.invariant.onward s t world stands in
-    then_moments (g.T.Site.disk c.args.site.now) (g.T.Site.disk c.loop-buffer.site) (g.T.Site.disk c.take_end.new.site) _ world _ _ _ []
-    o (end_to_come _ _ _ _ (c.in_ok-count.ensures.bytes s) c.loop-buffer.lines c.if-count-eq0.true)
-    (c.loop-buffer.invariant.any_moment s t world stands) (c.take_end.ensures.any_moment t o.now o.stands)
+    let o = c.loop-lines.invariant.onward s t world stands in
+    then_moments (g.T.Site.disk c.args.site.now) (g.T.Site.disk c.loop-lines.site) (g.T.Site.disk c.take_end.new.site) _ world _ _ _ []
+    o (end_to_come _ _ _ _ (c.in_ok-count.ensures.bytes s) c.loop-lines.lines c.give_back.new.self c.give_back.ensures c.if-count-eq0.true)
+    (c.loop-lines.invariant.any_moment s t world stands) (c.take_end.ensures.any_moment t o.now o.stands)
 
-pub loop-buffer-preserved : goal.loop-buffer-preserved
-loop-buffer-preserved g c = record {
+pub loop-lines-preserved : goal.loop-lines-preserved
+loop-lines-preserved g c = record {
   running = c.in_ok-take_piece.ensures.running;
   fit = λ t. c.in_ok-take_piece.ensures.fit t;
   over = c.take_piece.ensures.goes_on;
-  some = omega (arith, c.pull.ensures.room, c.truncate.ensures.len, c.loop-buffer.invariant.some, c.if-taken-limit.false);
-  piece = omega (arith, c.pull.ensures.room, c.truncate.ensures.len, c.loop-buffer.invariant.piece);
+  read = c.in_ok-take_piece.ensures.read;
   start = λ none. absurd (omega (arith, none, c.if-count-eq0.false));
   taken = omega (arith, c.if-taken-limit.false);
-  given = λ s. given_more _ _ _ c.in_ok-count.count (c.in_ok-count.ensures.bytes s) c.loop-buffer.taken _
-      (omega (arith, c.in_ok-count.ensures.bound)) (c.loop-buffer.invariant.given s);
+  given = λ s. given_more _ _ _ c.in_ok-count.count (c.in_ok-count.ensures.bytes s) c.loop-lines.taken _
+      (omega (arith, c.in_ok-count.ensures.bound)) (c.loop-lines.invariant.given s);
   stands = λ t world stands.
-      let now = c.loop-buffer.invariant.stands t world stands in
+      let now = c.loop-lines.invariant.stands t world stands in
       let o = c.in_ok-take_piece.ensures.onward t now.0 [] now.1 in (o.now, o.stands);
   onward = λ s t world stands.
-      let o = c.loop-buffer.invariant.onward s t world stands in
-      then_onward (g.T.Site.disk c.args.site.now) (g.T.Site.disk c.loop-buffer.site) (g.T.Site.disk c.take_piece.new.site) _ world _ _ _ _
-      o (piece_to_come _ _ _ _ (c.in_ok-count.ensures.bytes s) c.loop-buffer.lines c.deref.result.now c.deref.ensures.value)
+      let o = c.loop-lines.invariant.onward s t world stands in
+      then_onward (g.T.Site.disk c.args.site.now) (g.T.Site.disk c.loop-lines.site) (g.T.Site.disk c.take_piece.new.site) _ world _ _ _ _
+      o (piece_to_come _ _ _ _ (c.in_ok-count.ensures.bytes s) c.loop-lines.lines c.give_back.new.self c.give_back.ensures)
       c.take_piece.new.session.state (c.in_ok-take_piece.ensures.onward t o.now (g.S.Source.left c.pull.new.source) o.stands);
-  left = λ s. piece_left _ _ _ c.in_ok-count.count (c.in_ok-count.ensures.bytes s) (g.S.Source.left c.args.source.now) c.loop-buffer.taken
-      (omega (arith, c.in_ok-count.ensures.bound)) (c.loop-buffer.invariant.left s) (c.loop-buffer.invariant.given s);
+  left = λ s. piece_left _ _ _ c.in_ok-count.count (c.in_ok-count.ensures.bytes s) (g.S.Source.left c.args.source.now) c.loop-lines.taken
+      (omega (arith, c.in_ok-count.ensures.bound)) (c.loop-lines.invariant.left s) (c.loop-lines.invariant.given s);
   whole = λ s t world more stands.
-      let script = g.S.Source.left c.args.source.now in
-      let o = c.loop-buffer.invariant.whole s t world (take c.in_ok-count.count c.deref.result.now ++ more) stands in
+      let piece = take c.in_ok-count.count c.pull.new.into.items in
+      let o = c.loop-lines.invariant.whole s t world (piece ++ more) stands in
       subst (λ (bytes : List ℕ). Onward c.take_piece.new.session.state (g.T.Site.disk c.take_piece.new.site) world (whole bytes)
       (g.T.Site.disk c.args.site.now).told (whole_with c.take_piece.new.lines more))
-      (piece_taken _ _ _ c.in_ok-count.count (c.in_ok-count.ensures.bytes s) script c.loop-buffer.taken
-      (omega (arith, c.in_ok-count.ensures.bound)) (c.loop-buffer.invariant.left s) (c.loop-buffer.invariant.given s)
-      c.deref.result.now more c.deref.ensures.value)
-      (then_onward (g.T.Site.disk c.args.site.now) (g.T.Site.disk c.loop-buffer.site) (g.T.Site.disk c.take_piece.new.site) _ world _ _ _ _
-      o refl c.take_piece.new.session.state (c.in_ok-take_piece.ensures.whole t o.now more o.stands));
+      (piece_taken _ _ _ c.in_ok-count.count (c.in_ok-count.ensures.bytes s) (g.S.Source.left c.args.source.now) c.loop-lines.taken
+      (omega (arith, c.in_ok-count.ensures.bound)) (c.loop-lines.invariant.left s) (c.loop-lines.invariant.given s) more)
+      (then_onward (g.T.Site.disk c.args.site.now) (g.T.Site.disk c.loop-lines.site) (g.T.Site.disk c.take_piece.new.site) _ world _ _ _ _
+      o (ap (λ (r : Reading). whole_with r (piece ++ more)) (sym c.give_back.ensures)) c.take_piece.new.session.state
+      (c.in_ok-take_piece.ensures.whole t o.now more o.stands));
   none = none_whole c.take_piece.new.lines c.take_piece.ensures.goes_on c.in_ok-take_piece.ensures.ready;
   any_moment = λ s t world stands.
-      let o = c.loop-buffer.invariant.onward s t world stands in
-      then_moments (g.T.Site.disk c.args.site.now) (g.T.Site.disk c.loop-buffer.site) (g.T.Site.disk c.take_piece.new.site) _ world _ _ _ []
-      o (piece_to_come _ _ _ _ (c.in_ok-count.ensures.bytes s) c.loop-buffer.lines c.deref.result.now c.deref.ensures.value)
-      (c.loop-buffer.invariant.any_moment s t world stands)
+      let o = c.loop-lines.invariant.onward s t world stands in
+      then_moments (g.T.Site.disk c.args.site.now) (g.T.Site.disk c.loop-lines.site) (g.T.Site.disk c.take_piece.new.site) _ world _ _ _ []
+      o (piece_to_come _ _ _ _ (c.in_ok-count.ensures.bytes s) c.loop-lines.lines c.give_back.new.self c.give_back.ensures)
+      (c.loop-lines.invariant.any_moment s t world stands)
       (c.take_piece.ensures.any_moment t o.now (g.S.Source.left c.pull.new.source) o.stands);
-  faults = c.in_ok-count.ensures.cause.ok ∙ c.loop-buffer.invariant.faults;
-  disk_faults = c.in_ok-take_piece.ensures.disk_faults ∙ c.loop-buffer.invariant.disk_faults;
-  told_faults = c.in_ok-take_piece.ensures.told_faults ∙ c.loop-buffer.invariant.told_faults;
+  faults = c.in_ok-count.ensures.cause.ok ∙ c.loop-lines.invariant.faults;
+  disk_faults = c.in_ok-take_piece.ensures.disk_faults ∙ c.loop-lines.invariant.disk_faults;
+  told_faults = c.in_ok-take_piece.ensures.told_faults ∙ c.loop-lines.invariant.told_faults;
 }
 
 pub returns-in_err-take_piece-clause-any_moment : goal.returns-in_err-take_piece-clause-any_moment
 returns-in_err-take_piece-clause-any_moment g c = λ s t world stands.
-    let o = c.loop-buffer.invariant.onward s t world stands in
-    then_moments (g.T.Site.disk c.args.site.now) (g.T.Site.disk c.loop-buffer.site) (g.T.Site.disk c.take_piece.new.site) _ world _ _ _ []
-    o (piece_to_come _ _ _ _ (c.in_ok-count.ensures.bytes s) c.loop-buffer.lines c.deref.result.now c.deref.ensures.value)
-    (c.loop-buffer.invariant.any_moment s t world stands)
+    let o = c.loop-lines.invariant.onward s t world stands in
+    then_moments (g.T.Site.disk c.args.site.now) (g.T.Site.disk c.loop-lines.site) (g.T.Site.disk c.take_piece.new.site) _ world _ _ _ []
+    o (piece_to_come _ _ _ _ (c.in_ok-count.ensures.bytes s) c.loop-lines.lines c.give_back.new.self c.give_back.ensures)
+    (c.loop-lines.invariant.any_moment s t world stands)
     (c.take_piece.ensures.any_moment t o.now (g.S.Source.left c.pull.new.source) o.stands)
 
 pub returns-in_err-take_piece-clause-too_long : goal.returns-in_err-take_piece-clause-too_long
 returns-in_err-take_piece-clause-too_long g c = λ s.
-    let given = given_more _ _ _ c.in_ok-count.count (c.in_ok-count.ensures.bytes s) c.loop-buffer.taken _
-    (omega (arith, c.in_ok-count.ensures.bound)) (c.loop-buffer.invariant.given s) in (
+    let given = given_more _ _ _ c.in_ok-count.count (c.in_ok-count.ensures.bytes s) c.loop-lines.taken _
+    (omega (arith, c.in_ok-count.ensures.bound)) (c.loop-lines.invariant.given s) in (
       λ h. absurd (not_too_long _ c.in_err-take_piece.field-0.0 c.from_residual-in_err-take_piece.ensures.1 h),
       λ h. absurd (omega (arith, given, h, c.if-taken-limit.false)),
     )
@@ -119,14 +112,14 @@ returns-in_err-take_piece-clause-too_long g c = λ s.
 pub returns-then-taken-limit-clause-left_off : goal.returns-then-taken-limit-clause-left_off
 returns-then-taken-limit-clause-left_off g c = λ s t world stands is.
     let script = g.S.Source.left c.args.source.now in
-    let seen = take c.loop-buffer.taken script in
-    let o = c.loop-buffer.invariant.whole s t world [] stands in
+    let seen = take c.loop-lines.taken script in
+    let o = c.loop-lines.invariant.whole s t world [] stands in
     record {
-      looked_at = c.loop-buffer.taken;
-      within = c.loop-buffer.invariant.taken;
-      last_pull = omega (arith, c.if-taken-limit.true, c.in_ok-count.ensures.bound, c.pull.ensures.room, c.truncate.ensures.len, c.loop-buffer.invariant.piece);
-      finished = subst (λ (bytes : List ℕ). Finished (g.T.Site.disk c.loop-buffer.site) world (whole bytes) (g.T.Site.disk c.args.site.now).told)
-          (append-nil seen) (all_done _ (g.T.Site.disk c.loop-buffer.site) world (whole (seen ++ [])) _ _ o c.loop-buffer.invariant.none);
+      looked_at = c.loop-lines.taken;
+      within = c.loop-lines.invariant.taken;
+      last_pull = omega (arith, c.if-taken-limit.true, c.in_ok-count.ensures.bound, c.pull.ensures.room, c.in_ok-buffer.ensures.piece);
+      finished = subst (λ (bytes : List ℕ). Finished (g.T.Site.disk c.loop-lines.site) world (whole bytes) (g.T.Site.disk c.args.site.now).told)
+          (append-nil seen) (all_done _ (g.T.Site.disk c.loop-lines.site) world (whole (seen ++ [])) _ _ o c.loop-lines.invariant.none);
     }
 
 pub returns-in_err-take_end-clause-left_off : goal.returns-in_err-take_end-clause-left_off
@@ -139,13 +132,33 @@ returns-in_err-take_piece-clause-left_off g c = λ s t world stands is.
 
 pub returns-in_err-take_end-clause-unpulled : goal.returns-in_err-take_end-clause-unpulled
 returns-in_err-take_end-clause-unpulled g c = λ s none.
-    let given = given_more _ _ _ c.in_ok-count.count (c.in_ok-count.ensures.bytes s) c.loop-buffer.taken _
-    (omega (arith, c.in_ok-count.ensures.bound)) (c.loop-buffer.invariant.given s) in
-    let start = c.loop-buffer.invariant.start (omega (arith, given, none, c.if-count-eq0.true)) in
-    undamaged_as _ c.in_err-take_end.field-0.0 c.from_residual-in_err-take_end.ensures.1 (c.in_err-take_end.ensures.nothing start)
+    let given = given_more _ _ _ c.in_ok-count.count (c.in_ok-count.ensures.bytes s) c.loop-lines.taken _
+    (omega (arith, c.in_ok-count.ensures.bound)) (c.loop-lines.invariant.given s) in
+    let start = c.loop-lines.invariant.start (omega (arith, given, none, c.if-count-eq0.true)) in
+    undamaged_as _ c.in_err-take_end.field-0.0 c.from_residual-in_err-take_end.ensures.1 (c.in_err-take_end.ensures.nothing (c.give_back.ensures ∙ start))
 
 pub returns-in_err-take_piece-clause-unpulled : goal.returns-in_err-take_piece-clause-unpulled
 returns-in_err-take_piece-clause-unpulled g c = λ s none.
-    let given = given_more _ _ _ c.in_ok-count.count (c.in_ok-count.ensures.bytes s) c.loop-buffer.taken _
-    (omega (arith, c.in_ok-count.ensures.bound)) (c.loop-buffer.invariant.given s) in
+    let given = given_more _ _ _ c.in_ok-count.count (c.in_ok-count.ensures.bytes s) c.loop-lines.taken _
+    (omega (arith, c.in_ok-count.ensures.bound)) (c.loop-lines.invariant.given s) in
     absurd (omega (arith, given, none, c.if-count-eq0.false))
+
+pub returns-in_err-count-clause-cut_off : goal.returns-in_err-count-clause-cut_off
+returns-in_err-count-clause-cut_off g c = λ s t world stands is.
+    let script = g.S.Source.left c.args.source.now in
+    let seen = take c.loop-lines.taken script in
+    let o = c.loop-lines.invariant.whole s t world [] stands in
+    record {
+      given = seen;
+      cut = c.loop-lines.invariant.left s ∙ ap (λ (l : List ℕ). seen ++ l) (sym (c.in_err-count.ensures.failed s));
+      finished = subst (λ (bytes : List ℕ). Finished (g.T.Site.disk c.loop-lines.site) world (whole bytes) (g.T.Site.disk c.args.site.now).told)
+          (append-nil seen) (all_done _ (g.T.Site.disk c.loop-lines.site) world (whole (seen ++ [])) _ _ o c.loop-lines.invariant.none);
+    }
+
+pub returns-in_err-take_end-clause-cut_off : goal.returns-in_err-take_end-clause-cut_off
+returns-in_err-take_end-clause-cut_off g c = λ s t world stands is.
+    absurd (not_input _ c.in_err-take_end.field-0.0 c.from_residual-in_err-take_end.ensures.1 is)
+
+pub returns-in_err-take_piece-clause-cut_off : goal.returns-in_err-take_piece-clause-cut_off
+returns-in_err-take_piece-clause-cut_off g c = λ s t world stands is.
+    absurd (not_input _ c.in_err-take_piece.field-0.0 c.from_residual-in_err-take_piece.ensures.1 is)

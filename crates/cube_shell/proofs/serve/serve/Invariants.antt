@@ -1,4 +1,4 @@
-use Rattle.std.proofs.Common.{◌≡◌, ◌≤◌, ◌<◌, ◌+◌, ◌-◌, ◌++◌, ℕ, List, [], IsTrue, false, take, length, vec_len}
+use Rattle.std.proofs.Common.{◌≡◌, ◌≤◌, ◌+◌, ◌-◌, ◌++◌, ℕ, List, [], IsTrue, false, take, length}
 use Rattle.site_core.specs.Moments.{LeavesOnly}
 use Rattle.script_lang.specs.Reading.{nothing_read, to_come, whole_with}
 use Rattle.script_lang.specs.Script.{commands, whole}
@@ -8,13 +8,12 @@ use Rattle.cube_shell.specs.World.{World}
 use Rattle.cube_shell.proofs.serve.serve.Given as goal
 
 -- so many bytes were taken, and with those that are left in the source the other commands are still to come
-abbrev pub invariant-loop-buffer : goal.invariant-loop-buffer
-invariant-loop-buffer g l = record {
+abbrev pub invariant-loop-lines : goal.invariant-loop-lines
+invariant-loop-lines g l = record {
   running : IsRunning l.session.state;
   fit : IsTrue g.T.Site.tells → IsFit l.session.state (g.T.Site.disk l.site);
   over : l.lines.over ≡ false;
-  some : 0 < vec_len l.buffer;
-  piece : vec_len l.buffer ≤ 65536;
+  read : l.lines.rest ≡ [];
   start : l.taken ≡ 0 → l.lines ≡ nothing_read;
   taken : l.taken ≤ l.limit;
   given : IsTrue g.S.Source.tells → length (g.S.Source.left l.fn.source) ≡ l.taken + length (g.S.Source.left l.source);
@@ -39,5 +38,5 @@ invariant-loop-buffer g l = record {
   told_faults : g.T.Site.told_faults l.site ≡ g.T.Site.told_faults l.fn.site;
 }
 
-abbrev pub decreases-loop-buffer : goal.decreases-loop-buffer
-decreases-loop-buffer g l = l.limit + 1 - l.taken
+abbrev pub decreases-loop-lines : goal.decreases-loop-lines
+decreases-loop-lines g l = l.limit + 1 - l.taken

@@ -1,21 +1,25 @@
+use Rattle.std.proofs.Common.{◌≡◌}
 use Rattle.script_lang.specs.Script.{commands}
+use Rattle.cube_shell.specs.Damage.{EndsAt, EndsForBreak}
+use Rattle.cube_shell.specs.Ends.{IsUndamaged, IsUsageOrMemory}
+use Rattle.cube_shell.specs.declared.status.Status.TheVariants.{Usage}
 use Rattle.cube_shell.specs.World.{bare}
-use Rattle.cube_shell.proofs.Going.{opened_moments}
-use Rattle.cube_shell.proofs.Statuses.{broken_as, named, none_told_as}
+use Rattle.cube_shell.proofs.Going.{opened_moments, unopened_moments}
+use Rattle.cube_shell.proofs.Statuses.{broken_as, ended_by_words, named, none_told_as, not_ended_so}
 use Rattle.cube_shell.proofs.top_call.attempt.Goals as goal
 
 pub returns-in_err-session-clause-broken : goal.returns-in_err-session-clause-broken
-returns-in_err-session-clause-broken g c = λ t no_words place breaks.
-    named _ c.in_err-session.field-0.0 place c.from_residual.ensures.1 (c.in_err-session.ensures.broken t place breaks).0
+returns-in_err-session-clause-broken g c = λ t valid place breaks.
+    named _ c.in_err-session.field-0.0 place c.from_residual-in_err-session.ensures.1 (c.in_err-session.ensures.broken t place breaks).0
 
 pub returns-clause-broken : goal.returns-clause-broken
-returns-clause-broken g c = λ t no_words place breaks. absurd (c.in_ok-session.ensures.broken t place breaks).1
+returns-clause-broken g c = λ t valid place breaks. absurd (c.in_ok-session.ensures.broken t place breaks).1
 
 pub returns-clause-unpulled : goal.returns-clause-unpulled
-returns-clause-unpulled g c = λ t no_words place breaks. absurd (c.in_ok-session.ensures.broken t place breaks).1
+returns-clause-unpulled g c = λ t valid place breaks. absurd (c.in_ok-session.ensures.broken t place breaks).1
 
 pub returns-clause-untold : goal.returns-clause-untold
-returns-clause-untold g c = λ t no_words place breaks. absurd (c.in_ok-session.ensures.broken t place breaks).1
+returns-clause-untold g c = λ t valid place breaks. absurd (c.in_ok-session.ensures.broken t place breaks).1
 
 pub returns-clause-any_moment : goal.returns-clause-any_moment
 returns-clause-any_moment g c = λ s t kept keeps.
@@ -24,7 +28,32 @@ returns-clause-any_moment g c = λ s t kept keeps.
 
 pub returns-in_err-session-clause-damaged : goal.returns-in_err-session-clause-damaged
 returns-in_err-session-clause-damaged g c = λ s t none.
-    broken_as _ (g.T.Site.disk c.args.site.now).files c.in_err-session.field-0.0 c.from_residual.ensures.1 (c.in_err-session.ensures.damaged t)
+    broken_as _ (g.T.Site.disk c.args.site.now).files c.in_err-session.field-0.0 c.from_residual-in_err-session.ensures.1 (c.in_err-session.ensures.damaged t)
 
 pub returns-clause-damaged : goal.returns-clause-damaged
 returns-clause-damaged g c = λ s t none. none_told_as _ (g.T.Site.disk c.args.site.now).files (c.serve.ensures.unpulled s none)
+
+-- ---- words that are not taken
+
+pub returns-in_err-cache-clause-any_moment : goal.returns-in_err-cache-clause-any_moment
+returns-in_err-cache-clause-any_moment g c = λ s t kept keeps.
+    unopened_moments (g.T.Site.disk c.args.site.now) (bare kept) (commands (g.S.Source.left c.args.source.now)) (λ told files. g.met.T.Site.only_now c.args.site.now told files t)
+
+pub returns-in_err-cache-clause-undamaged : goal.returns-in_err-cache-clause-undamaged
+returns-in_err-cache-clause-undamaged g c = λ t kept keeps. (ended_by_words IsUndamaged _ c.in_err-cache.field-0.0 c.from_residual.ensures.1 (λ is. tt) tt).0
+
+pub returns-in_err-cache-clause-broken : goal.returns-in_err-cache-clause-broken
+returns-in_err-cache-clause-broken g c = λ t valid place breaks.
+    ended_by_words (EndsAt place) _ c.in_err-cache.field-0.0 c.from_residual.ensures.1 (λ is. absurd (c.in_err-cache.ensures.usage is valid)) tt
+
+pub returns-in_err-cache-clause-damaged : goal.returns-in_err-cache-clause-damaged
+returns-in_err-cache-clause-damaged g c = λ s t none.
+    (ended_by_words (EndsForBreak (g.T.Site.disk c.args.site.now).files) _ c.in_err-cache.field-0.0 c.from_residual.ensures.1 (λ is. tt) tt).0
+
+pub returns-in_err-cache-clause-usage : goal.returns-in_err-cache-clause-usage
+returns-in_err-cache-clause-usage g c = λ is valid.
+    not_ended_so _ Usage (ended_by_words (λ status. status ≡ Usage → ⊥) _ c.in_err-cache.field-0.0 c.from_residual.ensures.1
+    (λ usage same. c.in_err-cache.ensures.usage usage valid) (λ same. cc)).0 is
+
+pub returns-in_err-cache-clause-faulty : goal.returns-in_err-cache-clause-faulty
+returns-in_err-cache-clause-faulty g c = λ faulty. ended_by_words IsUsageOrMemory _ c.in_err-cache.field-0.0 c.from_residual.ensures.1 (λ is. tt) tt

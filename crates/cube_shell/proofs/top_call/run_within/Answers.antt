@@ -38,7 +38,7 @@ returns-in-Err-clause-headline g c = λ s t kept keeps.
     }
 
 pub returns-in-Ok-clause-broken : goal.returns-in-Ok-clause-broken
-returns-in-Ok-clause-broken g c = λ t no_words place breaks. absurd (c.in-Ok.ensures.broken t no_words place breaks).1
+returns-in-Ok-clause-broken g c = λ t valid place breaks. absurd (c.in-Ok.ensures.broken t valid place breaks).1
 
 pub returns-in-Err-clause-broken : goal.returns-in-Err-clause-broken
-returns-in-Err-clause-broken g c = λ t no_words place breaks. (c.in-Err.ensures.broken t no_words place breaks).0
+returns-in-Err-clause-broken g c = λ t valid place breaks. (c.in-Err.ensures.broken t valid place breaks).0
