@@ -1,4 +1,5 @@
 pub mod Feeding
 pub mod Feeds
 pub mod LineReads
+pub mod LongLines
 pub mod SaidLines

@@ -3,12 +3,15 @@ use Rattle.std.proofs.Common.{◌≡◌, ◌<◌, ◌≤◌, ◌≢◌, ℕ, ◌
 use Rattle.script_lang.specs.declared.command.Command.{Command}
 use Rattle.script_lang.specs.Script.{lines_from, after_line, commands_in}
 use Rattle.script_lang.specs.Place.{Place}
-use Rattle.script_lang.specs.Reading.{Reading, unread_in, IsBuffer, commands_from, to_come, whole_with, ready}
+use Rattle.script_lang.specs.Reading.{Reading, IsReading, GoesOnAs, unread_in, commands_from, to_come, whole_with, ready}
 use Rattle.script_lang.proofs.Feeds.{to_feed, line_goes_on, feed_there}
 
 pub on_err : {T E : Type 0} (r : Result T E) (P : Type 0) → P → OnErr r P
 on_err (Ok x) P p = tt
 on_err (Err e) P p = p
+
+pub as_before : (now next place : Place) → now ≡ next → GoesOnAs next place → GoesOnAs now place
+as_before now next place is goes over bytes = ap (λ (p : Place). commands_from over p bytes) is ∙ goes over bytes
 
 abbrev pub reading : Bool → Place → List ℕ → Reading
 reading over place rest = record { over = over; place = place; rest = rest }
@@ -16,7 +19,7 @@ reading over place rest = record { over = over; place = place; rest = rest }
 module _ (now : Reading) (over : Bool) (place next : Place) (buffer slice rest front : List ℕ) (at end count : ℕ)
     (view : reading over place (unread_in at end buffer) ≡ now) (all : slice ≡ buffer) (rest_is : rest ≡ unread_in at end slice)
     (to : count ≡ to_feed rest) (front_is : front ≡ take count rest)
-    (extended : next ≡ record { block = place.block; line = place.line ++ front }) where
+    (extended : GoesOnAs next (record { block = place.block; line = place.line ++ front })) where
   abbrev pub fed : List ℕ
   fed = take end buffer
 
@@ -30,7 +33,7 @@ module _ (now : Reading) (over : Bool) (place next : Place) (buffer slice rest f
       ∙ ap (λ k. commands_in ends place.block (lines_from ends (place.line ++ take k rest) (drop k rest ++ more)))
       (sym to)
       ∙ ap (λ (l : List ℕ). commands_in ends place.block (lines_from ends (place.line ++ l) (drop count rest ++ more))) (sym front_is)
-      ∙ ap (λ (p : Place). commands_from ends p (drop count rest ++ more)) (sym extended)
+      ∙ sym (extended ends (drop count rest ++ more))
 
   on : drop count rest ≡ drop (at + count) fed
   on = ap (λ (l : List ℕ). drop count l) left ∙ drop-drop count at fed
@@ -53,7 +56,7 @@ module _ (now : Reading) (over : Bool) (place next : Place) (buffer slice rest f
   pub moved_whole : (more : List ℕ) → whole_with now more ≡ whole_with (reading over next (drop (at + count) fed)) more
   moved_whole more = ap (λ (r : Reading). whole_with r more) (sym view) ∙ from false more
 
-  module _ (inside : at + count ≢ end) (fits : count ≤ length rest) (window : IsBuffer at end buffer)
+  module _ (inside : at + count ≢ end) (fits : count ≤ length rest) (window : IsReading at end buffer place)
       (last : Place) (command : Option Command) (gives : command ≡ (after_line next.block next.line).0)
       (is : last ≡ record { block = (after_line next.block next.line).1; line = [] }) where
     there : drop (at + count) fed ≡ 10 ∷ drop (at + count + 1) fed

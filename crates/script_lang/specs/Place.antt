@@ -1,6 +1,7 @@
 -- Where in a script the reading stands, and how the code keeps it.
-use Rattle.std.specs.Prelude.{ℕ, ◌≤◌, List, length, take, drop, Option, Some, None}
+use Rattle.std.specs.Prelude.{ℕ, ◌+◌, ◌≤◌, List, length, take, drop, Option, Some, None}
 use Rattle.script_lang.specs.Script.{Line, Begun}
+use Rattle.script_lang.specs.declared.command.Block.{Block as Content}
 use Rattle.script_lang.specs.declared.command.Block.TheVariants.{Whole, Long}
 use Rattle.script_lang.specs.declared.reader.Inside.{Inside}
 use Rattle.script_lang.specs.declared.reader.Inside.TheVariants.{Nothing, Block, LongBlock}
@@ -9,6 +10,29 @@ use Rattle.script_lang.specs.declared.reader.Inside.TheVariants.{Nothing, Block,
 pub record Place : Type 0 where
   pub block : Option Begun
   pub line : Line
+
+-- how many bytes of a block are kept
+abbrev pub kept_in : Content → ℕ
+kept_in (Whole bytes) = length bytes
+kept_in Long = 0
+
+abbrev pub kept : Option Begun → ℕ
+kept None = 0
+kept (Some block) = kept_in block.content
+
+-- how many bytes of a block and a line are kept at most: where they are so many, the line is too long for a command, or with it its
+-- block is too long, and the line ends no block
+abbrev pub most_in : Content → ℕ
+most_in (Whole bytes) = 67108869
+most_in Long = 5
+
+abbrev pub most : Option Begun → ℕ
+most None = 65537
+most (Some block) = most_in block.content
+
+-- no more is kept of the block and of the line, whatever their length
+abbrev pub IsShort : Place → Type 0
+IsShort place = kept place.block + length place.line ≤ most place.block
 
 -- the open block, whose whole lines are the first so many bytes of a text
 abbrev pub block_in : Inside → ℕ → List ℕ → Option Begun
@@ -26,7 +50,8 @@ limit_of Nothing = 0
 limit_of (Block what) = 67108864
 limit_of (LongBlock what) = 0
 
--- a text with as many bytes, which keep the limit
+-- a text with as many bytes, which keep the limit, and with no more than are kept
 pub record IsReader (inside : Inside) (start : ℕ) (text : List ℕ) : Type 0 where
   pub within : start ≤ length text
   pub limit : start ≤ limit_of inside
+  pub short : length text ≤ most (block_in inside start text)

@@ -2,7 +2,7 @@
 use Rattle.std.specs.Prelude.{ℕ, ◌≤◌, Bool, true, false, cond, List, [], ◌++◌, ◌≡◌, length, take, drop, Option, None, option_to_list}
 use Rattle.script_lang.specs.declared.command.Command.{Command}
 use Rattle.script_lang.specs.Script.{lines_from, commands_in}
-use Rattle.script_lang.specs.Place.{Place}
+use Rattle.script_lang.specs.Place.{Place, IsShort}
 
 pub record Reading : Type 0 where
   -- whether the script is at its end
@@ -16,12 +16,14 @@ pub record Reading : Type 0 where
 abbrev pub unread_in : ℕ → ℕ → List ℕ → List ℕ
 unread_in at end buffer = drop at (take end buffer)
 
--- a buffer with a place and an end in it
-pub record IsBuffer (at end : ℕ) (buffer : List ℕ) : Type 0 where
+-- a buffer with a place and an end in it, and where the reading stands
+pub record IsReading (at end : ℕ) (buffer : List ℕ) (place : Place) : Type 0 where
   -- no more is looked at than was fed
   pub fed : at ≤ end
   -- no more was fed than the buffer has
   pub within : end ≤ length buffer
+  -- no more of the script is kept than a block may have
+  pub short : IsShort place
 
 abbrev pub nothing_read : Reading
 nothing_read = record { over = false; place = record { block = None; line = [] }; rest = [] }
@@ -33,6 +35,10 @@ with_more reading piece = record { over = reading.over; place = reading.place; r
 -- the commands of these bytes from a place on, at the end of the script or not
 abbrev pub commands_from : Bool → Place → List ℕ → List Command
 commands_from over place bytes = commands_in over place.block (lines_from over place.line bytes)
+
+-- at one place as at the other, whatever bytes follow
+abbrev pub GoesOnAs : Place → Place → Type 0
+GoesOnAs now place = (over : Bool) (bytes : List ℕ) → commands_from over now bytes ≡ commands_from over place bytes
 
 -- the commands still to be given, where these bytes are fed before the end
 abbrev pub to_come : Reading → List ℕ → List Command

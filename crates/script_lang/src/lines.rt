@@ -1,6 +1,7 @@
 //! The commands of a script that is fed in pieces.
 ghost use Rattle.std.specs.Prelude.{◌≡◌, ◌==◌, ◌<◌, ◌≤◌, [], true, false, IfOk, IfSome, OnOk, OnErr, length, take, vec_len, None};
 ghost use Rattle.script_lang.specs.Script.{KeepsLimit};
+ghost use Rattle.script_lang.specs.Place.{IsShort};
 ghost use Rattle.script_lang.specs.Reading.{nothing_read, with_more, Gives, IsFirstReady, IsFirstWhole, StillToCome, StillReady, ready};
 
 use crate::command::Command;
@@ -12,7 +13,7 @@ use std::marker::Model;
 use std::mem;
 
 /// A script that is fed in pieces, and gives its commands one after the other. Each byte is looked at once, except after want
-/// of memory.
+/// of memory. Of a line or a block that is too long no more is kept than tells so.
 #[derive(Drop)]
 pub struct Lines {
     alloc: Global,
@@ -25,13 +26,13 @@ pub struct Lines {
 }
 
 impl Model for Lines {
-    ghost use Rattle.script_lang.specs.Reading.{Reading, unread_in, IsBuffer};
+    ghost use Rattle.script_lang.specs.Reading.{Reading, unread_in, IsReading};
 
     ghost Value = { Reading };
 
     ghost view = { λ l. record { over = l.over; place = l.reader; rest = unread_in l.at l.end l.fed.items } };
 
-    ghost invariant = { λ l. IsBuffer l.at l.end l.fed.items };
+    ghost invariant = { λ l. IsReading l.at l.end l.fed.items l.reader };
 }
 
 impl Lines {
@@ -113,6 +114,7 @@ impl Lines {
         ensures whole { self.old.over ≡ false → IfOk result (IsFirstWhole self.old self.new) }
         ensures none { IfOk result (λ command. command ≡ None → ready self.new ≡ []) }
         ensures read { IfOk result (λ command. command ≡ None → self.new.rest ≡ []) }
+        ensures short { IsShort self.new.place }
         ensures kept { OnErr result (StillToCome self.old self.new) }
         ensures kept_ready { OnErr result (StillReady self.old self.new) }
     {
@@ -145,6 +147,7 @@ impl Lines {
         ensures fits { IfOk result (λ command. IfSome command KeepsLimit) }
         ensures ready { IfOk result (IsFirstReady self.old self.new) }
         ensures whole { IfOk result (IsFirstWhole self.old self.new) }
+        ensures short { IsShort self.new.place }
         ensures kept { OnErr result (StillToCome self.old self.new) }
         ensures kept_ready { OnErr result (StillReady self.old self.new) }
     {
@@ -170,6 +173,7 @@ impl Lines {
         ensures ready { IfOk result (IsFirstReady self.old self.new) }
         ensures none { IfOk result (λ command. command ≡ None → ready self.new ≡ []) }
         ensures read { self.new.rest ≡ [] }
+        ensures short { IsShort self.new.place }
         ensures kept { OnErr result (StillToCome self.old self.new) }
         ensures kept_ready { OnErr result (StillReady self.old self.new) }
     {

@@ -1,10 +1,12 @@
 //! The block that is open, and the line that has begun.
 ghost use Rattle.std.specs.Prelude.{◌≡◌, ◌++◌, ◌==◌, [], IfOk, IfSome, OnOk, OnErr, is_some, length, take, None};
 ghost use Rattle.script_lang.specs.Script.{after_line, after_saying, command_with, KeepsLimit, IsWithin, SaysNoBlock};
-ghost use Rattle.script_lang.specs.Place.{block_in};
+ghost use Rattle.script_lang.specs.Place.{block_in, most, IsShort};
+ghost use Rattle.script_lang.specs.Reading.{GoesOnAs};
 
 use crate::command::{Block, Command};
-use crate::said::{Opening, Said, is_end, said_by};
+use crate::cuts::front;
+use crate::said::{LONGEST_LINE, Opening, Said, is_end, said_by};
 use fact_model::{Memory, Text};
 use std::alloc::Global;
 use std::marker::Model;
@@ -12,6 +14,9 @@ use std::mem;
 
 /// The greatest number of bytes of a block.
 const LONGEST_BLOCK: usize = 67_108_864;
+
+/// The number of bytes of the least line that ends no block, whatever its bytes are.
+const ENDS_NO_BLOCK: usize = 5;
 
 /// Which block is open.
 #[derive(Clone, Copy, Debug, PartialEq, Eq)]
@@ -53,12 +58,14 @@ impl Reader {
         }
     }
 
-    /// Appends bytes to the line.
+    /// Appends bytes to the line. Of a line that is too long no more is kept than tells so, whatever its length.
     pub fn extend(&mut self, bytes: &[u8]) -> Result<(), Memory>
-        ensures ok { OnOk result (self.new ≡ record { block = self.old.block; line = self.old.line ++ bytes.now }) }
+        ensures ok { OnOk result (GoesOnAs self.new (record { block = self.old.block; line = self.old.line ++ bytes.now })) }
+        ensures short { IsShort self.new }
         ensures err { OnErr result (self.new ≡ self.old) }
     {
-        Ok(self.text.extend_from_slice(bytes)?)
+        let room = most(self.inside).saturating_sub(self.text.len());
+        Ok(self.text.extend_from_slice(front(bytes, room))?)
     }
 
     /// Whether no line has begun.
@@ -73,6 +80,7 @@ impl Reader {
         ensures command { IfOk result (λ command. command ≡ (after_line self.old.block self.old.line).0) }
         ensures fits { IfOk result (λ command. IfSome command KeepsLimit) }
         ensures ok { OnOk result (self.new ≡ record { block = (after_line self.old.block self.old.line).1; line = [] }) }
+        ensures short { IsShort self.new }
         ensures err { OnErr result (self.new ≡ self.old) }
     {
         match self.inside {
@@ -121,6 +129,17 @@ impl Reader {
         self.text.clear();
         self.start = 0;
         was
+    }
+}
+
+/// How many bytes are kept at most. Where they are so many, the line is too long for a command, or with it its block is too long.
+fn most(inside: Inside) -> usize
+    ensures { result ≡ most (block_in inside 0 []) }
+{
+    match inside {
+        Inside::Nothing => LONGEST_LINE + 1,
+        Inside::Block(_) => LONGEST_BLOCK + ENDS_NO_BLOCK,
+        Inside::LongBlock(_) => ENDS_NO_BLOCK,
     }
 }
 

@@ -12,7 +12,7 @@ use fact_model::{Memory, Text};
 use std::alloc::Global;
 
 /// The greatest number of bytes of a line between two blocks, with its carriage return.
-const LONGEST_LINE: usize = 65_536;
+pub const LONGEST_LINE: usize = 65_536;
 
 /// What a block is for.
 #[derive(Clone, Copy, Debug, PartialEq, Eq)]
