@@ -10,7 +10,7 @@ use Rattle.script_lang.specs.declared.command.Command.{Command}
 use Rattle.cube_shell.specs.World.{World}
 use Rattle.cube_shell.specs.Machine.{act}
 use Rattle.cube_shell.specs.Keeps.{Keeps}
-use Rattle.cube_shell.specs.Headline.{AfterStop, AfterRun, Meanwhile, Finished, replies_from, final}
+use Rattle.cube_shell.specs.Headline.{AfterStop, AfterRun, Meanwhile, Finished, Settled, replies_from, final}
 use Rattle.cube_shell.specs.Session.{Stands, Carried, Onward}
 use Rattle.cube_shell.proofs.Standing.{stands_read, stands_left}
 use Rattle.cube_shell.proofs.Acts.{reply_some}
@@ -95,6 +95,12 @@ pub finished_at : {E : Type 0} (r : Result (Unit {0}) E) (session : State) (disk
 finished_at (Ok x) session disk w cs rest ready before all onward none is same =
     subst (λ (l : List Command). Finished disk w l before) (sym same) (all_done session disk w cs rest before onward (is none))
 finished_at (Err e) session disk w cs rest ready before all onward none is same = tt
+
+-- a stop behind the run leaves what the commands leave, since nothing is told while the files are opened
+pub settled_behind : (old mid new : Disk) (w : World) (cs : List Command) → Rests old mid → LeavesOnly mid new (AfterStop w cs mid.told)
+    → ((files : Files) → new.may_leave files → new.left_since mid.clock new.told files) → Settled new w cs old.told
+settled_behind old mid new w cs opened run counts files may =
+    subst (λ (before : List ℕ). AfterStop w cs before new.told files) opened.told (run.each new.told files (counts files may))
 
 -- what was told in the end
 pub told_front : (old new : Disk) (w : World) (cs : List Command) → LeavesOnly old new (AfterRun w cs old)

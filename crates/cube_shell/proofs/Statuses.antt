@@ -1,5 +1,5 @@
 -- The statuses of stops.
-use Rattle.std.proofs.Common.{◌≡◌, refl, sym, subst, Result, Ok, Err, OnOk, IfErr}
+use Rattle.std.proofs.Common.{◌≡◌, inl, inr, List, ℕ, refl, sym, subst, Result, Ok, Err, OnOk, IfErr}
 use Rattle.std.specs.Result.{IsErrAnd, IsErrOf}
 use Rattle.site_core.specs.Disk.{Files}
 use Rattle.cube_shell.specs.declared.stop.Stop.{Stop}
@@ -8,7 +8,8 @@ use Rattle.cube_shell.specs.declared.status.Status.{Status}
 use Rattle.cube_shell.specs.declared.status.Status.TheVariants.{Done, Usage, Input, Disk, Output, Damaged, Memory, TooLong}
 use Rattle.forest_open.specs.Opening.{Place}
 use Rattle.cube_shell.specs.Damage.{StopsAt, EndsAt, EndsForBreak, TellsBreak}
-use Rattle.cube_shell.specs.Ends.{IsNoDamage, IsUndamaged, status_of, words_status}
+use Rattle.cube_shell.specs.Ends.{IsNoDamage, IsPastOpening, IsUndamaged, status_of, words_status}
+use Rattle.cube_shell.specs.Headline.{HasOpened}
 use Rattle.cube_words.specs.declared.words.WordsStop.{WordsStop}
 use Rattle.cube_words.specs.declared.words.WordsStop.TheVariants as words
 
@@ -98,3 +99,38 @@ ended_by_words P (Err e) words.Memory from usage memory = (subst P (sym from) me
 pub not_ended_so : {A : Type 0} (r : Result A Status) (status : Status) → IfErr r (λ e. e ≡ status → ⊥) → IsErrOf r status → ⊥
 not_ended_so (Ok x) status another is = cc
 not_ended_so (Err e) status another is = another cc
+
+-- ---- ends before the files are opened
+
+-- what the opening of the files ends in
+still_closed : (stop : Stop) → (stop ≡ stops.Output → ⊥) → IsPastOpening (status_of stop) → ⊥
+still_closed stops.Disk other is = is
+still_closed stops.Output other is = other refl
+still_closed (stops.Damaged file offset) other is = is
+still_closed stops.Memory other is = is
+
+-- no byte was pulled, and the end comes before that
+no_opening : (script : List ℕ) (status : Status) → (IsPastOpening status → ⊥) → HasOpened script script status → ⊥
+no_opening script status closed (inl other) = other refl
+no_opening script status closed (inr past) = closed past
+
+pub unopened : {A : Type 0} (X : Type 0) (script : List ℕ) (r : Result A Status) (stop : Stop) → IsErrAnd r (λ status. status ≡ status_of stop)
+    → (stop ≡ stops.Output → ⊥) → OnOk r X × IfErr r (λ status. HasOpened script script status → X)
+unopened X script (Ok x) stop from other = absurd from
+unopened X script (Err e) stop from other =
+    (tt, λ opened. absurd (no_opening script e (subst (λ (s : Status). IsPastOpening s → ⊥) (sym from) (still_closed stop other)) opened))
+
+words_closed : (stop : WordsStop) → IsPastOpening (words_status stop) → ⊥
+words_closed words.Usage is = is
+words_closed words.Memory is = is
+
+pub unread_words : {A : Type 0} (X : Type 0) (script : List ℕ) (r : Result A Status) (stop : WordsStop)
+    → IsErrAnd r (λ status. status ≡ words_status stop) → OnOk r X × IfErr r (λ status. HasOpened script script status → X)
+unread_words X script (Ok x) stop from = absurd from
+unread_words X script (Err e) stop from =
+    (tt, λ opened. absurd (no_opening script e (subst (λ (s : Status). IsPastOpening s → ⊥) (sym from) (words_closed stop)) opened))
+
+-- behind it, whatever the end
+pub either_way : {A : Type 0} (X : Type 0) (P : Status → Type 0) (r : Result A Status) → X → OnOk r X × IfErr r (λ status. P status → X)
+either_way X P (Ok y) x = (x, tt)
+either_way X P (Err e) x = (tt, λ p. x)

@@ -86,6 +86,17 @@ IsUndamaged Output = Unit {0}
 IsUndamaged Memory = Unit {0}
 IsUndamaged TooLong = Unit {0}
 
+-- this comes only where the files were opened
+abbrev pub IsPastOpening : Status → Type 0
+IsPastOpening Done = Unit {0}
+IsPastOpening Input = Unit {0}
+IsPastOpening Output = Unit {0}
+IsPastOpening TooLong = Unit {0}
+IsPastOpening Usage = ⊥
+IsPastOpening Disk = ⊥
+IsPastOpening (Damaged file offset) = ⊥
+IsPastOpening Memory = ⊥
+
 -- the stops of the calls below as those of a session, and that of a session as the status of a run
 abbrev pub open_stop : OpenStop → Stop
 open_stop opens.Disk = stops.Disk

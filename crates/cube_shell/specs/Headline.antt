@@ -1,5 +1,5 @@
 -- The headline: what a run over a script tells, and what a stop at any moment of it may leave.
-use Rattle.std.specs.Prelude.{◌≡◌, ◌⊎◌, ℕ, ◌+◌, ◌-◌, ◌≤◌, ◌<◌, Bool, cond, List, [], ◌∷◌, ◌++◌, length, take, nat_lt, nat_le, Some, None, slice_get}
+use Rattle.std.specs.Prelude.{◌≡◌, ◌≢◌, ◌⊎◌, ℕ, ◌+◌, ◌-◌, ◌≤◌, ◌<◌, Bool, cond, List, [], ◌∷◌, ◌++◌, length, take, nat_lt, nat_le, Some, None, slice_get}
 use Rattle.site_core.specs.Disk.{Files, Disk}
 use Rattle.site_core.specs.Calls.{TellsFront}
 use Rattle.site_core.specs.Moments.{LeavesOnly}
@@ -9,6 +9,7 @@ use Rattle.script_lang.specs.Script.{commands, whole}
 use Rattle.script_lang.specs.declared.command.Command.{Command}
 use Rattle.cube_shell.specs.Machine.{act}
 use Rattle.cube_shell.specs.World.{Kept, World}
+use Rattle.cube_shell.specs.Ends.{IsPastOpening}
 use Rattle.cube_shell.specs.Keeps.{Keeps}
 
 -- the replies to all commands, joined
@@ -79,6 +80,15 @@ abbrev pub AfterRun : World → List Command → Disk → List ℕ → Files →
 AfterRun world commands start told files =
     AfterStop world commands start.told told files ⊎ ((told ≡ start.told) × start.may_leave files)
 
+-- The files are opened and synced before the first byte of the script is pulled. So they were, where the source has given a byte, or
+-- the run ended in what comes only behind that.
+abbrev pub HasOpened : List ℕ → List ℕ → Status → Type 0
+HasOpened script left status = (left ≢ script) ⊎ IsPastOpening status
+
+-- a stop right behind the run leaves what it leaves of its commands, whatever a stop before the run might have left
+abbrev pub Settled : Disk → World → List Command → List ℕ → Type 0
+Settled now world commands before = (files : Files) → now.may_leave files → AfterStop world commands before now.told files
+
 -- all commands were carried out and their replies told, and the files keep what is known behind them
 pub record Finished (now : Disk) (world : World) (commands : List Command) (before : List ℕ) : Type 0 where
   pub told : now.told ≡ before ++ replies_from world commands
@@ -93,6 +103,8 @@ pub record Headline (world : World) (script left : List ℕ) (start now : Disk) 
   pub read : status ≡ Done → left ≡ []
   -- a stop at any moment leaves a front of the replies, and files that keep what is acknowledged
   pub any_stop : LeavesOnly start now (AfterRun world (commands script) start)
+  -- and so does a stop behind the run, once the files were opened
+  pub settled : HasOpened script left status → Settled now world (commands script) start.told
 
 -- A run that passed its limit: the commands that are whole in the bytes before the pull that passed it were carried out, and of
 -- that pull no byte was looked at. A pull gives at most 65,536 bytes.

@@ -8,7 +8,7 @@ ghost use Rattle.script_lang.specs.Script.{commands};
 ghost use Rattle.cube_words.specs.Words.{AreValid};
 ghost use Rattle.cube_shell.specs.Damage.{EndsAt, EndsForBreak};
 ghost use Rattle.cube_shell.specs.Ends.{EndCause, StatusCause, Stayed, IsDoneOrMemory, IsUndamaged, IsUsageOrMemory, faults};
-ghost use Rattle.cube_shell.specs.Headline.{AfterRun, CutOff, Finished, Headline, LeftOff};
+ghost use Rattle.cube_shell.specs.Headline.{AfterRun, CutOff, Finished, HasOpened, Headline, LeftOff, Settled};
 ghost use Rattle.cube_shell.specs.Keeps.{Keeps};
 ghost use Rattle.cube_shell.specs.Pulls.{Gave, GaveAtMost};
 ghost use Rattle.cube_shell.specs.World.{Kept, bare};
@@ -127,6 +127,10 @@ fn attempt<S: Source, T: Site>(
         → OnOk result (Finished (T.disk site.new) (bare kept) (commands (S.left source.old)) (T.disk site.old).told) }
     ensures any_moment { IsTrue S.tells → IsTrue T.tells → (kept : Kept) → Keeps (T.disk site.old).files kept
         → LeavesOnly (T.disk site.old) (T.disk site.new) (AfterRun (bare kept) (commands (S.left source.old)) (T.disk site.old)) }
+    ensures settled { IsTrue S.tells → IsTrue T.tells → (kept : Kept) → Keeps (T.disk site.old).files kept
+        → OnOk result (Settled (T.disk site.new) (bare kept) (commands (S.left source.old)) (T.disk site.old).told)
+        × IfErr result (λ status. HasOpened (S.left source.old) (S.left source.new) status
+        → Settled (T.disk site.new) (bare kept) (commands (S.left source.old)) (T.disk site.old).told) }
     ensures undamaged { IsTrue T.tells → (kept : Kept) → Keeps (T.disk site.old).files kept
         → IfErr result IsUndamaged }
     ensures broken { IsTrue T.tells → AreValid (map string_bytes words.now) → (place : Place) → BreaksAt (T.disk site.old).files place

@@ -1,11 +1,11 @@
-use Rattle.std.proofs.Common.{◌≡◌}
+use Rattle.std.proofs.Common.{◌≡◌, ap, Err}
 use Rattle.script_lang.specs.Script.{commands}
 use Rattle.cube_shell.specs.Damage.{EndsAt, EndsForBreak}
 use Rattle.cube_shell.specs.Ends.{IsUndamaged, IsUsageOrMemory}
 use Rattle.cube_shell.specs.declared.status.Status.TheVariants.{Usage}
 use Rattle.cube_shell.specs.World.{bare}
-use Rattle.cube_shell.proofs.Going.{opened_moments, unopened_moments}
-use Rattle.cube_shell.proofs.Statuses.{broken_as, ended_by_words, named, none_told_as, not_ended_so}
+use Rattle.cube_shell.proofs.Going.{opened_moments, settled_behind, unopened_moments}
+use Rattle.cube_shell.proofs.Statuses.{broken_as, either_way, ended_by_words, named, none_told_as, not_ended_so, unopened, unread_words}
 use Rattle.cube_shell.proofs.top_call.attempt.Goals as goal
 
 pub returns-in_err-session-clause-broken : goal.returns-in_err-session-clause-broken
@@ -26,6 +26,19 @@ returns-clause-any_moment g c = λ s t kept keeps.
     opened_moments (g.T.Site.disk c.args.site.now) (g.T.Site.disk c.start.new.site) (g.T.Site.disk c.serve.new.site) (bare kept) (commands (g.S.Source.left c.args.source.now)) (c.in_ok-session.ensures.disk t)
     (λ told files. g.met.T.Site.only_now c.args.site.now told files t) (c.serve.ensures.any_moment s t (bare kept) (c.in_ok-session.ensures.opened t kept keeps))
 
+pub returns-clause-settled : goal.returns-clause-settled
+returns-clause-settled g c = λ s t kept keeps.
+    let run = c.serve.ensures.any_moment s t (bare kept) (c.in_ok-session.ensures.opened t kept keeps) in
+    either_way _ _ _
+    (settled_behind (g.T.Site.disk c.args.site.now) (g.T.Site.disk c.start.new.site) (g.T.Site.disk c.serve.new.site) (bare kept)
+    (commands (g.S.Source.left c.args.source.now)) (c.in_ok-session.ensures.disk t) run
+    (λ files. g.met.T.Site.counts_now c.serve.new.site (g.T.Site.disk c.start.new.site).clock files t run.later))
+
+pub returns-in_err-session-clause-settled : goal.returns-in_err-session-clause-settled
+returns-in_err-session-clause-settled g c = λ s t kept keeps.
+    unopened _ _ _ c.in_err-session.field-0.0 c.from_residual-in_err-session.ensures.1
+    (λ same. c.in_err-session.ensures.no_output (ap Err same))
+
 pub returns-in_err-session-clause-damaged : goal.returns-in_err-session-clause-damaged
 returns-in_err-session-clause-damaged g c = λ s t none.
     broken_as _ (g.T.Site.disk c.args.site.now).files c.in_err-session.field-0.0 c.from_residual-in_err-session.ensures.1 (c.in_err-session.ensures.damaged t)
@@ -38,6 +51,9 @@ returns-clause-damaged g c = λ s t none. none_told_as _ (g.T.Site.disk c.args.s
 pub returns-in_err-cache-clause-any_moment : goal.returns-in_err-cache-clause-any_moment
 returns-in_err-cache-clause-any_moment g c = λ s t kept keeps.
     unopened_moments (g.T.Site.disk c.args.site.now) (bare kept) (commands (g.S.Source.left c.args.source.now)) (λ told files. g.met.T.Site.only_now c.args.site.now told files t)
+
+pub returns-in_err-cache-clause-settled : goal.returns-in_err-cache-clause-settled
+returns-in_err-cache-clause-settled g c = λ s t kept keeps. unread_words _ _ _ c.in_err-cache.field-0.0 c.from_residual.ensures.1
 
 pub returns-in_err-cache-clause-undamaged : goal.returns-in_err-cache-clause-undamaged
 returns-in_err-cache-clause-undamaged g c = λ t kept keeps. (ended_by_words IsUndamaged _ c.in_err-cache.field-0.0 c.from_residual.ensures.1 (λ is. tt) tt).0

@@ -22,6 +22,7 @@ returns-in-Ok-clause-headline g c = λ s t kept keeps.
       whole = λ is. c.in-Ok.ensures.finished s t kept keeps;
       read = λ is. c.in-Ok.ensures.read s;
       any_stop = run;
+      settled = λ opened. (c.in-Ok.ensures.settled s t kept keeps).0;
     }
 
 pub returns-in-Err-clause-headline : goal.returns-in-Err-clause-headline
@@ -35,6 +36,7 @@ returns-in-Err-clause-headline g c = λ s t kept keeps.
       whole = λ is. absurd (not_done _ _ _ c.in-Err.ensures.cause is);
       read = λ is. absurd (not_done _ _ _ c.in-Err.ensures.cause is);
       any_stop = run;
+      settled = (c.in-Err.ensures.settled s t kept keeps).1;
     }
 
 pub returns-in-Ok-clause-broken : goal.returns-in-Ok-clause-broken
