@@ -43,17 +43,55 @@ fn empty_script(rt: HostRuntime) -> Result<(), Fail> {
     Ok(())
 }
 
+/// Appends so many letters.
+fn push_letters(alloc: Global, script: &mut Vec<u8>, count: usize) -> Result<(), Fail> {
+    Ok(script.extend_from_slice(&vec![in alloc; b'a'; count]?)?)
+}
+
 #[test]
 fn long_line(rt: HostRuntime) -> Result<(), Fail> {
     let alloc = rt.alloc();
-    let mut script = vec![in alloc; b'a'; 65_536]?;
-    script.push(b'\n')?;
-    script.extend_from_slice(&vec![in alloc; b'a'; 65_537]?)?;
-    script.push(b'\n')?;
+    let mut script = Vec::new(alloc);
+    for letters in [65_536, 65_537, 200_000] {
+        push_letters(alloc, &mut script, letters)?;
+        script.push(b'\n')?;
+    }
     let mut site = MemorySite::new(alloc);
     assert_eq!(rt; run_over(alloc, &mut site, &script)?, Status::Done);
-    let told = b"refused unknown\nrefused long line\n".as_slice();
+    let told = b"refused unknown\nrefused long line\nrefused long line\n".as_slice();
     assert_eq!(rt; site.told(), told);
+    Ok(())
+}
+
+// With its line feed the first of these blocks is one byte too long.
+#[test]
+fn long_block(rt: HostRuntime) -> Result<(), Fail> {
+    let alloc = rt.alloc();
+    for (front, letters, behind, told) in [
+        (
+            "schema\n",
+            67_108_864,
+            "\nend\nstatus\n",
+            "refused schema block\nno schema\n",
+        ),
+        (
+            "schema\nattr a number\nmeasure m\nview a\nend\nload\n",
+            67_200_000,
+            "\nending\nend\r\nstatus\n",
+            "declared\nrefused block\nfacts 0\n",
+        ),
+    ] {
+        let mut script = Vec::from_slice(alloc, front.as_bytes())?;
+        push_letters(alloc, &mut script, letters)?;
+        script.extend_from_slice(behind.as_bytes())?;
+        let mut site = MemorySite::new(alloc);
+        assert_eq!(rt;
+            run_over(alloc, &mut site, &script)?,
+            Status::Done,
+            "{letters} letters"
+        );
+        assert_eq!(rt; site.told(), told.as_bytes(), "{letters} letters");
+    }
     Ok(())
 }
 
