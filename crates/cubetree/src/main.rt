@@ -1,28 +1,22 @@
 //! The program: a script from standard input, the replies to standard output, the files in the current folder.
 #![tactic(auto)]
 
-mod folder;
-mod input;
-mod output;
-mod site;
+mod current_folder;
+mod data_file;
+mod open_files;
+mod standard_input;
 #[cfg(test)]
 mod tests;
+mod words;
 
 use cube_shell::{Status, run};
-use input::Input;
-use site::FolderSite;
+use current_folder::CurrentFolder;
+use site_folder::{FolderSite, Input};
+use standard_input::StandardInput;
+use std::io;
 use std::io::Print;
 use std::process::ExitCode;
-use std::{env, io};
-
-/// The words after the program's name.
-fn words(rt: &HostRuntime) -> io::Result<Vec<String>> {
-    let mut words = Vec::new(rt.alloc());
-    for word in env::args(rt)?.skip(1) {
-        words.push(word)?;
-    }
-    Ok(words)
-}
+use words::{fault_of_words, words};
 
 /// Writes what went wrong to standard error.
 fn report(rt: &HostRuntime, status: Status) -> io::Result<()> {
@@ -46,11 +40,10 @@ fn run_here(rt: &HostRuntime) -> Status {
         Ok(words) => run(
             rt.alloc(),
             &words,
-            &mut Input::new(rt.stdin()),
-            &mut FolderSite::new(rt),
+            &mut Input::new(StandardInput(rt.stdin())),
+            &mut FolderSite::new(CurrentFolder::new(rt)),
         ),
-        Err(error) if error.kind() == io::ErrorKind::OutOfMemory => Status::Memory,
-        Err(_) => Status::Usage,
+        Err(error) => fault_of_words(&error),
     }
 }
 

@@ -1,6 +1,7 @@
 //! The site over real files, in folders of the tests' own.
-use crate::site::FolderSite;
+use crate::current_folder::CurrentFolder;
 use site_core::Site;
+use site_folder::FolderSite;
 use std::path::PathBuf;
 use std::process::Abort;
 use std::test::Fail;
@@ -35,7 +36,7 @@ fn lengths(rt: &impl Abort, site: &mut FolderSite<'_>, wanted: [u64; 4]) {
 #[test]
 fn files_are_made_written_synced_and_read_back(rt: HostRuntime) -> Result<(), Fail> {
     let room = enter_room(&rt, "files")?;
-    let mut site = FolderSite::new(&rt);
+    let mut site = FolderSite::new(CurrentFolder::new(&rt));
     // A file that is not there has length 0, gives nothing, and is not made by being asked for.
     lengths(&rt, &mut site, [0, 0, 0, 0]);
     reads(&rt, &mut site, 1, 0, b"");
@@ -48,7 +49,7 @@ fn files_are_made_written_synced_and_read_back(rt: HostRuntime) -> Result<(), Fa
     assert_eq!(rt; site.sync(), Ok(()));
     lengths(&rt, &mut site, [0, 8, 0, 4]);
     // Another site over the same folder opens what is there.
-    let mut again = FolderSite::new(&rt);
+    let mut again = FolderSite::new(CurrentFolder::new(&rt));
     assert_eq!(rt; again.sync(), Ok(()));
     lengths(&rt, &mut again, [0, 8, 0, 4]);
     reads(&rt, &mut again, 1, 0, b"botom up");
@@ -63,7 +64,7 @@ fn files_are_made_written_synced_and_read_back(rt: HostRuntime) -> Result<(), Fa
 fn a_folder_in_the_place_of_a_file_is_a_fault(rt: HostRuntime) -> Result<(), Fail> {
     let room = enter_room(&rt, "fault")?;
     fs::create_dir(&rt, "root")?;
-    let mut site = FolderSite::new(&rt);
+    let mut site = FolderSite::new(CurrentFolder::new(&rt));
     assert!(rt; site.write(0, 0, b"x").is_err());
     assert!(rt; site.sync().is_err());
     fs::remove_dir_all(&rt, &room)?;

@@ -1,6 +1,6 @@
 //! Four files and an output: what a read gives, and what a stop may leave.
 ghost use Rattle.std.specs.Prelude.{◌≡◌, ◌<◌, ◌≤◌, ◌+◌, ◌⊎◌, ℕ, List, Bool, IsTrue, length, ◌++◌, IfOk, OnOk};
-ghost use Rattle.site_core.specs.Causes.{HasCause};
+ghost use Rattle.site_core.specs.Causes.{HasCause, Rose};
 ghost use Rattle.site_core.specs.Disk.{Files, Disk, with_file, overwritten};
 ghost use Rattle.site_core.specs.Moments.{IsStable};
 ghost use Rattle.site_core.specs.Calls.{Rests, Fills, Writes, Emits};
@@ -56,6 +56,7 @@ pub trait Site {
         ensures cause { HasCause (disk_faults self.old) (disk_faults self.new) result }
         ensures told_faults { told_faults self.new ≡ told_faults self.old }
         ensures reads { reads self.old ≤ reads self.new }
+        ensures counted { Rose (reads self.old) (reads self.new) }
         ensures one { reads self.new ≤ reads self.old + 1 }
         ensures writes { writes self.new ≡ writes self.old };
 
@@ -72,6 +73,7 @@ pub trait Site {
         ensures told_faults { told_faults self.new ≡ told_faults self.old }
         ensures reads { reads self.new ≡ reads self.old }
         ensures writes { writes self.old ≤ writes self.new }
+        ensures counted { Rose (writes self.old) (writes self.new) }
         ensures one { writes self.new ≤ writes self.old + 1 };
 
     /// Makes all that was written stable: a stop right afterwards leaves what a read gives. After a fault nothing has

@@ -19,6 +19,10 @@ source_piece source = source.piece
 abbrev pub source_number : MemorySource → ℕ
 source_number source = source.next
 
+-- how many pulls have met the end
+abbrev pub source_ends : MemorySource → ℕ
+source_ends source = source.ended
+
 -- the number of the pull that is to fail, if there is one
 abbrev pub source_fails : MemorySource → Option ℕ
 source_fails source = source.fails

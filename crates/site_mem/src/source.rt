@@ -1,7 +1,7 @@
 //! Sources over bytes in memory.
 ghost use Rattle.std.specs.Prelude.{◌≡◌, ◌<◌, ◌≤◌, ◌+◌, ◌-◌, ◌^◌, min, true, drop, length, IsErr, IsOk, OnErr, OnOk, IfOk, None, Some};
 ghost use Rattle.site_core.specs.Causes.{HasCause};
-ghost use Rattle.site_core.specs.Pull.{Gives};
+ghost use Rattle.site_core.specs.Pull.{Gives, MeetsEnd};
 
 use fact_model::Text;
 use site_core::{Fault, Source};
@@ -15,10 +15,11 @@ pub struct MemorySource {
     fails: Option<u64>,
     next: u64,
     faults: u64,
+    ended: u64,
     ghost some: { 0 < piece },
 }
 
-/// The same, of which no pull fails.
+/// The same, of which no pull fails. It counts no pulls.
 #[derive(Drop)]
 pub struct SureSource {
     bytes: Text,
@@ -28,7 +29,7 @@ pub struct SureSource {
 }
 
 impl MemorySource {
-    ghost use Rattle.site_mem.specs.Source.{source_left, source_faults, source_piece, source_number, source_fails};
+    ghost use Rattle.site_mem.specs.Source.{source_left, source_faults, source_piece, source_number, source_fails, source_ends};
 
     /// These bytes, at most `piece` of them a pull. It takes no memory.
     pub fn new(bytes: Text, piece: usize) -> MemorySource
@@ -37,6 +38,7 @@ impl MemorySource {
         ensures faults { source_faults result ≡ 0 }
         ensures piece { source_piece result ≡ piece }
         ensures number { source_number result ≡ 0 }
+        ensures ends { source_ends result ≡ 0 }
         ensures fails { source_fails result ≡ None }
     {
         MemorySource {
@@ -46,6 +48,7 @@ impl MemorySource {
             fails: None,
             next: 0,
             faults: 0,
+            ended: 0,
         }
     }
 
@@ -57,6 +60,7 @@ impl MemorySource {
         ensures faults { source_faults self.new ≡ source_faults self.old }
         ensures piece { source_piece self.new ≡ source_piece self.old }
         ensures number { source_number self.new ≡ source_number self.old }
+        ensures ends { source_ends self.new ≡ source_ends self.old }
     {
         self.fails = Some(pull);
     }
@@ -81,13 +85,17 @@ impl SureSource {
 
 impl Source for MemorySource {
     ghost use Rattle.site_mem.specs.Counts.{risen};
-    ghost use Rattle.site_mem.specs.Source.{source_left, source_faults, source_piece, source_number, source_fails, pulled, IsPullNamed};
+    ghost use Rattle.site_mem.specs.Source.{source_left, source_faults, source_piece, source_number, source_fails, source_ends, pulled, IsPullNamed};
 
     ghost tells = { true };
 
     ghost left = { λ s. source_left s };
 
     ghost faults = { λ s. s.faults };
+
+    ghost pulls = { λ s. source_number s };
+
+    ghost ends = { λ s. source_ends s };
 
     fn pull(&mut self, into: &mut [u8]) -> Result<usize, Fault>
         requires { 0 < length into.old }
@@ -105,6 +113,9 @@ impl Source for MemorySource {
         ensures fails { OnOk result (source_fails self.new ≡ source_fails self.old) }
         ensures faults { OnErr result (source_faults self.new ≡ risen (source_faults self.old)) }
         ensures number { source_number self.new ≡ risen (source_number self.old) }
+        ensures one { source_number self.new ≤ source_number self.old + 1 }
+        ensures end { MeetsEnd (source_ends self.old) (source_ends self.new) result }
+        ensures met { IfOk result (λ count. count ≡ 0 → source_ends self.new ≡ risen (source_ends self.old)) }
         ensures piece { source_piece self.new ≡ source_piece self.old }
     {
         let number = self.next;
@@ -114,7 +125,11 @@ impl Source for MemorySource {
             self.faults = self.faults.saturating_add(1);
             return Err(Fault);
         }
-        Ok(give(self.bytes.as_bytes(), &mut self.taken, self.piece, into))
+        let count = give(self.bytes.as_bytes(), &mut self.taken, self.piece, into);
+        if count == 0 {
+            self.ended = self.ended.saturating_add(1);
+        }
+        Ok(count)
     }
 }
 
@@ -127,6 +142,10 @@ impl Source for SureSource {
 
     ghost faults = { λ _. 0 };
 
+    ghost pulls = { λ _. 0 };
+
+    ghost ends = { λ _. 0 };
+
     fn pull(&mut self, into: &mut [u8]) -> Result<usize, Fault>
         requires { 0 < length into.old }
         ensures bound { IfOk result (λ count. count ≤ length into.new) }
@@ -134,6 +153,8 @@ impl Source for SureSource {
             (λ count. Gives (sure_left self.old) (sure_left self.new) count into.new) }
         ensures failed { OnErr result (sure_left self.new ≡ sure_left self.old) }
         ensures cause { HasCause 0 0 result }
+        ensures one { 0 ≤ 0 + 1 }
+        ensures end { MeetsEnd 0 0 result }
         ensures count { IfOk result
             (λ count. count ≡ pulled (sure_piece self.old) (length into.old) (sure_left self.old)) }
         ensures sure { IsOk result }

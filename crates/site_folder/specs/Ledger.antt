@@ -1,0 +1,38 @@
+-- What is open of four files, and what is synced of them.
+use Rattle.std.specs.Prelude.{◌≢◌, ℕ, ◌<◌, Bool, IsTrue}
+
+pub record Ledger : Type 0 where
+  -- the file with this number is open
+  pub opened : ℕ → Bool
+  -- all of it that was written is synced
+  pub synced : ℕ → Bool
+  -- the folder was synced since a file was made in it
+  pub listed : Bool
+  -- the output holds nothing back
+  pub flushed : Bool
+
+-- what is open stays open, and what is synced stays synced
+pub record Keeps (old new : Ledger) : Type 0 where
+  pub opened : (g : ℕ) → IsTrue (old.opened g) → IsTrue (new.opened g)
+  pub synced : (g : ℕ) → IsTrue (old.synced g) → IsTrue (new.synced g)
+  pub listed : IsTrue old.listed → IsTrue new.listed
+
+-- the same of all but the bytes of this file
+pub record KeepsOthers (file : ℕ) (old new : Ledger) : Type 0 where
+  pub opened : (g : ℕ) → IsTrue (old.opened g) → IsTrue (new.opened g)
+  pub synced : (g : ℕ) → g ≢ file → IsTrue (old.synced g) → IsTrue (new.synced g)
+  pub listed : IsTrue old.listed → IsTrue new.listed
+
+-- the same of all but the names of the folder
+pub record KeepsFiles (old new : Ledger) : Type 0 where
+  pub opened : (g : ℕ) → IsTrue (old.opened g) → IsTrue (new.opened g)
+  pub synced : (g : ℕ) → IsTrue (old.synced g) → IsTrue (new.synced g)
+
+-- the first so many files are synced
+abbrev pub AreSyncedTo : ℕ → Ledger → Type 0
+AreSyncedTo count ledger = (g : ℕ) → g < count → IsTrue (ledger.synced g)
+
+-- all four files are synced, and the folder that holds them
+pub record IsAllSynced (ledger : Ledger) : Type 0 where
+  pub files : AreSyncedTo 4 ledger
+  pub listed : IsTrue ledger.listed

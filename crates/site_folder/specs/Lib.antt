@@ -1,0 +1,4 @@
+pub mod Finding
+pub mod Ledger
+pub mod Names
+pub mod Reads

@@ -1,0 +1,41 @@
+//! The source over a reader.
+ghost use Rattle.std.specs.Prelude.{length};
+
+use crate::reader::Reader;
+use site_core::{Fault, Source};
+
+/// What a reader gives, one read a pull, with the count of its faults, which begins at 0.
+#[derive(Drop)]
+pub struct Input<R> {
+    reader: R,
+    faults: u64,
+}
+
+impl<R> Input<R> {
+    /// A reader of which nothing was asked yet. It takes no memory.
+    pub fn new(reader: R) -> Self {
+        Input { reader, faults: 0 }
+    }
+}
+
+impl<R: Reader> Source for Input<R> {
+    ghost tells = { R.tells };
+
+    ghost left = { λ s. R.left s.reader };
+
+    ghost faults = { λ s. s.faults };
+
+    ghost pulls = { λ s. R.reads s.reader };
+
+    ghost ends = { λ s. R.ends s.reader };
+
+    fn pull(&mut self, into: &mut [u8]) -> Result<usize, Fault> {
+        match self.reader.read(into) {
+            Ok(count) => Ok(count),
+            Err(_) => {
+                self.faults = self.faults.saturating_add(1);
+                Err(Fault)
+            }
+        }
+    }
+}

@@ -1,0 +1,16 @@
+//! The site over four files of a folder and an output, and the source over a reader, from single calls of the system.
+//!
+//! What the system does in one call is said by two traits, `Host` and `Reader`. All loops over such calls, their order and
+//! what becomes of their faults are proved here, for every host and reader that keeps to its trait.
+#![tactic(auto)]
+
+mod calls;
+mod host;
+mod input;
+mod reader;
+mod site;
+
+pub use host::Host;
+pub use input::Input;
+pub use reader::Reader;
+pub use site::FolderSite;

@@ -1,0 +1,178 @@
+//! The site over a host.
+ghost use Rattle.std.specs.Prelude.{◌≡◌, ◌<◌, ◌≤◌, ◌+◌, ◌++◌, ℕ, IsTrue, length, IfOk, OnOk};
+ghost use Rattle.site_core.specs.Calls.{Rests, Fills, Writes, Emits};
+ghost use Rattle.site_core.specs.Causes.{HasCause};
+ghost use Rattle.site_core.specs.Disk.{with_file, overwritten};
+ghost use Rattle.site_core.specs.Moments.{IsStable};
+ghost use Rattle.site_folder.specs.Ledger.{IsAllSynced, Keeps};
+
+use crate::calls::{fill, find, put, sync_files, tell};
+use crate::host::Host;
+use site_core::{Fault, Site};
+use std::io;
+
+/// Four files of a folder and an output, with the four counts, each of which begins at 0. A file is opened when it is first
+/// asked for, and made at its first write.
+#[derive(Drop)]
+pub struct FolderSite<H: Host> {
+    host: H,
+    is_listed: bool,
+    disk_faults: u64,
+    told_faults: u64,
+    reads: u64,
+    writes: u64,
+    ghost listed: { IsTrue is_listed → IsTrue (H.ledger host).listed },
+}
+
+impl<H: Host> FolderSite<H> {
+    /// A host of which nothing was asked yet. It takes no memory.
+    pub fn new(host: H) -> FolderSite<H> {
+        FolderSite {
+            host,
+            is_listed: false,
+            disk_faults: 0,
+            told_faults: 0,
+            reads: 0,
+            writes: 0,
+        }
+    }
+}
+
+/// Counts a failure.
+fn counted<T: Drop>(outcome: io::Result<T>, faults: &mut u64) -> Result<T, Fault>
+    ensures cause { HasCause faults.old faults.new result }
+    ensures value { IfOk result (λ value. outcome ≡ Ok value) }
+{
+    match outcome {
+        Ok(value) => Ok(value),
+        Err(_) => {
+            *faults = faults.saturating_add(1);
+            Err(Fault)
+        }
+    }
+}
+
+/// The length of a file, which is 0 where it is not there.
+fn length_of<H: Host>(host: &mut H, file: u32) -> io::Result<u64>
+    requires { file < 4 }
+    ensures answer { IsTrue H.tells → IfOk result (λ count. count ≡ length ((H.disk host.old).files file)) }
+    ensures keeps { Keeps (H.ledger host.old) (H.ledger host.new) }
+    ensures disk { IsTrue H.tells → Rests (H.disk host.old) (H.disk host.new) }
+{
+    if find(host, file)? {
+        return host.length(file);
+    }
+    Ok(0)
+}
+
+/// Fills `into` with the bytes of a file from a place, as many as it has; none where it is not there.
+fn read_from<H: Host>(host: &mut H, file: u32, at: u64, into: &mut [u8]) -> io::Result<usize>
+    requires { file < 4 }
+    ensures bound { IfOk result (λ count. count ≤ length into.new) }
+    ensures answer { IsTrue H.tells → IfOk result (λ count. Fills ((H.disk host.old).files file) at count into.new) }
+    ensures keeps { Keeps (H.ledger host.old) (H.ledger host.new) }
+    ensures disk { IsTrue H.tells → Rests (H.disk host.old) (H.disk host.new) }
+{
+    if find(host, file)? {
+        return fill(host, file, at, into);
+    }
+    Ok(0)
+}
+
+/// Opens a file, and makes it where it is not there; then the folder has to be synced.
+fn find_or_make<H: Host>(host: &mut H, is_listed: &mut bool, file: u32) -> io::Result<()>
+    requires file { file < 4 }
+    requires listed { IsTrue is_listed.old → IsTrue (H.ledger host.old).listed }
+    ensures opened { OnOk result (IsTrue ((H.ledger host.new).opened file)) }
+    ensures listed { IsTrue is_listed.new → IsTrue (H.ledger host.new).listed }
+    ensures disk { IsTrue H.tells → Rests (H.disk host.old) (H.disk host.new) }
+{
+    if find(host, file)? {
+        return Ok(());
+    }
+    *is_listed = false;
+    host.make(file)
+}
+
+/// Puts bytes at a place of a file, which is made where it is not there.
+fn write_to<H: Host>(
+    host: &mut H,
+    is_listed: &mut bool,
+    file: u32,
+    at: u64,
+    bytes: &[u8],
+) -> io::Result<()>
+    requires file { file < 4 }
+    requires place { IsTrue H.tells → at ≤ length ((H.disk host.old).files file) }
+    requires listed { IsTrue is_listed.old → IsTrue (H.ledger host.old).listed }
+    ensures written { IsTrue H.tells → OnOk result ((H.disk host.new).files
+        ≡ with_file (H.disk host.old).files file (overwritten ((H.disk host.old).files file) at bytes.now)) }
+    ensures listed { IsTrue is_listed.new → IsTrue (H.ledger host.new).listed }
+    ensures disk { IsTrue H.tells → Writes file at bytes.now (H.disk host.old) (H.disk host.new) }
+{
+    find_or_make(host, is_listed, file)?;
+    put(host, file, at, bytes)
+}
+
+/// Syncs all files that are there, and the folder where a file may have been made since it was synced.
+fn sync_all<H: Host>(host: &mut H, is_listed: &mut bool) -> io::Result<()>
+    requires listed { IsTrue is_listed.old → IsTrue (H.ledger host.old).listed }
+    ensures synced { OnOk result (IsAllSynced (H.ledger host.new)) }
+    ensures stable { IsTrue H.tells → OnOk result (IsStable (H.disk host.new)) }
+    ensures listed { IsTrue is_listed.new → IsTrue (H.ledger host.new).listed }
+    ensures disk { IsTrue H.tells → Rests (H.disk host.old) (H.disk host.new) }
+{
+    sync_files(host)?;
+    if !*is_listed {
+        host.sync_folder()?;
+        *is_listed = true;
+    }
+    Ok(())
+}
+
+impl<H: Host> Site for FolderSite<H> {
+    ghost tells = { H.tells };
+
+    ghost disk = { λ s. H.disk s.host };
+
+    ghost disk_faults = { λ s. s.disk_faults };
+
+    ghost told_faults = { λ s. s.told_faults };
+
+    ghost reads = { λ s. s.reads };
+
+    ghost writes = { λ s. s.writes };
+
+    ghost read_now = { λ s tells. H.read_now s.host tells };
+
+    ghost counts_now = { λ s t files tells. H.counts_now s.host t files tells };
+
+    ghost only_now = { λ s told files tells. H.only_now s.host told files tells };
+
+    fn length(&mut self, file: u32) -> Result<u64, Fault> {
+        counted(length_of(&mut self.host, file), &mut self.disk_faults)
+    }
+
+    fn read(&mut self, file: u32, at: u64, into: &mut [u8]) -> Result<usize, Fault> {
+        self.reads = self.reads.saturating_add(1);
+        counted(
+            read_from(&mut self.host, file, at, into),
+            &mut self.disk_faults,
+        )
+    }
+
+    fn write(&mut self, file: u32, at: u64, bytes: &[u8]) -> Result<(), Fault> {
+        self.writes = self.writes.saturating_add(1);
+        let outcome = write_to(&mut self.host, &mut self.is_listed, file, at, bytes);
+        counted(outcome, &mut self.disk_faults)
+    }
+
+    fn sync(&mut self) -> Result<(), Fault> {
+        let outcome = sync_all(&mut self.host, &mut self.is_listed);
+        counted(outcome, &mut self.disk_faults)
+    }
+
+    fn emit(&mut self, bytes: &[u8]) -> Result<(), Fault> {
+        counted(tell(&mut self.host, bytes), &mut self.told_faults)
+    }
+}
