@@ -18,7 +18,13 @@ fn enter_room(rt: &HostRuntime, test: &str) -> Result<PathBuf, Fail> {
 }
 
 /// The site reads these bytes of a file, and no more from there.
-fn reads(rt: &impl Abort, site: &mut FolderSite<'_>, file: u32, at: u64, wanted: &[u8]) {
+fn reads(
+    rt: &impl Abort,
+    site: &mut FolderSite<CurrentFolder<'_>>,
+    file: u32,
+    at: u64,
+    wanted: &[u8],
+) {
     assert!(rt; file < 4);
     let mut into = [0u8; 16];
     let count = site.read(file, at, &mut into);
@@ -27,7 +33,7 @@ fn reads(rt: &impl Abort, site: &mut FolderSite<'_>, file: u32, at: u64, wanted:
     assert_eq!(rt; &into[..count], wanted, "file {file} from {at}");
 }
 
-fn lengths(rt: &impl Abort, site: &mut FolderSite<'_>, wanted: [u64; 4]) {
+fn lengths(rt: &impl Abort, site: &mut FolderSite<CurrentFolder<'_>>, wanted: [u64; 4]) {
     for file in 0..4u32 {
         assert_eq!(rt; site.length(file), Ok(wanted[file as usize]), "file {file}");
     }
