@@ -1,7 +1,7 @@
 //! The script, as a source gives it in pieces.
-ghost use Rattle.std.specs.Prelude.{◌≡◌, ◌≤◌, ◌<◌, IsTrue, OnErr, IfOk, IfErr, vec_len};
+ghost use Rattle.std.specs.Prelude.{◌≡◌, ◌≤◌, ◌<◌, ◌+◌, IsTrue, OnErr, IfOk, IfErr, vec_len};
 ghost use Rattle.site_core.specs.Causes.{HasCause};
-ghost use Rattle.site_core.specs.Pull.{Gives};
+ghost use Rattle.site_core.specs.Pull.{Gives, MeetsEnd};
 
 use crate::status::Status;
 use site_core::Source;
@@ -36,6 +36,8 @@ pub fn pull<S: Source>(source: &mut S, into: &mut Vec<u8>) -> Result<usize, Stat
     ensures failed { IsTrue S.tells → OnErr result (S.left source.new ≡ S.left source.old) }
     ensures input { IfErr result (λ status. status ≡ Status.Input) }
     ensures cause { HasCause (S.faults source.old) (S.faults source.new) result }
+    ensures one { S.pulls source.new ≤ S.pulls source.old + 1 }
+    ensures end { MeetsEnd (S.ends source.old) (S.ends source.new) result }
 {
     match source.pull(into.as_mut_slice()) {
         Ok(count) => Ok(count),

@@ -46,6 +46,7 @@ pub fn serve<S: Source, T: Site>(
         → IsErrOf result Status.Input
         → CutOff (T.disk site.new) world (S.left source.old) (S.left source.new) (T.disk site.old).told }
     ensures bounded { IsTrue S.tells → GaveAtMost (S.left source.old) (S.left source.new) (limit + 1) }
+    ensures asked { S.ends source.new ≤ S.ends source.old + 1 }
     ensures no_usage { IsErrOf result Status.Usage → ⊥ }
     ensures cause { IfErr result (EndCause (faults (S.faults source.old) (T.disk_faults site.old) (T.told_faults site.old))
         (faults (S.faults source.new) (T.disk_faults site.new) (T.told_faults site.new))) }

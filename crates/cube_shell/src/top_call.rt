@@ -59,6 +59,7 @@ pub fn run<S: Source, T: Site>(
     ensures cut_off { IsTrue S.tells → IsTrue T.tells → (kept : Kept) → Keeps (T.disk site.old).files kept
         → result ≡ Status.Input → CutOff (T.disk site.new) (bare kept) (S.left source.old) (S.left source.new) (T.disk site.old).told }
     ensures bounded { IsTrue S.tells → GaveAtMost (S.left source.old) (S.left source.new) (2 ^ 30 + 1) }
+    ensures asked { S.ends source.new ≤ S.ends source.old + 1 }
     ensures cause { StatusCause (faults (S.faults source.old) (T.disk_faults site.old) (T.told_faults site.old))
         (faults (S.faults source.new) (T.disk_faults site.new) (T.told_faults site.new)) result }
 {
@@ -105,6 +106,7 @@ pub fn run_within<S: Source, T: Site>(
     ensures cut_off { IsTrue S.tells → IsTrue T.tells → (kept : Kept) → Keeps (T.disk site.old).files kept
         → result ≡ Status.Input → CutOff (T.disk site.new) (bare kept) (S.left source.old) (S.left source.new) (T.disk site.old).told }
     ensures bounded { IsTrue S.tells → GaveAtMost (S.left source.old) (S.left source.new) (limit + 1) }
+    ensures asked { S.ends source.new ≤ S.ends source.old + 1 }
     ensures cause { StatusCause (faults (S.faults source.old) (T.disk_faults site.old) (T.told_faults site.old))
         (faults (S.faults source.new) (T.disk_faults site.new) (T.told_faults site.new)) result }
 {
@@ -153,6 +155,7 @@ fn attempt<S: Source, T: Site>(
     ensures cut_off { IsTrue S.tells → IsTrue T.tells → (kept : Kept) → Keeps (T.disk site.old).files kept
         → IsErrOf result Status.Input → CutOff (T.disk site.new) (bare kept) (S.left source.old) (S.left source.new) (T.disk site.old).told }
     ensures bounded { IsTrue S.tells → GaveAtMost (S.left source.old) (S.left source.new) (limit + 1) }
+    ensures asked { S.ends source.new ≤ S.ends source.old + 1 }
     ensures cause { IfErr result (EndCause (faults (S.faults source.old) (T.disk_faults site.old) (T.told_faults site.old))
         (faults (S.faults source.new) (T.disk_faults site.new) (T.told_faults site.new))) }
     ensures faults { OnOk result (Stayed (faults (S.faults source.old) (T.disk_faults site.old) (T.told_faults site.old))

@@ -32,6 +32,7 @@ loop-lines-init g c =
       none = ap (λ (r : Reading). whole_with r []) c.new-lines.ensures;
       any_moment = λ s t world stands. started_moments c.args.session.now.state disk world (commands left) stands
           (λ told files. g.met.T.Site.only_now c.args.site.now told files t);
+      ends = refl;
       faults = refl;
       disk_faults = refl;
       told_faults = refl;
@@ -88,6 +89,7 @@ loop-lines-preserved g c = record {
       o (piece_to_come _ _ _ _ (c.in_ok-count.ensures.bytes s) c.loop-lines.lines c.give_back.new.self c.give_back.ensures)
       (c.loop-lines.invariant.any_moment s t world stands)
       (c.take_piece.ensures.any_moment t o.now (g.S.Source.left c.pull.new.source) o.stands);
+  ends = c.in_ok-count.ensures.end.some (omega (arith, c.if-count-eq0.false)) ∙ c.loop-lines.invariant.ends;
   faults = c.in_ok-count.ensures.cause.ok ∙ c.loop-lines.invariant.faults;
   disk_faults = c.in_ok-take_piece.ensures.disk_faults ∙ c.loop-lines.invariant.disk_faults;
   told_faults = c.in_ok-take_piece.ensures.told_faults ∙ c.loop-lines.invariant.told_faults;

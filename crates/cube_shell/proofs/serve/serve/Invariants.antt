@@ -33,6 +33,7 @@ invariant-loop-lines g l = record {
       → Stands l.fn.session.state (g.T.Site.disk l.fn.site) world
       → LeavesOnly (g.T.Site.disk l.fn.site) (g.T.Site.disk l.site)
       (AfterStop world (commands (g.S.Source.left l.fn.source)) (g.T.Site.disk l.fn.site).told);
+  ends : g.S.Source.ends l.source ≡ g.S.Source.ends l.fn.source;
   faults : g.S.Source.faults l.source ≡ g.S.Source.faults l.fn.source;
   disk_faults : g.T.Site.disk_faults l.site ≡ g.T.Site.disk_faults l.fn.site;
   told_faults : g.T.Site.told_faults l.site ≡ g.T.Site.told_faults l.fn.site;
