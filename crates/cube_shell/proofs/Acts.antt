@@ -30,13 +30,13 @@ use Rattle.cube_shell.specs.Headline.{size, makes_stage}
 
 -- ---- replies have a byte
 
-some_line : (text : List ℕ) → 0 < length (line text)
+pub some_line : (text : List ℕ) → 0 < length (line text)
 some_line text = omega (arith, length-append text (10 ∷ []))
 
-behind : (text more : List ℕ) → 0 < length more → 0 < length (text ++ more)
+pub behind : (text more : List ℕ) → 0 < length more → 0 < length (text ++ more)
 behind text more some = omega (arith, some, length-append text more)
 
-some_number : (text : List ℕ) (n : ℕ) → 0 < length (numbered text n)
+pub some_number : (text : List ℕ) (n : ℕ) → 0 < length (numbered text n)
 some_number text n = behind text (line (decimal n)) (some_line (decimal n))
 
 schema_some : (refusal : SchemaRefusal) → 0 < length (schema_text refusal)
@@ -62,13 +62,13 @@ declared_some : (world : World) (read : Result Schema SchemaRefusal) → 0 < len
 declared_some world (Err refusal) = schema_some refusal
 declared_some world (Ok schema) = some_line (codes "declared")
 
-declare_some : (world : World) (kept : Kept) (block : Block) → 0 < length (declare_over world kept block).1
+pub declare_some : (world : World) (kept : Kept) (block : Block) → 0 < length (declare_over world kept block).1
 declare_some world (Some warehouse) block = some_line (codes "refused declared")
 declare_some world None Long = some_line (codes "refused schema block")
 declare_some world None (Whole bytes) = declared_some world (schema_of bytes)
 
 -- each refusal has a byte
-abbrev HasByte : Option (List ℕ) → Type 0
+abbrev pub HasByte : Option (List ℕ) → Type 0
 HasByte None = Unit {0}
 HasByte (Some text) = 0 < length text
 
@@ -114,7 +114,7 @@ block_some : (world : World) (taken : List Fact → Answer) (schema : Schema) (b
 block_some world taken schema Long each = some_line (codes "refused block")
 block_some world taken schema (Whole bytes) each = read_some world taken (batch_of schema bytes) each
 
-source_some : (world : World) (taken : List Fact → Answer) (schema : Schema) (source : BatchSource) → ((batch : List Fact) → 0 < length (taken batch).1)
+pub source_some : (world : World) (taken : List Fact → Answer) (schema : Schema) (source : BatchSource) → ((batch : List Fact) → 0 < length (taken batch).1)
     → 0 < length (read_by world taken (batch_from schema source)).1
 source_some world taken schema (Rows block) each = block_some world taken schema block each
 source_some world taken schema (Generator start rows) each = by (nat_le rows 262144)
@@ -135,7 +135,7 @@ pending_some world answer None pending each = some_line (codes "refused nothing 
 pending_some world answer (Some warehouse) None each = some_line (codes "refused nothing pending")
 pending_some world answer (Some warehouse) (Some batch) each = each warehouse batch
 
-answer_some : (found : List Row) → 0 < length (answer_text found)
+pub answer_some : (found : List Row) → 0 < length (answer_text found)
 answer_some found = behind (rows_text (map row_fields found)) _ (some_number (codes "rows ") (length found))
 
 rows_some : (schema : Schema) (facts : List Fact) (s : Slice) → 0 < length (rows_reply schema facts s)
@@ -145,7 +145,7 @@ rows_some schema facts s = by (is_covered schema s)
     by true = answer_some (rows_of facts s)
     by false = some_line (codes "refused notcovered")
 
-refused_some : (refusal : SliceRefusal) → 0 < length (slice_text refusal)
+pub refused_some : (refusal : SliceRefusal) → 0 < length (slice_text refusal)
 refused_some (slices.Syntax byte) = some_number (codes "refused syntax ") byte
 refused_some (slices.UnknownAttr byte) = some_number (codes "refused attribute ") byte
 refused_some (slices.UnknownMeasure byte) = some_number (codes "refused measure ") byte

@@ -3,6 +3,7 @@ pub mod Answering
 pub mod BatchReads
 pub mod Commanded
 pub mod Declarings
+pub mod Gives
 pub mod Going
 pub mod Limits
 pub mod Openings

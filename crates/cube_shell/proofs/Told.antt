@@ -105,7 +105,7 @@ module _ (r : Begun) (old new : Files) (others : (file : ℕ) → file ≢ 0 →
   same_entries : (t : ℕ) → entries_at (place_of r.store.forest t) new ≡ entries_at (place_of r.store.forest t) old
   same_entries t = ap (λ (bytes : List ℕ). entries_at (place_of r.store.forest t) (λ f. bytes)) (same_bytes t)
 
-  same_whole : (t : ℕ) → IsWholeFor r.store.forest new t (get_or r.deltas t []) → IsWholeFor r.store.forest old t (get_or r.deltas t [])
+  pub same_whole : (t : ℕ) → IsWholeFor r.store.forest new t (get_or r.deltas t []) → IsWholeFor r.store.forest old t (get_or r.deltas t [])
   same_whole t is = (is.0, record { good = same_good t is.1.good; points = is.1.points ∙ same_entries t; counted = is.1.counted }, is.2)
 
   same_damage : (t page : ℕ) → IsDamagedFor r.store.forest new t (get_or r.deltas t []) page → IsDamagedFor r.store.forest old t (get_or r.deltas t []) page

@@ -1,6 +1,7 @@
 pub mod Costs
 pub mod Damage
 pub mod Ends
+pub mod Gives
 pub mod Headline
 pub mod Keeps
 pub mod Machine

@@ -5,6 +5,7 @@ ghost use Rattle.forest_refresh.specs.Begun.{IsReady};
 ghost use Rattle.forest_store.specs.Stored.{IsWhole};
 ghost use Rattle.reply_text.specs.Replies.{committed_text};
 ghost use Rattle.cube_shell.specs.Ends.{IsNoDamage, StopCause};
+ghost use Rattle.cube_shell.specs.Gives.{IsFinished};
 ghost use Rattle.cube_shell.specs.Machine.{committed};
 ghost use Rattle.cube_shell.specs.Session.{Attends, Between, IsAnswer, IsFit, IsRunning};
 ghost use Rattle.cube_shell.specs.Told.{TellsRefreshDamage};
@@ -29,6 +30,7 @@ pub fn commit<T: Site>(alloc: Global, refresh: Refresh, site: &mut T) -> Result<
     ensures undamaged { IsTrue T.tells → (warehouse : Warehouse) (batch : List facts.Fact) → Attends refresh (T.disk site.old) warehouse batch
         → IfErr result IsNoDamage }
     ensures damage { IsTrue T.tells → IfErr result (TellsRefreshDamage refresh (T.disk site.old).files) }
+    ensures answered { IsTrue T.tells → IfOk result (λ done. IsFinished refresh (T.disk site.old).files done.reply.items) }
 
     ensures running { IfOk result (λ done. IsRunning done.state) }
     ensures fit { IsTrue T.tells → IfOk result (λ done. IsFit done.state (T.disk site.new)) }

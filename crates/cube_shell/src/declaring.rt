@@ -3,6 +3,7 @@ ghost use Rattle.std.specs.Prelude.{◌≡◌, IsTrue, OnOk, IfOk, IfErr, Ok, No
 ghost use Rattle.cube_schema.specs.Lawful.{IsSchema};
 ghost use Rattle.forest_store.specs.Opened.{IsEmpty};
 ghost use Rattle.cube_shell.specs.Ends.{IsNoDamage, StopCause};
+ghost use Rattle.cube_shell.specs.Gives.{SchemaGives};
 ghost use Rattle.cube_shell.specs.Machine.{declare, declared};
 ghost use Rattle.cube_shell.specs.Session.{Between, IsAnswer, IsFit, IsRunning, Stands};
 ghost use Rattle.cube_shell.specs.World.{World, bare};
@@ -30,6 +31,7 @@ pub fn declare<T: Site>(
     ensures any_moment { IsTrue T.tells → (world : World) → Stands state (T.disk site.old) world
         → Between (T.disk site.old) (T.disk site.new) world (declare world block).0 }
     ensures undamaged { IfErr result IsNoDamage }
+    ensures answered { IsTrue T.tells → IfOk result (λ done. SchemaGives state block done.reply.items) }
     ensures unwritten { IsTrue T.tells → (world : World) → Stands state (T.disk site.old) world
         → (declare world block).0.kept ≡ world.kept → OnOk result (T.writes site.new ≡ T.writes site.old) }
 

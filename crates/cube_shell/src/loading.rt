@@ -6,7 +6,8 @@ ghost use Rattle.cube_schema.specs.Kinds.{name_at, measure_name_at};
 ghost use Rattle.forest_store.specs.Opened.{IsOpened};
 ghost use Rattle.forest_store.specs.Stored.{IsWhole};
 ghost use Rattle.cube_shell.specs.Ends.{IsNoDamage, StopCause, begin_stop};
-ghost use Rattle.cube_shell.specs.Machine.{accepted, load};
+ghost use Rattle.cube_shell.specs.Gives.{GivesBatch, GivesSource, LoadGives};
+ghost use Rattle.cube_shell.specs.Machine.{accepted, batch_from, load};
 ghost use Rattle.cube_shell.specs.Refusals.{refusal_text};
 ghost use Rattle.cube_shell.specs.Session.{Belongs, Between, IsAnswer, IsFit, IsRunning, Stands};
 ghost use Rattle.cube_shell.specs.Told.{LoadTells, TellsBatchDamage, TellsSourceDamage};
@@ -41,6 +42,7 @@ pub fn load<T: Site>(
     ensures undamaged { IsTrue T.tells → (world : World) → Stands state (T.disk site.old) world
         → IfErr result IsNoDamage }
     ensures damage { IsTrue T.tells → IfErr result (LoadTells state (T.disk site.old).files source) }
+    ensures answered { IsTrue T.tells → IfOk result (λ done. LoadGives state (T.disk site.old).files source done.reply.items) }
     ensures unwritten { IsTrue T.tells → (world : World) → Stands state (T.disk site.old) world
         → (load world source).0.kept ≡ world.kept → OnOk result (T.writes site.new ≡ T.writes site.old) }
 
@@ -77,6 +79,8 @@ fn load_source<T: Site>(
     ensures undamaged { IsTrue T.tells → (warehouse : Warehouse) → Belongs store (T.disk site.old) warehouse
         → IfErr result IsNoDamage }
     ensures damage { IsTrue T.tells → IfErr result (TellsSourceDamage store (T.disk site.old).files source) }
+    ensures answered { IsTrue T.tells
+        → IfOk result (λ done. GivesSource store (T.disk site.old).files (batch_from store.forest.schema source) done.reply.items) }
     ensures unwritten { IsTrue T.tells → (warehouse : Warehouse) → Belongs store (T.disk site.old) warehouse
         → (load (idle warehouse) source).0.kept ≡ Some warehouse → OnOk result (T.writes site.new ≡ T.writes site.old) }
 
@@ -114,6 +118,7 @@ fn take_in<T: Site>(
     ensures undamaged { IsTrue T.tells → (warehouse : Warehouse) → Belongs store (T.disk site.old) warehouse
         → IfErr result IsNoDamage }
     ensures damage { IsTrue T.tells → IfErr result (TellsBatchDamage store (T.disk site.old).files batch) }
+    ensures answered { IsTrue T.tells → IfOk result (λ done. GivesBatch store (T.disk site.old).files batch done.reply.items) }
     ensures unwritten { IsTrue T.tells → (warehouse : Warehouse) → Belongs store (T.disk site.old) warehouse
         → (accepted (idle warehouse) warehouse batch).0.kept ≡ Some warehouse → OnOk result (T.writes site.new ≡ T.writes site.old) }
 

@@ -3,6 +3,7 @@ ghost use Rattle.std.specs.Prelude.{◌≡◌, ◌≤◌, ◌+◌, ℕ, List, Is
 ghost use Rattle.script_lang.specs.declared.command.Command.TheVariants as says;
 ghost use Rattle.cube_shell.specs.Costs.{Costs, begins};
 ghost use Rattle.cube_shell.specs.Ends.{IsNoDamage, StopCause};
+ghost use Rattle.cube_shell.specs.Gives.{Gives};
 ghost use Rattle.cube_shell.specs.Machine.{act};
 ghost use Rattle.cube_shell.specs.Session.{Between, IsAnswer, IsFit, IsRunning, Stands, state_text};
 ghost use Rattle.cube_shell.specs.Told.{TellsDamage};
@@ -43,6 +44,7 @@ pub fn act<T: Site>(
 
     // Whatever the files hold.
     ensures damage { IsTrue T.tells → IfErr result (TellsDamage state (T.disk site.old).files command) }
+    ensures answered { IsTrue T.tells → IfOk result (λ done. Gives state (T.disk site.old).files command done.reply.items) }
     // Where no fact is accepted and no schema declared, nothing is written, but for one write where a batch that is not empty begins.
     ensures unwritten { IsTrue T.tells → (world : World) → Stands state (T.disk site.old) world
         → (act world command).0.kept ≡ world.kept

@@ -1,12 +1,13 @@
 //! The commands `begin`, `step`, `finish` and `abandon`, over a batch that is pending.
-ghost use Rattle.std.specs.Prelude.{◌≡◌, ◌≤◌, ◌+◌, IsTrue, OnOk, IfOk, IfErr};
+ghost use Rattle.std.specs.Prelude.{◌≡◌, ◌≤◌, ◌+◌, IsTrue, OnOk, IfOk, IfErr, Ok};
 ghost use Rattle.std.specs.List.{All};
 ghost use Rattle.cube_schema.specs.Agreeing.{Agrees};
 ghost use Rattle.forest_store.specs.Opened.{IsOpened};
 ghost use Rattle.forest_store.specs.Stored.{IsWhole};
 ghost use Rattle.cube_shell.specs.Costs.{begins};
 ghost use Rattle.cube_shell.specs.Ends.{IsNoDamage, StopCause};
-ghost use Rattle.cube_shell.specs.Machine.{abandon, begin, begun_or_refused, finish};
+ghost use Rattle.cube_shell.specs.Gives.{BeginGives, FinishGives, GivesBegun};
+ghost use Rattle.cube_shell.specs.Machine.{abandon, begin, begun_or_refused, block_read, finish};
 ghost use Rattle.cube_shell.specs.Session.{Belongs, Between, IsAnswer, IsFit, IsRunning, Stands, abandon_text, step_text};
 ghost use Rattle.cube_shell.specs.Told.{FinishTells};
 ghost use Rattle.cube_shell.specs.World.{Warehouse, World, idle};
@@ -39,6 +40,7 @@ pub fn begin<T: Site>(
     ensures any_moment { IsTrue T.tells → (world : World) → Stands state (T.disk site.old) world
         → Between (T.disk site.old) (T.disk site.new) world (begin world block).0 }
     ensures damage { IfErr result IsNoDamage }
+    ensures answered { IfOk result (λ done. BeginGives state block done.reply.items) }
     ensures unwritten { IsTrue T.tells → (world : World) → Stands state (T.disk site.old) world
         → OnOk result (T.writes site.new ≤ T.writes site.old + begins world (begin world block).0) }
     ensures silent { IsTrue T.tells → (world : World) → Stands state (T.disk site.old) world
@@ -74,6 +76,7 @@ fn begin_block<T: Site>(
     ensures any_moment { IsTrue T.tells → (warehouse : Warehouse) → Belongs store (T.disk site.old) warehouse
         → Between (T.disk site.old) (T.disk site.new) (idle warehouse) (begin (idle warehouse) block).0 }
     ensures damage { IfErr result IsNoDamage }
+    ensures answered { IfOk result (λ done. GivesBegun store (block_read store.forest.schema block) done.reply.items) }
     ensures unwritten { IsTrue T.tells → (warehouse : Warehouse) → Belongs store (T.disk site.old) warehouse
         → OnOk result (T.writes site.new ≤ T.writes site.old + begins (idle warehouse) (begin (idle warehouse) block).0) }
     ensures silent { IsTrue T.tells → (warehouse : Warehouse) → Belongs store (T.disk site.old) warehouse
@@ -110,6 +113,7 @@ fn begin_batch<T: Site>(
     ensures any_moment { IsTrue T.tells → (warehouse : Warehouse) → Belongs store (T.disk site.old) warehouse
         → Between (T.disk site.old) (T.disk site.new) (idle warehouse) (begun_or_refused (idle warehouse) warehouse batch).0 }
     ensures damage { IfErr result IsNoDamage }
+    ensures answered { IfOk result (λ done. GivesBegun store (Ok batch) done.reply.items) }
     ensures unwritten { IsTrue T.tells → (warehouse : Warehouse) → Belongs store (T.disk site.old) warehouse
         → OnOk result (T.writes site.new ≤ T.writes site.old + begins (idle warehouse) (begun_or_refused (idle warehouse) warehouse batch).0) }
     ensures silent { IsTrue T.tells → (warehouse : Warehouse) → Belongs store (T.disk site.old) warehouse
@@ -160,6 +164,7 @@ pub fn finish<T: Site>(alloc: Global, state: State, site: &mut T) -> Result<Answ
     ensures undamaged { IsTrue T.tells → (world : World) → Stands state (T.disk site.old) world
         → IfErr result IsNoDamage }
     ensures damage { IsTrue T.tells → IfErr result (FinishTells state (T.disk site.old).files) }
+    ensures answered { IsTrue T.tells → IfOk result (λ done. FinishGives state (T.disk site.old).files done.reply.items) }
     ensures unwritten { IsTrue T.tells → (world : World) → Stands state (T.disk site.old) world
         → (finish world).0.kept ≡ world.kept → OnOk result (T.writes site.new ≡ T.writes site.old) }
 

@@ -8,6 +8,7 @@ ghost use Rattle.script_lang.specs.declared.command.Command.TheVariants as says;
 ghost use Rattle.cube_shell.specs.Costs.{Costs, begins, open_cost};
 ghost use Rattle.cube_shell.specs.Damage.{StopsAt, TellsBreak};
 ghost use Rattle.cube_shell.specs.Ends.{IsNoDamage, StopCause};
+ghost use Rattle.cube_shell.specs.Gives.{RepliesTo};
 ghost use Rattle.cube_shell.specs.Headline.{Meanwhile};
 ghost use Rattle.cube_shell.specs.Keeps.{Keeps};
 ghost use Rattle.cube_shell.specs.Machine.{act};
@@ -84,7 +85,8 @@ impl Session {
         matches!(self.state, State::Stopped)
     }
 
-    /// Carries out a command and emits its reply. After a stop the session has stopped.
+    /// Carries out a command and emits its reply. After a stop the session has stopped. No rows are told of a page that is damaged, and no
+    /// batch is acknowledged over a tree that is.
     pub fn command<T: Site>(&mut self, site: &mut T, command: Command) -> Result<(), Stop>
         requires running { IsRunning self.old.state }
         requires fit { IsTrue T.tells → IsFit self.old.state (T.disk site.old) }
@@ -102,6 +104,8 @@ impl Session {
 
         // Whatever the files hold.
         ensures damage { IsTrue T.tells → IfErr result (TellsDamage self.old.state (T.disk site.old).files command) }
+        ensures answered { IsTrue T.tells
+            → OnOk result (RepliesTo self.old.state (T.disk site.old).files command (T.disk site.old).told (T.disk site.new).told) }
         // Where no fact is accepted and no schema declared, nothing is written, but for one write where a batch that is not empty begins.
         ensures unwritten { IsTrue T.tells → (world : World) → Stands self.old.state (T.disk site.old) world
             → (act world command).0.kept ≡ world.kept

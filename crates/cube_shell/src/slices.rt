@@ -7,6 +7,7 @@ ghost use Rattle.slice_lang.specs.Agreeing.{SliceAgrees};
 ghost use Rattle.slice_lang.specs.Reading.{slice_of};
 ghost use Rattle.cube_shell.specs.Costs.{Costs, MayRead};
 ghost use Rattle.cube_shell.specs.Ends.{IsNoDamage, StopCause};
+ghost use Rattle.cube_shell.specs.Gives.{Finds, GivesFound, GivesRead, SliceGives};
 ghost use Rattle.cube_shell.specs.Machine.{rows_reply, slice, slice_reply};
 ghost use Rattle.cube_shell.specs.Session.{Between, IsAnswer, IsFit, IsRunning, Stands};
 ghost use Rattle.cube_shell.specs.Sliced.{AreRows, TellsSliceDamage};
@@ -47,6 +48,7 @@ pub fn slice<T: Site>(
 
     // Whatever the files hold.
     ensures damage { IsTrue T.tells → IfErr result (SliceTells state (T.disk site.old).files text.now) }
+    ensures answered { IsTrue T.tells → IfOk result (λ done. SliceGives state (T.disk site.old).files text.now done.reply.items) }
     ensures running { IfOk result (λ done. IsRunning done.state) }
     ensures fit { IsTrue T.tells → IfOk result (λ done. IsFit done.state (T.disk site.new)) }
     ensures told { IsTrue T.tells → (T.disk site.new).told ≡ (T.disk site.old).told }
@@ -101,6 +103,8 @@ fn reply_to<T: Site>(
 
     // Whatever the files hold.
     ensures damage { IsTrue T.tells → IfErr result (TellsSliceDamage store.now (T.disk site.old).files (slice_of store.now.forest.schema text.now)) }
+    ensures answered { IsTrue T.tells
+        → IfOk result (λ reply. GivesRead store.now (T.disk site.old).files (slice_of store.now.forest.schema text.now) reply.items) }
     ensures disk { IsTrue T.tells → Rests (T.disk site.old) (T.disk site.new) }
     ensures cache { pages.new ≡ pages.old }
     ensures cause { IfErr result (StopCause (T.disk_faults site.old) (T.disk_faults site.new) (T.told_faults site.old) (T.told_faults site.new)) }
@@ -133,6 +137,7 @@ fn rows_text<T: Site>(
 
     // Whatever the files hold.
     ensures damage { IsTrue T.tells → IfErr result (TellsSliceDamage store.now (T.disk site.old).files (Ok slice.now)) }
+    ensures answered { IsTrue T.tells → IfOk result (λ reply. GivesFound store.now (T.disk site.old).files slice.now reply.items) }
     ensures disk { IsTrue T.tells → Rests (T.disk site.old) (T.disk site.new) }
     ensures cache { pages.new ≡ pages.old }
     ensures cause { IfErr result (StopCause (T.disk_faults site.old) (T.disk_faults site.new) (T.told_faults site.old) (T.told_faults site.new)) }
@@ -140,11 +145,10 @@ fn rows_text<T: Site>(
     ensures told_faults { T.told_faults site.new ≡ T.told_faults site.old }
     ensures writes { T.writes site.new ≡ T.writes site.old }
 {
-    let reply = match rows_of(alloc, pages, store, slice, site)? {
-        Some(rows) => reply_text::answer(alloc, &rows)?,
-        None => reply_text::plain(alloc, "refused notcovered")?,
-    };
-    Ok(reply)
+    match rows_of(alloc, pages, store, slice, site)? {
+        Some(rows) => Ok(reply_text::answer(alloc, &rows)?),
+        None => Ok(reply_text::plain(alloc, "refused notcovered")?),
+    }
 }
 
 /// The rows of a slice, if some view covers it.
@@ -166,6 +170,7 @@ fn rows_of<T: Site>(
 
     // Whatever the files hold.
     ensures damage { IsTrue T.tells → IfErr result (TellsSliceDamage store.now (T.disk site.old).files (Ok slice.now)) }
+    ensures answered { IsTrue T.tells → IfOk result (Finds store.now (T.disk site.old).files slice.now) }
     ensures disk { IsTrue T.tells → Rests (T.disk site.old) (T.disk site.new) }
     ensures cache { pages.new ≡ pages.old }
     ensures cause { IfErr result (StopCause (T.disk_faults site.old) (T.disk_faults site.new) (T.told_faults site.old) (T.told_faults site.new)) }

@@ -6,6 +6,7 @@ use Rattle.cube_shell.specs.Machine.{Answer, accepted, committed}
 use Rattle.cube_shell.specs.World.{idle}
 use Rattle.cube_shell.proofs.Acts.{nothing_added}
 use Rattle.cube_shell.proofs.Answering.{answers, answers_as, between_as, quiet}
+use Rattle.cube_shell.proofs.Gives.{none_gives, refused_as, refused_gives, taken_gives}
 use Rattle.cube_shell.proofs.Limits.{none_accepted}
 use Rattle.cube_shell.proofs.Takings.{begin_attends, begin_moments, between_then, committed_grows, now_accepted, refused_answer}
 use Rattle.cube_shell.proofs.Told.{batch_tells}
@@ -84,3 +85,23 @@ returns-in-Err-clause-answer g c = λ t warehouse is.
 pub returns-in-Err-clause-any_moment : goal.returns-in-Err-clause-any_moment
 returns-in-Err-clause-any_moment g c = λ t warehouse is.
     begin_moments c.args.store _ _ warehouse c.args.batch is (accepted (idle warehouse) warehouse c.args.batch).0 (c.begin.ensures.any_moment t warehouse.facts is.stored)
+
+pub returns-then-is_empty-clause-answered : goal.returns-then-is_empty-clause-answered
+returns-then-is_empty-clause-answered g c = λ t.
+    let slice = c.as_slice.ensures in
+    let zero : length c.args.batch ≡ 0 = grind (arith, nat_tests, ap length slice) in
+    none_gives c.args.store (g.T.Site.disk c.args.site.now).files c.args.batch c.acknowledge.result (nothing_added c.args.batch zero) c.acknowledge.ensures.reply
+
+pub returns-in-Ok-clause-answered : goal.returns-in-Ok-clause-answered
+returns-in-Ok-clause-answered g c = λ t.
+    let slice = c.as_slice.ensures in
+    let some : 0 < length c.args.batch = grind (arith, nat_tests, ap length slice) in
+    taken_gives c.in-Ok.refresh c.args.store (g.T.Site.disk c.args.site.now).files (g.T.Site.disk c.begin.new.site).files c.args.batch c.in-Ok.ensures.forest
+    c.in-Ok.ensures.points (c.begin.ensures.others t) c.commit.result some (c.commit.ensures.answered t)
+
+pub returns-in-Err-clause-answered : goal.returns-in-Err-clause-answered
+returns-in-Err-clause-answered g c = λ t.
+    let slice = c.as_slice.ensures in
+    let some : 0 < length c.args.batch = grind (arith, nat_tests, ap length slice) in
+    refused_gives c.args.store (g.T.Site.disk c.args.site.now).files c.args.batch c.refuse.result some
+    (refused_as c.args.store c.in-Err.fault.store c.in-Err.fault.why c.refuse.result c.in-Err.ensures.back c.refuse.ensures.reply)

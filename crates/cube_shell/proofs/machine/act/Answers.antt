@@ -1,9 +1,10 @@
-use Rattle.std.proofs.Common.{◌≤◌, ◌+◌, ◌∙◌, ℕ, List, IfErr, OnOk, sym, ap, subst}
+use Rattle.std.proofs.Common.{◌≤◌, ◌+◌, ◌∙◌, ℕ, List, IfErr, IfOk, OnOk, sym, ap, subst}
 use Rattle.cube_shell.specs.Costs.{begins}
 use Rattle.cube_shell.specs.Machine.{Answer, abandon, act, slice}
 use Rattle.cube_shell.specs.Session.{abandon_text, state_text, step_text}
 use Rattle.cube_shell.proofs.Acts.{act_abandon, act_begin, act_finish, act_generate, act_load, act_long_line, act_open_block, act_schema, act_slice, act_status, act_step, act_unknown}
 use Rattle.cube_shell.proofs.Answering.{abandon_known, answers_as, between_as, no_more, quiet, status_known, step_known, stood, told_only}
+use Rattle.cube_shell.specs.Gives.{Gives, SliceGives}
 use Rattle.cube_shell.specs.Told.{SliceTells, TellsDamage}
 use Rattle.script_lang.specs.declared.command.Command.{Command}
 use Rattle.cube_shell.proofs.Told.{memory_tells}
@@ -190,3 +191,55 @@ returns-in-Abandon-clause-any_moment g c = λ t world stands.
 
 pub returns-in-Abandon-clause-damage : goal.returns-in-Abandon-clause-damage
 returns-in-Abandon-clause-damage g c = λ t. memory_tells c.abandon.result c.args.state (g.T.Site.disk c.args.site.now).files c.args.command c.abandon.ensures.memory
+
+-- ---- what is replied, whatever the files hold
+
+pub returns-in-Schema-clause-answered : goal.returns-in-Schema-clause-answered
+returns-in-Schema-clause-answered g c = λ t.
+    subst (λ (k : Command). IfOk c.declare.result (λ done. Gives c.args.state (g.T.Site.disk c.args.site.now).files k done.reply.items)) (sym c.in-Schema.is) (c.declare.ensures.answered t)
+
+pub returns-in-Load-clause-answered : goal.returns-in-Load-clause-answered
+returns-in-Load-clause-answered g c = λ t.
+    subst (λ (k : Command). IfOk c.load.result (λ done. Gives c.args.state (g.T.Site.disk c.args.site.now).files k done.reply.items)) (sym c.in-Load.is) (c.load.ensures.answered t)
+
+pub returns-in-Generate-clause-answered : goal.returns-in-Generate-clause-answered
+returns-in-Generate-clause-answered g c = λ t.
+    subst (λ (k : Command). IfOk c.load-in-Generate.result (λ done. Gives c.args.state (g.T.Site.disk c.args.site.now).files k done.reply.items)) (sym c.in-Generate.is) (c.load-in-Generate.ensures.answered t)
+
+pub returns-in-Status-clause-answered : goal.returns-in-Status-clause-answered
+returns-in-Status-clause-answered g c = λ t.
+    subst (λ (k : Command). IfOk c.status.result (λ done. Gives c.args.state (g.T.Site.disk c.args.site.now).files k done.reply.items)) (sym c.in-Status.is) c.status.ensures.reply
+
+pub returns-in-Begin-clause-answered : goal.returns-in-Begin-clause-answered
+returns-in-Begin-clause-answered g c = λ t.
+    subst (λ (k : Command). IfOk c.begin.result (λ done. Gives c.args.state (g.T.Site.disk c.args.site.now).files k done.reply.items)) (sym c.in-Begin.is) c.begin.ensures.answered
+
+pub returns-in-Step-clause-answered : goal.returns-in-Step-clause-answered
+returns-in-Step-clause-answered g c = λ t.
+    subst (λ (k : Command). IfOk c.step.result (λ done. Gives c.args.state (g.T.Site.disk c.args.site.now).files k done.reply.items)) (sym c.in-Step.is) c.step.ensures.reply
+
+pub returns-in-Finish-clause-answered : goal.returns-in-Finish-clause-answered
+returns-in-Finish-clause-answered g c = λ t.
+    subst (λ (k : Command). IfOk c.finish.result (λ done. Gives c.args.state (g.T.Site.disk c.args.site.now).files k done.reply.items)) (sym c.in-Finish.is) (c.finish.ensures.answered t)
+
+pub returns-in-Abandon-clause-answered : goal.returns-in-Abandon-clause-answered
+returns-in-Abandon-clause-answered g c = λ t.
+    subst (λ (k : Command). IfOk c.abandon.result (λ done. Gives c.args.state (g.T.Site.disk c.args.site.now).files k done.reply.items)) (sym c.in-Abandon.is) c.abandon.ensures.reply
+
+pub returns-in-LongLine-clause-answered : goal.returns-in-LongLine-clause-answered
+returns-in-LongLine-clause-answered g c = λ t.
+    subst (λ (k : Command). IfOk c.plain.result (λ done. Gives c.args.state (g.T.Site.disk c.args.site.now).files k done.reply.items)) (sym c.in-LongLine.is) c.plain.ensures.reply
+
+pub returns-in-OpenBlock-clause-answered : goal.returns-in-OpenBlock-clause-answered
+returns-in-OpenBlock-clause-answered g c = λ t.
+    subst (λ (k : Command). IfOk c.plain-in-OpenBlock.result (λ done. Gives c.args.state (g.T.Site.disk c.args.site.now).files k done.reply.items)) (sym c.in-OpenBlock.is) c.plain-in-OpenBlock.ensures.reply
+
+pub returns-in-Unknown-clause-answered : goal.returns-in-Unknown-clause-answered
+returns-in-Unknown-clause-answered g c = λ t.
+    subst (λ (k : Command). IfOk c.plain-in-Unknown.result (λ done. Gives c.args.state (g.T.Site.disk c.args.site.now).files k done.reply.items)) (sym c.in-Unknown.is) c.plain-in-Unknown.ensures.reply
+
+pub returns-in-Slice-clause-answered : goal.returns-in-Slice-clause-answered
+returns-in-Slice-clause-answered g c = λ t.
+    let files = (g.T.Site.disk c.args.site.now).files in
+    subst (λ (k : Command). IfOk c.slice.result (λ done. Gives c.args.state files k done.reply.items)) (sym c.in-Slice.is)
+    (subst (λ (text : List ℕ). IfOk c.slice.result (λ done. SliceGives c.args.state files text done.reply.items)) c.as_bytes.ensures (c.slice.ensures.answered t))

@@ -5,6 +5,7 @@ use Rattle.cube_shell.specs.Machine.{begun, begun_or_refused}
 use Rattle.cube_shell.specs.World.{idle}
 use Rattle.cube_shell.proofs.Acts.{nothing_added}
 use Rattle.cube_shell.proofs.Answering.{answers, answers_as, quiet}
+use Rattle.cube_shell.proofs.Gives.{begun_gives, refused_as, refused_begins}
 use Rattle.cube_shell.proofs.Limits.{none_begun}
 use Rattle.cube_shell.proofs.Takings.{begin_attends, begin_moments, begun_answer, begun_writes, does_begin, refused_answer, refused_silent}
 use Rattle.cube_shell.proofs.pending.begin_batch.Goals as goal
@@ -71,3 +72,14 @@ returns-in-Err-clause-answer g c = λ t warehouse is.
 pub returns-in-Err-clause-any_moment : goal.returns-in-Err-clause-any_moment
 returns-in-Err-clause-any_moment g c = λ t warehouse is.
     begin_moments c.args.store _ _ warehouse c.args.batch is (begun_or_refused (idle warehouse) warehouse c.args.batch).0 (c.begin.ensures.any_moment t warehouse.facts is.stored)
+
+pub returns-then-is_empty-clause-answered : goal.returns-then-is_empty-clause-answered
+returns-then-is_empty-clause-answered g c = begun_gives c.args.store c.args.batch c.plain.result c.plain.ensures.reply
+
+pub returns-in-Ok-clause-answered : goal.returns-in-Ok-clause-answered
+returns-in-Ok-clause-answered g c = begun_gives c.args.store c.args.batch c.plain-in-Ok.result c.plain-in-Ok.ensures.reply
+
+pub returns-in-Err-clause-answered : goal.returns-in-Err-clause-answered
+returns-in-Err-clause-answered g c =
+    refused_begins c.args.store c.args.batch c.refuse.result
+    (refused_as c.args.store c.in-Err.fault.store c.in-Err.fault.why c.refuse.result c.in-Err.ensures.back c.refuse.ensures.reply)

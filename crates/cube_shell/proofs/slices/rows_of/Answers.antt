@@ -9,3 +9,7 @@ returns-in-Ok-clause-rows g c = λ t accepted stored.
 pub returns-in-Err-NotCovered-clause-rows : goal.returns-in-Err-NotCovered-clause-rows
 returns-in-Err-NotCovered-clause-rows g c = λ t accepted stored.
     none-covers c.args.store.now.forest.schema c.args.slice.now (c.in-Err-NotCovered.ensures.uncovered.0 (ap Err c.in-Err-NotCovered.field-0-is))
+
+pub returns-in-Err-NotCovered-clause-answered : goal.returns-in-Err-NotCovered-clause-answered
+returns-in-Err-NotCovered-clause-answered g c = λ t.
+    none-covers c.args.store.now.forest.schema c.args.slice.now (c.in-Err-NotCovered.ensures.uncovered.0 (ap Err c.in-Err-NotCovered.field-0-is))

@@ -1,8 +1,9 @@
-use Rattle.std.proofs.Common.{◌∙◌, rules, sym, subst}
+use Rattle.std.proofs.Common.{◌∙◌, ◌++◌, ℕ, List, ap, rules, sym, subst}
 use Rattle.cube_shell.specs.declared.state.State.{State}
 use Rattle.cube_shell.specs.Session.{Stands}
 use Rattle.cube_shell.proofs.Commanded.{untold, telling}
 use Rattle.cube_shell.proofs.Standing.{emits_stable, stands_on}
+use Rattle.cube_shell.specs.Gives.{Gives}
 use Rattle.cube_shell.specs.Told.{TellsDamage}
 use Rattle.cube_shell.specs.declared.stop.Stop.TheVariants as stops
 use Rattle.cube_shell.proofs.Told.{tells_none}
@@ -41,3 +42,14 @@ returns-in_err-state-clause-damage g c = λ t.
 
 pub returns-in-Err-clause-damage : goal.returns-in-Err-clause-damage
 returns-in-Err-clause-damage g c = λ t. tells_none c.args.self.now.state (g.T.Site.disk c.args.site.now).files c.args.command stops.Output tt
+
+pub returns-in-Ok-clause-answered : goal.returns-in-Ok-clause-answered
+returns-in-Ok-clause-answered g c = λ t.
+    let files = (g.T.Site.disk c.args.site.now).files in
+    let reply = c.in_ok-state.field-0.reply.items in
+    record {
+      reply = reply;
+      told = c.in-Ok.ensures.told t ∙ ap (λ (l : List ℕ). l ++ c.deref.result.now) (c.act.ensures.told t)
+          ∙ ap (λ (l : List ℕ). (g.T.Site.disk c.args.site.now).told ++ l) c.deref.ensures.value;
+      right = subst (λ (s : State). Gives s files c.args.command reply) c.replace-state.ensures.value (c.in_ok-state.ensures.answered t);
+    }
