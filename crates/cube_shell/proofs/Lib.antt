@@ -8,6 +8,7 @@ pub mod Going
 pub mod Limits
 pub mod Openings
 pub mod Pieces
+pub mod Replied
 pub mod Sliced
 pub mod Stages
 pub mod Standing

@@ -8,6 +8,7 @@ pub mod Machine
 pub mod Pulls
 pub mod Reading
 pub mod Refusals
+pub mod Replied
 pub mod Session
 pub mod Sliced
 pub mod Told

@@ -6,6 +6,7 @@ ghost use Rattle.script_lang.specs.Script.{commands};
 ghost use Rattle.cube_shell.specs.Ends.{EndCause, StopCause, Stayed, IsNoDamage, IsUndamaged, faults};
 ghost use Rattle.cube_shell.specs.Headline.{AfterStop, CutOff, Finished, LeftOff};
 ghost use Rattle.cube_shell.specs.Pulls.{Gave, GaveAtMost};
+ghost use Rattle.cube_shell.specs.Replied.{AreLeft, HasReplied};
 ghost use Rattle.cube_shell.specs.Session.{IsFit, IsRunning, Onward, Stands};
 ghost use Rattle.cube_shell.specs.World.{World};
 
@@ -18,7 +19,7 @@ use site_core::{Site, Source};
 use std::alloc::Global;
 
 /// Pulls a script piece by piece, and never more than one byte past the limit. After each pull it carries out every command that
-/// is whole by then, and emits its reply. Of a pull that passes the limit no byte is looked at.
+/// is whole by then, and emits its reply. Of a pull that passes the limit no byte is looked at, and behind the end there is no pull.
 pub fn serve<S: Source, T: Site>(
     alloc: Global,
     session: &mut Session,
@@ -36,6 +37,8 @@ pub fn serve<S: Source, T: Site>(
         → LeavesOnly (T.disk site.old) (T.disk site.new) (AfterStop world (commands (S.left source.old)) (T.disk site.old).told) }
     ensures undamaged { IsTrue T.tells → (world : World) → Stands session.old.state (T.disk site.old) world
         → IfErr result IsUndamaged }
+    ensures replied { IsTrue S.tells → IsTrue T.tells
+        → OnOk result (HasReplied (commands (S.left source.old)) (T.disk site.old).told (T.disk site.new).told) }
     ensures unpulled { IsTrue S.tells → Gave (S.left source.old) (S.left source.new) 0 → IfErr result IsUndamaged }
     ensures read { IsTrue S.tells → OnOk result (S.left source.new ≡ []) }
     ensures too_long { IsTrue S.tells
@@ -48,6 +51,7 @@ pub fn serve<S: Source, T: Site>(
     ensures bounded { IsTrue S.tells → GaveAtMost (S.left source.old) (S.left source.new) (limit + 1) }
     ensures asked { S.ends source.new ≤ S.ends source.old + 1 }
     ensures no_usage { IsErrOf result Status.Usage → ⊥ }
+    ensures running { OnOk result (IsRunning session.new.state) }
     ensures cause { IfErr result (EndCause (faults (S.faults source.old) (T.disk_faults site.old) (T.told_faults site.old))
         (faults (S.faults source.new) (T.disk_faults site.new) (T.told_faults site.new))) }
     ensures faults { OnOk result (Stayed (faults (S.faults source.old) (T.disk_faults site.old) (T.told_faults site.old))
@@ -89,6 +93,8 @@ fn take_piece<T: Site>(
     ensures whole { IsTrue T.tells → (world : World) (more : List ℕ) → Stands session.old.state (T.disk site.old) world
         → OnOk result (Onward session.new.state (T.disk site.new) world (whole_with lines.old (take count buffer.items ++ more))
         (T.disk site.old).told (whole_with lines.new more)) }
+    ensures replied { IsTrue T.tells → (more : List ℕ) → OnOk result (AreLeft (to_come lines.old (take count buffer.items ++ more))
+        (T.disk site.old).told (to_come lines.new more) (T.disk site.new).told) }
     ensures ready { OnOk result (ready lines.new ≡ []) }
     ensures read { OnOk result (lines.new.rest ≡ []) }
     ensures any_moment { IsTrue T.tells → (world : World) (more : List ℕ) → Stands session.old.state (T.disk site.old) world
@@ -120,8 +126,10 @@ fn take_end<T: Site>(session: &mut Session, lines: &mut Lines, site: &mut T) -> 
         → LeavesOnly (T.disk site.old) (T.disk site.new) (AfterStop world (to_come lines.old []) (T.disk site.old).told) }
     ensures undamaged { IsTrue T.tells → (world : World) → Stands session.old.state (T.disk site.old) world
         → IfErr result IsNoDamage }
+    ensures replied { IsTrue T.tells → OnOk result (HasReplied (to_come lines.old []) (T.disk site.old).told (T.disk site.new).told) }
     ensures nothing { lines.old ≡ nothing_read → IfErr result IsNoDamage }
 
+    ensures running { OnOk result (IsRunning session.new.state) }
     ensures cause { IfErr result (StopCause (T.disk_faults site.old) (T.disk_faults site.new) (T.told_faults site.old) (T.told_faults site.new)) }
     ensures disk_faults { OnOk result (T.disk_faults site.new ≡ T.disk_faults site.old) }
     ensures told_faults { OnOk result (T.told_faults site.new ≡ T.told_faults site.old) }
@@ -145,6 +153,8 @@ fn carry_out<T: Site>(session: &mut Session, lines: &mut Lines, site: &mut T) ->
         → LeavesOnly (T.disk site.old) (T.disk site.new) (AfterStop world (to_come lines.old more) (T.disk site.old).told) }
     ensures undamaged { IsTrue T.tells → (world : World) → Stands session.old.state (T.disk site.old) world
         → IfErr result IsNoDamage }
+    ensures replied { IsTrue T.tells → (more : List ℕ)
+        → OnOk result (AreLeft (to_come lines.old more) (T.disk site.old).told (to_come lines.new more) (T.disk site.new).told) }
     ensures nothing { ready lines.old ≡ [] → IfErr result IsNoDamage }
     ensures ready { OnOk result (ready lines.new ≡ []) }
     ensures read { OnOk result (lines.new.rest ≡ []) }

@@ -11,6 +11,7 @@ ghost use Rattle.cube_shell.specs.Ends.{EndCause, StatusCause, Stayed, IsDoneOrM
 ghost use Rattle.cube_shell.specs.Headline.{AfterRun, CutOff, Finished, HasOpened, Headline, LeftOff, Settled};
 ghost use Rattle.cube_shell.specs.Keeps.{Keeps};
 ghost use Rattle.cube_shell.specs.Pulls.{Gave, GaveAtMost};
+ghost use Rattle.cube_shell.specs.Replied.{HasReplied};
 ghost use Rattle.cube_shell.specs.World.{Kept, bare};
 
 use crate::serve::serve;
@@ -48,6 +49,8 @@ pub fn run<S: Source, T: Site>(
         → (T.disk site.new).told ≡ (T.disk site.old).told }
     ensures damaged { IsTrue S.tells → IsTrue T.tells → Gave (S.left source.old) (S.left source.new) 0
         → EndsForBreak (T.disk site.old).files result }
+    ensures replied { IsTrue S.tells → IsTrue T.tells → result ≡ Status.Done
+        → HasReplied (commands (S.left source.old)) (T.disk site.old).told (T.disk site.new).told }
     ensures usage { result ≡ Status.Usage → ¬ (AreValid (map string_bytes words.now)) }
     ensures faulty { ¬ (AreValid (map string_bytes words.now)) → IsUsageOrMemory result }
     ensures unread { ¬ (AreValid (map string_bytes words.now)) → source.new ≡ source.old }
@@ -69,7 +72,8 @@ pub fn run<S: Source, T: Site>(
 /// Runs a script within a limit of bytes, which is at most 2^30. The words are those after the program's name, and words that do not
 /// give its one option are `Usage`. Then the files are opened, and damage that is found is named before the first pull. The script is
 /// pulled in pieces of at most 65,536 bytes, and at most one byte past the limit; after each pull every command that is whole by then is
-/// carried out, and its reply told. Each status but `Done` ends the run at once, and a batch that is pending at the end is dropped.
+/// carried out, and its reply told. The end is asked for once. At `Done` each command was replied to; each other status ends the run at
+/// once. A batch that is pending at the end is dropped.
 pub fn run_within<S: Source, T: Site>(
     alloc: Global,
     words: &[String],
@@ -95,6 +99,8 @@ pub fn run_within<S: Source, T: Site>(
         → (T.disk site.new).told ≡ (T.disk site.old).told }
     ensures damaged { IsTrue S.tells → IsTrue T.tells → Gave (S.left source.old) (S.left source.new) 0
         → EndsForBreak (T.disk site.old).files result }
+    ensures replied { IsTrue S.tells → IsTrue T.tells → result ≡ Status.Done
+        → HasReplied (commands (S.left source.old)) (T.disk site.old).told (T.disk site.new).told }
     ensures usage { result ≡ Status.Usage → ¬ (AreValid (map string_bytes words.now)) }
     ensures faulty { ¬ (AreValid (map string_bytes words.now)) → IsUsageOrMemory result }
     ensures unread { ¬ (AreValid (map string_bytes words.now)) → source.new ≡ source.old }
@@ -143,6 +149,8 @@ fn attempt<S: Source, T: Site>(
         → (T.disk site.new).told ≡ (T.disk site.old).told }
     ensures damaged { IsTrue S.tells → IsTrue T.tells → Gave (S.left source.old) (S.left source.new) 0
         → IfErr result (EndsForBreak (T.disk site.old).files) }
+    ensures replied { IsTrue S.tells → IsTrue T.tells
+        → OnOk result (HasReplied (commands (S.left source.old)) (T.disk site.old).told (T.disk site.new).told) }
     ensures read { IsTrue S.tells → OnOk result (S.left source.new ≡ []) }
     ensures usage { IsErrOf result Status.Usage → ¬ (AreValid (map string_bytes words.now)) }
     ensures faulty { ¬ (AreValid (map string_bytes words.now)) → IfErr result IsUsageOrMemory × OnOk result ⊥ }

@@ -4,6 +4,7 @@ use Rattle.script_lang.specs.Reading.{to_come, whole_with}
 use Rattle.cube_shell.specs.Ends.{IsNoDamage}
 use Rattle.cube_shell.proofs.Going.{started_moments, started_onward, more_moments, more_onward}
 use Rattle.cube_shell.proofs.Pieces.{none_given}
+use Rattle.cube_shell.proofs.Replied.{none_replied, one_replied}
 use Rattle.cube_shell.proofs.serve.carry_out.Goals as goal
 
 pub loop-command-init : goal.loop-command-init
@@ -16,6 +17,7 @@ loop-command-init g c = record {
       started_onward c.args.session.now.state (g.T.Site.disk c.args.site.now) world (to_come c.args.lines.now more) stands;
   whole = λ t over world more stands.
       started_onward c.args.session.now.state (g.T.Site.disk c.args.site.now) world (whole_with c.args.lines.now more) stands;
+  replied = λ t more. none_replied (to_come c.args.lines.now more) (g.T.Site.disk c.args.site.now).told;
   any_moment = λ t world more stands.
       started_moments c.args.session.now.state (g.T.Site.disk c.args.site.now) world (to_come c.args.lines.now more) stands
       (λ told files. g.met.T.Site.only_now c.args.site.now told files t);
@@ -44,6 +46,12 @@ loop-command-preserved g c = record {
       (c.in_ok-command.ensures.whole (c.loop-command.invariant.over ∙ over) more
       ∙ ap (λ (o : Option Command). option_to_list o ++ rest) c.in-Some.is)
       c.command.new.self.state (c.in_ok-command-2.ensures.stands t o.now o.stands) (c.in_ok-command-2.ensures.told t o.now o.stands);
+  replied = λ t more.
+      let rest = to_come c.next_command.new.self more in
+      one_replied _ _ _ _ c.in-Some.command rest _ c.loop-command.session.state (g.T.Site.disk c.loop-command.site).files
+      (c.loop-command.invariant.replied t more)
+      (c.in_ok-command.ensures.given more ∙ ap (λ (o : Option Command). option_to_list o ++ rest) c.in-Some.is)
+      c.loop-command.invariant.running (c.in_ok-command-2.ensures.answered t);
   any_moment = λ t world more stands.
       let o = c.loop-command.invariant.onward t world more stands in
       let rest = to_come c.next_command.new.self more in

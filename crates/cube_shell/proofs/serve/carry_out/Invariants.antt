@@ -2,6 +2,7 @@ use Rattle.std.proofs.Common.{◌≡◌, ℕ, List, [], IsTrue, false, length}
 use Rattle.site_core.specs.Moments.{LeavesOnly}
 use Rattle.script_lang.specs.Reading.{ready, to_come, whole_with}
 use Rattle.cube_shell.specs.Headline.{AfterStop}
+use Rattle.cube_shell.specs.Replied.{AreLeft}
 use Rattle.cube_shell.specs.Session.{IsFit, IsRunning, Onward, Stands}
 use Rattle.cube_shell.specs.World.{World}
 use Rattle.cube_shell.proofs.serve.carry_out.Given as goal
@@ -18,6 +19,8 @@ invariant-loop-command g l = record {
   whole : IsTrue g.T.Site.tells → l.fn.lines.over ≡ false → (world : World) (more : List ℕ)
       → Stands l.fn.session.state (g.T.Site.disk l.fn.site) world
       → Onward l.session.state (g.T.Site.disk l.site) world (whole_with l.fn.lines more) (g.T.Site.disk l.fn.site).told (whole_with l.lines more);
+  replied : IsTrue g.T.Site.tells → (more : List ℕ)
+      → AreLeft (to_come l.fn.lines more) (g.T.Site.disk l.fn.site).told (to_come l.lines more) (g.T.Site.disk l.site).told;
   any_moment : IsTrue g.T.Site.tells → (world : World) (more : List ℕ) → Stands l.fn.session.state (g.T.Site.disk l.fn.site) world
       → LeavesOnly (g.T.Site.disk l.fn.site) (g.T.Site.disk l.site)
       (AfterStop world (to_come l.fn.lines more) (g.T.Site.disk l.fn.site).told);

@@ -3,9 +3,11 @@ use Rattle.script_lang.specs.Script.{commands, whole}
 use Rattle.script_lang.proofs.Feeding.{none_whole}
 use Rattle.script_lang.specs.Reading.{Reading, to_come, whole_with}
 use Rattle.cube_shell.specs.Headline.{Finished}
+use Rattle.cube_shell.specs.Replied.{AreLeft}
 use Rattle.cube_shell.specs.Session.{Onward}
 use Rattle.cube_shell.proofs.Going.{all_done, started_moments, started_onward, then_moments, then_onward}
 use Rattle.cube_shell.proofs.Pieces.{given_more, piece_left, piece_taken, piece_to_come, end_to_come}
+use Rattle.cube_shell.proofs.Replied.{last_replied, more_replied, none_replied}
 use Rattle.cube_shell.proofs.Statuses.{not_input, not_too_long, undamaged_as}
 use Rattle.cube_shell.proofs.serve.serve.Goals as goal
 
@@ -25,6 +27,9 @@ loop-lines-init g c =
       onward = λ s t world stands.
           subst (λ (r : Reading). Onward c.args.session.now.state disk world (commands left) disk.told (to_come r left))
           (sym c.new-lines.ensures) (started_onward c.args.session.now.state disk world (commands left) stands);
+      replied = λ s t.
+          subst (λ (r : Reading). AreLeft (commands left) disk.told (to_come r left) disk.told) (sym c.new-lines.ensures)
+          (none_replied (commands left) disk.told);
       left = λ s. refl;
       whole = λ s t world more stands.
           subst (λ (r : Reading). Onward c.args.session.now.state disk world (whole more) disk.told (whole_with r more))
@@ -70,6 +75,10 @@ loop-lines-preserved g c = record {
       then_onward (g.T.Site.disk c.args.site.now) (g.T.Site.disk c.loop-lines.site) (g.T.Site.disk c.take_piece.new.site) _ world _ _ _ _
       o (piece_to_come _ _ _ _ (c.in_ok-count.ensures.bytes s) c.loop-lines.lines c.give_back.new.self c.give_back.ensures)
       c.take_piece.new.session.state (c.in_ok-take_piece.ensures.onward t o.now (g.S.Source.left c.pull.new.source) o.stands);
+  replied = λ s t.
+      more_replied _ _ _ _ _ _ _ (c.loop-lines.invariant.replied s t)
+      (piece_to_come _ _ _ _ (c.in_ok-count.ensures.bytes s) c.loop-lines.lines c.give_back.new.self c.give_back.ensures)
+      (c.in_ok-take_piece.ensures.replied t (g.S.Source.left c.pull.new.source));
   left = λ s. piece_left _ _ _ c.in_ok-count.count (c.in_ok-count.ensures.bytes s) (g.S.Source.left c.args.source.now) c.loop-lines.taken
       (omega (arith, c.in_ok-count.ensures.bound)) (c.loop-lines.invariant.left s) (c.loop-lines.invariant.given s);
   whole = λ s t world more stands.
@@ -164,3 +173,9 @@ returns-in_err-take_end-clause-cut_off g c = λ s t world stands is.
 pub returns-in_err-take_piece-clause-cut_off : goal.returns-in_err-take_piece-clause-cut_off
 returns-in_err-take_piece-clause-cut_off g c = λ s t world stands is.
     absurd (not_input _ c.in_err-take_piece.field-0.0 c.from_residual-in_err-take_piece.ensures.1 is)
+
+pub returns-then-count-eq0-clause-replied : goal.returns-then-count-eq0-clause-replied
+returns-then-count-eq0-clause-replied g c = λ s t.
+    last_replied _ _ _ _ _ _ (c.loop-lines.invariant.replied s t)
+    (end_to_come _ _ _ _ (c.in_ok-count.ensures.bytes s) c.loop-lines.lines c.give_back.new.self c.give_back.ensures c.if-count-eq0.true)
+    (c.in_ok-take_end.ensures.replied t)

@@ -3,6 +3,7 @@ use Rattle.site_core.specs.Moments.{LeavesOnly}
 use Rattle.script_lang.specs.Reading.{nothing_read, to_come, whole_with}
 use Rattle.script_lang.specs.Script.{commands, whole}
 use Rattle.cube_shell.specs.Headline.{AfterStop}
+use Rattle.cube_shell.specs.Replied.{AreLeft}
 use Rattle.cube_shell.specs.Session.{IsFit, IsRunning, Onward, Stands}
 use Rattle.cube_shell.specs.World.{World}
 use Rattle.cube_shell.proofs.serve.serve.Given as goal
@@ -23,6 +24,8 @@ invariant-loop-lines g l = record {
       → Stands l.fn.session.state (g.T.Site.disk l.fn.site) world
       → Onward l.session.state (g.T.Site.disk l.site) world (commands (g.S.Source.left l.fn.source))
       (g.T.Site.disk l.fn.site).told (to_come l.lines (g.S.Source.left l.source));
+  replied : IsTrue g.S.Source.tells → IsTrue g.T.Site.tells → AreLeft (commands (g.S.Source.left l.fn.source)) (g.T.Site.disk l.fn.site).told
+      (to_come l.lines (g.S.Source.left l.source)) (g.T.Site.disk l.site).told;
   left : IsTrue g.S.Source.tells → g.S.Source.left l.fn.source ≡ take l.taken (g.S.Source.left l.fn.source) ++ g.S.Source.left l.source;
   whole : IsTrue g.S.Source.tells → IsTrue g.T.Site.tells → (world : World) (more : List ℕ)
       → Stands l.fn.session.state (g.T.Site.disk l.fn.site) world

@@ -5,6 +5,7 @@ use Rattle.script_lang.specs.Reading.{Reading, ready}
 use Rattle.script_lang.proofs.Feeding.{ended, none_to_come}
 use Rattle.cube_shell.specs.Headline.{AfterStop}
 use Rattle.cube_shell.proofs.Going.{finished_at}
+use Rattle.cube_shell.proofs.Replied.{replied_at}
 use Rattle.cube_shell.proofs.serve.take_end.Goals as goal
 
 pub returns-clause-finished : goal.returns-clause-finished
@@ -22,3 +23,9 @@ returns-clause-any_moment g c = λ t world stands.
 pub returns-clause-nothing : goal.returns-clause-nothing
 returns-clause-nothing g c = λ is.
     c.carry_out.ensures.nothing (ap ready (c.end.ensures ∙ ap (λ (r : Reading). record { over = true; place = r.place; rest = r.rest }) is))
+
+pub returns-clause-replied : goal.returns-clause-replied
+returns-clause-replied g c = λ t.
+    replied_at _ _ _ _ _ _ _ (c.carry_out.ensures.replied t []) c.carry_out.ensures.ready
+    (none_to_come c.carry_out.new.lines (c.carry_out.ensures.over ∙ ap (λ (r : Reading). r.over) c.end.ensures))
+    (ended c.args.lines.now c.end.new.self c.requires.goes_on c.end.ensures)

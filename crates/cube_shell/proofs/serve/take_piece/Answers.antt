@@ -4,6 +4,7 @@ use Rattle.script_lang.specs.declared.command.Command.{Command}
 use Rattle.script_lang.specs.Reading.{Reading, to_come, whole_with}
 use Rattle.script_lang.proofs.Feeding.{fed, fed_whole}
 use Rattle.cube_shell.specs.Headline.{AfterStop}
+use Rattle.cube_shell.specs.Replied.{AreLeft}
 use Rattle.cube_shell.specs.Session.{Onward}
 use Rattle.cube_shell.proofs.serve.take_piece.Goals as goal
 
@@ -27,3 +28,10 @@ returns-clause-any_moment g c = λ t world more stands.
     (AfterStop world cs (g.T.Site.disk c.args.site.now).told))
     (sym (fed c.args.lines.now c.take_over.new.self (take c.args.count c.args.buffer.items) more c.requires.goes_on c.take_over.ensures))
     (c.carry_out.ensures.any_moment t world more stands)
+
+pub returns-clause-replied : goal.returns-clause-replied
+returns-clause-replied g c = λ t more.
+    subst (λ (cs : List Command). OnOk c.carry_out.result (AreLeft cs (g.T.Site.disk c.args.site.now).told (to_come c.carry_out.new.lines more)
+    (g.T.Site.disk c.carry_out.new.site).told))
+    (sym (fed c.args.lines.now c.take_over.new.self (take c.args.count c.args.buffer.items) more c.requires.goes_on c.take_over.ensures))
+    (c.carry_out.ensures.replied t more)

@@ -1,8 +1,9 @@
-use Rattle.std.proofs.Common.{◌≡◌, ap, Err}
+use Rattle.std.proofs.Common.{◌≡◌, ℕ, List, OnOk, ap, subst, Err}
 use Rattle.script_lang.specs.Script.{commands}
 use Rattle.cube_shell.specs.Damage.{EndsAt, EndsForBreak}
 use Rattle.cube_shell.specs.Ends.{IsUndamaged, IsUsageOrMemory}
 use Rattle.cube_shell.specs.declared.status.Status.TheVariants.{Usage}
+use Rattle.cube_shell.specs.Replied.{HasReplied}
 use Rattle.cube_shell.specs.World.{bare}
 use Rattle.cube_shell.proofs.Going.{opened_moments, settled_behind, unopened_moments}
 use Rattle.cube_shell.proofs.Statuses.{broken_as, either_way, ended_by_words, named, none_told_as, not_ended_so, unopened, unread_words}
@@ -45,6 +46,11 @@ returns-in_err-session-clause-damaged g c = λ s t none.
 
 pub returns-clause-damaged : goal.returns-clause-damaged
 returns-clause-damaged g c = λ s t none. none_told_as _ (g.T.Site.disk c.args.site.now).files (c.serve.ensures.unpulled s none)
+
+pub returns-clause-replied : goal.returns-clause-replied
+returns-clause-replied g c = λ s t.
+    subst (λ (told : List ℕ). OnOk c.serve.result (HasReplied (commands (g.S.Source.left c.args.source.now)) told (g.T.Site.disk c.serve.new.site).told))
+    (c.in_ok-session.ensures.disk t).told (c.serve.ensures.replied s t)
 
 -- ---- words that are not taken
 

@@ -44,3 +44,9 @@ returns-in-Ok-clause-broken g c = λ t valid place breaks. absurd (c.in-Ok.ensur
 
 pub returns-in-Err-clause-broken : goal.returns-in-Err-clause-broken
 returns-in-Err-clause-broken g c = λ t valid place breaks. (c.in-Err.ensures.broken t valid place breaks).0
+
+pub returns-in-Ok-clause-replied : goal.returns-in-Ok-clause-replied
+returns-in-Ok-clause-replied g c = λ s t is. c.in-Ok.ensures.replied s t
+
+pub returns-in-Err-clause-replied : goal.returns-in-Err-clause-replied
+returns-in-Err-clause-replied g c = λ s t is. absurd (not_done _ _ _ c.in-Err.ensures.cause is)

@@ -1,0 +1,20 @@
+-- That each command of a list was replied to, whatever the files hold.
+use Rattle.std.specs.Prelude.{◌≡◌, ℕ, ◌<◌, List, [], ◌∷◌, ◌++◌, length}
+use Rattle.script_lang.specs.declared.command.Command.{Command}
+
+-- each command has a reply of its own among these bytes, of at least one byte, in order, with nothing between them or behind
+abbrev pub Replied : List Command → List ℕ → Type 0
+Replied [] told = told ≡ []
+Replied (command ∷ rest) told = (reply : List ℕ) × (more : List ℕ) × (told ≡ reply ++ more) × (0 < length reply) × Replied rest more
+
+-- behind what was told before stand replies to these commands, and nothing else
+pub record HasReplied (commands : List Command) (before now : List ℕ) : Type 0 where
+  pub replies : List ℕ
+  pub told : now ≡ before ++ replies
+  pub each : Replied commands replies
+
+-- of these commands the first were replied to, and the others are left
+pub record AreLeft (commands : List Command) (before : List ℕ) (rest : List Command) (now : List ℕ) : Type 0 where
+  pub front : List Command
+  pub cut : commands ≡ front ++ rest
+  pub replied : HasReplied front before now
