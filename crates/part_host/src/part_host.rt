@@ -1,0 +1,100 @@
+//! Each call of a host as a part of one of a site.
+ghost use Rattle.std.specs.Prelude.{◌≡◌, ◌<◌, IsTrue, IfOk};
+ghost use Rattle.part_host.specs.Flags.{AreHonest, flags_ledger};
+
+use site_core::{Fault, Site};
+use site_folder::Host;
+use std::io;
+
+/// The files and the output of a site, of which one call reads or writes at most so many bytes.
+#[derive(Drop)]
+pub struct PartHost<T: Site> {
+    pub site: T,
+    most: usize,
+    synced: [bool; 4],
+    ghost some: { 0 < most },
+    ghost honest: { IsTrue T.tells → AreHonest synced (T.disk site) },
+}
+
+impl<T: Site> PartHost<T> {
+    /// A site of which nothing counts as synced yet. It takes no memory.
+    pub fn new(site: T, most: usize) -> PartHost<T>
+        requires { 0 < most }
+    {
+        PartHost {
+            site,
+            most,
+            synced: [false; 4],
+        }
+    }
+}
+
+/// What a site answers, as a host does.
+fn answered<V: Drop>(outcome: Result<V, Fault>) -> io::Result<V>
+    ensures { IfOk result (λ value. outcome ≡ Ok value) }
+{
+    match outcome {
+        Ok(value) => Ok(value),
+        Err(_) => Err(io::ErrorKind::Other.into()),
+    }
+}
+
+impl<T: Site> Host for PartHost<T> {
+    ghost tells = { T.tells };
+
+    ghost disk = { λ h. T.disk h.site };
+
+    ghost ledger = { λ h. flags_ledger h.synced };
+
+    ghost read_now = { λ h tells. T.read_now h.site tells };
+
+    ghost counts_now = { λ h t files tells. T.counts_now h.site t files tells };
+
+    ghost only_now = { λ h told files tells. T.only_now h.site told files tells };
+
+    ghost stable_now = { λ h tells synced. h.honest tells synced.files };
+
+    fn open(&mut self, _file: u32) -> io::Result<()> {
+        Ok(())
+    }
+
+    fn make(&mut self, _file: u32) -> io::Result<()> {
+        Ok(())
+    }
+
+    fn length(&mut self, file: u32) -> io::Result<u64> {
+        answered(self.site.length(file))
+    }
+
+    fn read_at(&mut self, file: u32, at: u64, into: &mut [u8]) -> io::Result<usize> {
+        let count = self.most.min(into.len()).min(4096);
+        answered(self.site.read(file, at, &mut into[..count]))
+    }
+
+    fn write_at(&mut self, file: u32, at: u64, bytes: &[u8]) -> io::Result<usize> {
+        let count = self.most.min(bytes.len());
+        self.synced[file as usize] = false;
+        answered(self.site.write(file, at, &bytes[..count]))?;
+        Ok(count)
+    }
+
+    fn sync_file(&mut self, file: u32) -> io::Result<()> {
+        answered(self.site.sync())?;
+        self.synced[file as usize] = true;
+        Ok(())
+    }
+
+    fn sync_folder(&mut self) -> io::Result<()> {
+        Ok(())
+    }
+
+    fn put(&mut self, bytes: &[u8]) -> io::Result<usize> {
+        let count = self.most.min(bytes.len());
+        answered(self.site.emit(&bytes[..count]))?;
+        Ok(count)
+    }
+
+    fn flush(&mut self) -> io::Result<()> {
+        Ok(())
+    }
+}
