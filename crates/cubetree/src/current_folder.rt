@@ -1,23 +1,26 @@
 //! The current folder and standard output, in single calls of std.
-ghost use Rattle.std.specs.Prelude.{◌≡◌, ◌<◌, false, true};
+ghost use Rattle.std.specs.Prelude.{◌≡◌, ◌<◌, ◌≤◌, length, IfOk, false, true};
 ghost use Rattle.std.specs.Fs.{new_options, with_create, with_read, with_write};
 ghost use Rattle.site_core.specs.Silent.{no_disk, no_left};
 ghost use Rattle.site_folder.specs.Names.{file_name};
 ghost use Rattle.cubetree.specs.Silent.{no_ledger};
 
+use crate::faults::{counted, taken};
 use crate::open_files::OpenFiles;
 use site_folder::Host;
 use std::fs::{File, OpenFile, OpenOptions};
 use std::io;
-use std::io::Write;
-use std::os::unix::fs::FileExt;
+use std::io::{ErrorKind, Write};
 
-/// The files `root`, `names`, `side0` and `side1` of the current folder, and standard output. It tells nothing of their bytes.
+/// The files `root`, `names`, `side0` and `side1` of the current folder, and standard output, with the counts of their faults, which begin
+/// at 0. It tells nothing of their bytes.
 #[derive(Drop)]
 pub struct CurrentFolder<'a> {
     rt: &'a HostRuntime,
     files: OpenFiles,
     streams: [Option<File>; 3],
+    disk_faults: u64,
+    told_faults: u64,
 }
 
 impl<'a> CurrentFolder<'a> {
@@ -35,12 +38,16 @@ impl<'a> CurrentFolder<'a> {
                 File::open(rt, ".").ok(),
                 File::open(rt, ".").ok(),
             ],
+            disk_faults: 0,
+            told_faults: 0,
         }
     }
 
     /// Opens a file, which is made where it is not there if that is asked for.
     fn open_with(&mut self, file: u32, create: bool) -> io::Result<()>
         requires { file < 4 }
+        ensures disk_faults { self.new.disk_faults ≡ self.old.disk_faults }
+        ensures told_faults { self.new.told_faults ≡ self.old.told_faults }
     {
         let open = options(create).open(self.rt, name_of(file))?;
         self.files.keep(file, open)
@@ -54,6 +61,10 @@ impl Host for CurrentFolder<'_> {
 
     ghost ledger = { λ _. no_ledger };
 
+    ghost disk_faults = { λ h. h.disk_faults };
+
+    ghost told_faults = { λ h. h.told_faults };
+
     ghost read_now = { λ h tells. no_left tells };
 
     ghost counts_now = { λ h t files tells. no_left tells };
@@ -66,40 +77,62 @@ impl Host for CurrentFolder<'_> {
         if self.files.has(file) {
             return Ok(());
         }
-        self.open_with(file, false)
+        match self.open_with(file, false) {
+            Err(error) if error.kind() == ErrorKind::NotFound => Err(error),
+            outcome => counted(outcome, &mut self.disk_faults),
+        }
     }
 
     fn make(&mut self, file: u32) -> io::Result<()> {
-        self.open_with(file, true)
+        let outcome = self.open_with(file, true);
+        counted(outcome, &mut self.disk_faults)
     }
 
     fn length(&mut self, file: u32) -> io::Result<u64> {
-        Ok(self.files.get(file)?.metadata()?.len())
+        counted(self.files.length(file), &mut self.disk_faults)
     }
 
     fn read_at(&mut self, file: u32, at: u64, into: &mut [u8]) -> io::Result<usize> {
-        self.files.get(file)?.read_at(into, at)
+        counted(self.files.read_at(file, at, into), &mut self.disk_faults)
     }
 
     fn write_at(&mut self, file: u32, at: u64, bytes: &[u8]) -> io::Result<usize> {
-        self.files.get(file)?.write_at(bytes, at)
+        counted(self.files.write_at(file, at, bytes), &mut self.disk_faults)
+    }
+
+    fn too_far(&mut self, _at: u64, _count: usize) -> io::Error {
+        self.disk_faults = self.disk_faults.saturating_add(1);
+        ErrorKind::InvalidInput.into()
     }
 
     fn sync_file(&mut self, file: u32) -> io::Result<()> {
-        self.files.get(file)?.sync_all()
+        counted(self.files.sync(file), &mut self.disk_faults)
     }
 
     fn sync_folder(&mut self) -> io::Result<()> {
-        File::open(self.rt, ".")?.sync_all()
+        counted(sync_here(self.rt), &mut self.disk_faults)
     }
 
     fn put(&mut self, bytes: &[u8]) -> io::Result<usize> {
-        io::writer(self.rt).write(bytes)
+        counted(write_out(self.rt, bytes), &mut self.told_faults)
     }
 
     fn flush(&mut self) -> io::Result<()> {
-        io::writer(self.rt).flush()
+        counted(io::writer(self.rt).flush(), &mut self.told_faults)
     }
+}
+
+/// Syncs the current folder.
+fn sync_here(rt: &HostRuntime) -> io::Result<()> {
+    File::open(rt, ".")?.sync_all()
+}
+
+/// One write of standard output, of some bytes.
+fn write_out(rt: &HostRuntime, bytes: &[u8]) -> io::Result<usize>
+    ensures some { IfOk result (λ count. 0 < count) }
+    ensures bound { IfOk result (λ count. count ≤ length bytes.now) }
+{
+    taken(io::writer(rt).write(bytes)?)
 }
 
 /// How a file is opened: to be read and written as it is, and made where it is not there if that is asked for.

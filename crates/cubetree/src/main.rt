@@ -3,6 +3,7 @@
 
 mod current_folder;
 mod data_file;
+mod faults;
 mod open_files;
 mod standard_input;
 #[cfg(test)]
@@ -40,7 +41,7 @@ fn run_here(rt: &HostRuntime) -> Status {
         Ok(words) => run(
             rt.alloc(),
             &words,
-            &mut Input::new(StandardInput(rt.stdin())),
+            &mut Input::new(StandardInput::new(rt.stdin())),
             &mut FolderSite::new(CurrentFolder::new(rt)),
         ),
         Err(error) => fault_of_words(&error),

@@ -1,9 +1,11 @@
-//! The files of the folder that are open.
-ghost use Rattle.std.specs.Prelude.{◌<◌};
+//! The files of the folder that are open, in single calls of std.
+ghost use Rattle.std.specs.Prelude.{◌<◌, ◌≤◌, length, IfOk};
 
 use crate::data_file::DataFile;
-use std::fs::File;
+use crate::faults::taken;
+use std::fs::{File, OpenFile};
 use std::io;
+use std::os::unix::fs::FileExt;
 
 /// The four files by their numbers, as far as they are open.
 #[derive(Drop)]
@@ -26,8 +28,15 @@ impl OpenFiles {
         self.files[file as usize].is_some()
     }
 
-    /// A file that is open.
-    pub fn get(&self, file: u32) -> io::Result<&File>
+    /// Keeps a file that was opened. One with the descriptor of a stream is closed again, and that is a fault.
+    pub fn keep(&mut self, file: u32, open: File) -> io::Result<()>
+        requires { file < 4 }
+    {
+        self.files[file as usize] = Some(DataFile::new(open)?);
+        Ok(())
+    }
+
+    fn get(&self, file: u32) -> io::Result<&File>
         requires { file < 4 }
     {
         match &self.files[file as usize] {
@@ -36,11 +45,34 @@ impl OpenFiles {
         }
     }
 
-    /// Keeps a file that was opened. One with the descriptor of a stream is closed again, and that is a fault.
-    pub fn keep(&mut self, file: u32, open: File) -> io::Result<()>
+    /// The length of an open file.
+    pub fn length(&self, file: u32) -> io::Result<u64>
         requires { file < 4 }
     {
-        self.files[file as usize] = Some(DataFile::new(open)?);
-        Ok(())
+        Ok(self.get(file)?.metadata()?.len())
+    }
+
+    /// One read of an open file.
+    pub fn read_at(&self, file: u32, at: u64, into: &mut [u8]) -> io::Result<usize>
+        requires { file < 4 }
+        ensures { IfOk result (λ count. count ≤ length into.new) }
+    {
+        self.get(file)?.read_at(into, at)
+    }
+
+    /// One write of an open file, of some bytes.
+    pub fn write_at(&self, file: u32, at: u64, bytes: &[u8]) -> io::Result<usize>
+        requires { file < 4 }
+        ensures some { IfOk result (λ count. 0 < count) }
+        ensures bound { IfOk result (λ count. count ≤ length bytes.now) }
+    {
+        taken(self.get(file)?.write_at(bytes, at)?)
+    }
+
+    /// Syncs an open file.
+    pub fn sync(&self, file: u32) -> io::Result<()>
+        requires { file < 4 }
+    {
+        self.get(file)?.sync_all()
     }
 }

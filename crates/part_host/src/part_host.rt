@@ -1,5 +1,5 @@
 //! Each call of a host as a part of one of a site.
-ghost use Rattle.std.specs.Prelude.{◌≡◌, ◌<◌, IsTrue, IfOk};
+ghost use Rattle.std.specs.Prelude.{◌≡◌, ◌<◌, ◌+◌, IsTrue, IfOk, IsErr, OnErr};
 ghost use Rattle.part_host.specs.Flags.{AreHonest, flags_ledger};
 
 use site_core::{Fault, Site};
@@ -12,6 +12,8 @@ pub struct PartHost<T: Site> {
     pub site: T,
     most: usize,
     synced: [bool; 4],
+    /// How many places were too far.
+    far: u64,
     ghost some: { 0 < most },
     ghost honest: { IsTrue T.tells → AreHonest synced (T.disk site) },
 }
@@ -25,13 +27,15 @@ impl<T: Site> PartHost<T> {
             site,
             most,
             synced: [false; 4],
+            far: 0,
         }
     }
 }
 
 /// What a site answers, as a host does.
 fn answered<V: Drop>(outcome: Result<V, Fault>) -> io::Result<V>
-    ensures { IfOk result (λ value. outcome ≡ Ok value) }
+    ensures ok { IfOk result (λ value. outcome ≡ Ok value) }
+    ensures failed { OnErr result (IsErr outcome) }
 {
     match outcome {
         Ok(value) => Ok(value),
@@ -45,6 +49,10 @@ impl<T: Site> Host for PartHost<T> {
     ghost disk = { λ h. T.disk h.site };
 
     ghost ledger = { λ h. flags_ledger h.synced };
+
+    ghost disk_faults = { λ h. T.disk_faults h.site + h.far };
+
+    ghost told_faults = { λ h. T.told_faults h.site };
 
     ghost read_now = { λ h tells. T.read_now h.site tells };
 
@@ -76,6 +84,11 @@ impl<T: Site> Host for PartHost<T> {
         self.synced[file as usize] = false;
         answered(self.site.write(file, at, &bytes[..count]))?;
         Ok(count)
+    }
+
+    fn too_far(&mut self, _at: u64, _count: usize) -> io::Error {
+        self.far = self.far.saturating_add(1);
+        io::ErrorKind::InvalidInput.into()
     }
 
     fn sync_file(&mut self, file: u32) -> io::Result<()> {

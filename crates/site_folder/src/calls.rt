@@ -1,7 +1,8 @@
 //! What a site asks of its host, in calls of the system.
-ghost use Rattle.std.specs.Prelude.{◌≡◌, ◌<◌, ◌≤◌, ◌+◌, ◌++◌, ◌⊎◌, IsTrue, length, IfOk, OnOk};
+ghost use Rattle.std.specs.Prelude.{◌≡◌, ◌<◌, ◌≤◌, ◌+◌, ◌++◌, ◌⊎◌, ◌^◌, ◌↔◌, IsTrue, length, IfOk, OnOk};
 ghost use Rattle.std.specs.IoError.{error_kind};
 ghost use Rattle.site_core.specs.Calls.{Rests, Fills, Writes, Emits};
+ghost use Rattle.site_core.specs.Causes.{HasCause};
 ghost use Rattle.site_core.specs.Disk.{with_file, overwritten};
 ghost use Rattle.site_folder.specs.Finding.{IsFound};
 ghost use Rattle.site_folder.specs.Ledger.{AreSyncedTo, IsAllSynced, Keeps, KeepsOthers};
@@ -16,6 +17,8 @@ pub fn find<H: Host>(host: &mut H, file: u32) -> io::Result<bool>
     ensures found { IfOk result (IsFound file (H.ledger host.new)) }
     ensures absent { IsTrue H.tells → IfOk result (λ is_there. IsTrue is_there ⊎ (length ((H.disk host.old).files file) ≡ 0)) }
     ensures keeps { Keeps (H.ledger host.old) (H.ledger host.new) }
+    ensures cause { HasCause (H.disk_faults host.old) (H.disk_faults host.new) result }
+    ensures told_faults { H.told_faults host.new ≡ H.told_faults host.old }
     ensures disk { IsTrue H.tells → Rests (H.disk host.old) (H.disk host.new) }
 {
     match host.open(file) {
@@ -25,28 +28,31 @@ pub fn find<H: Host>(host: &mut H, file: u32) -> io::Result<bool>
     }
 }
 
-/// A place so many bytes behind another. One that is no `u64` is a fault.
-fn behind(at: u64, count: usize) -> io::Result<u64>
-    ensures { IfOk result (λ place. place ≡ at + count) }
+/// Whether no `u64` is so many bytes behind a place.
+fn is_too_far(at: u64, count: usize) -> bool
+    ensures { IsTrue result ↔ 2 ^ 64 ≤ at + count }
 {
-    match at.checked_add(count as u64) {
-        Some(place) => Ok(place),
-        None => Err(ErrorKind::InvalidInput.into()),
-    }
+    at.checked_add(count as u64).is_none()
 }
 
-/// Reads an open file from a place on until the buffer is full or the file ends, and answers how many bytes it gave.
+/// Reads an open file from a place on until the buffer is full or the file ends, and answers how many bytes it gave. Where
+/// the buffer would pass the greatest place, that is a fault.
 pub fn fill<H: Host>(host: &mut H, file: u32, at: u64, into: &mut [u8]) -> io::Result<usize>
     requires file { file < 4 }
     requires open { IsTrue ((H.ledger host.old).opened file) }
     ensures bound { IfOk result (λ count. count ≤ length into.new) }
     ensures answer { IsTrue H.tells → IfOk result (λ count. Fills ((H.disk host.old).files file) at count into.new) }
     ensures keeps { Keeps (H.ledger host.old) (H.ledger host.new) }
+    ensures cause { HasCause (H.disk_faults host.old) (H.disk_faults host.new) result }
+    ensures told_faults { H.told_faults host.new ≡ H.told_faults host.old }
     ensures disk { IsTrue H.tells → Rests (H.disk host.old) (H.disk host.new) }
 {
+    if is_too_far(at, into.len()) {
+        return Err(host.too_far(at, into.len()));
+    }
     let mut count = 0;
     while count < into.len() {
-        let got = host.read_at(file, behind(at, count)?, &mut into[count..])?;
+        let got = host.read_at(file, at + count as u64, &mut into[count..])?;
         if got == 0 {
             break;
         }
@@ -55,7 +61,7 @@ pub fn fill<H: Host>(host: &mut H, file: u32, at: u64, into: &mut [u8]) -> io::R
     Ok(count)
 }
 
-/// Writes all bytes to an open file at a place. A write that takes none of them is a fault.
+/// Writes all bytes to an open file at a place. Where they would pass the greatest place, that is a fault.
 pub fn put<H: Host>(host: &mut H, file: u32, at: u64, bytes: &[u8]) -> io::Result<()>
     requires file { file < 4 }
     requires open { IsTrue ((H.ledger host.old).opened file) }
@@ -63,33 +69,32 @@ pub fn put<H: Host>(host: &mut H, file: u32, at: u64, bytes: &[u8]) -> io::Resul
     ensures written { IsTrue H.tells → OnOk result ((H.disk host.new).files
         ≡ with_file (H.disk host.old).files file (overwritten ((H.disk host.old).files file) at bytes.now)) }
     ensures keeps { KeepsOthers file (H.ledger host.old) (H.ledger host.new) }
+    ensures cause { HasCause (H.disk_faults host.old) (H.disk_faults host.new) result }
+    ensures told_faults { H.told_faults host.new ≡ H.told_faults host.old }
     ensures disk { IsTrue H.tells → Writes file at bytes.now (H.disk host.old) (H.disk host.new) }
 {
+    if is_too_far(at, bytes.len()) {
+        return Err(host.too_far(at, bytes.len()));
+    }
     let mut count = 0;
     while count < bytes.len() {
-        let taken = host.write_at(file, behind(at, count)?, &bytes[count..])?;
-        if taken == 0 {
-            return Err(ErrorKind::WriteZero.into());
-        }
-        count += taken;
+        count += host.write_at(file, at + count as u64, &bytes[count..])?;
     }
     Ok(())
 }
 
-/// Writes all bytes to the output, and has it hold none back. A write that takes none of them is a fault.
+/// Writes all bytes to the output, and has it hold none back.
 pub fn tell<H: Host>(host: &mut H, bytes: &[u8]) -> io::Result<()>
     ensures told { IsTrue H.tells → OnOk result ((H.disk host.new).told ≡ (H.disk host.old).told ++ bytes.now) }
     ensures flushed { OnOk result (IsTrue (H.ledger host.new).flushed) }
     ensures keeps { Keeps (H.ledger host.old) (H.ledger host.new) }
+    ensures cause { HasCause (H.told_faults host.old) (H.told_faults host.new) result }
+    ensures disk_faults { H.disk_faults host.new ≡ H.disk_faults host.old }
     ensures disk { IsTrue H.tells → Emits bytes.now (H.disk host.old) (H.disk host.new) }
 {
     let mut count = 0;
     while count < bytes.len() {
-        let taken = host.put(&bytes[count..])?;
-        if taken == 0 {
-            return Err(ErrorKind::WriteZero.into());
-        }
-        count += taken;
+        count += host.put(&bytes[count..])?;
     }
     host.flush()
 }
@@ -98,6 +103,8 @@ pub fn tell<H: Host>(host: &mut H, bytes: &[u8]) -> io::Result<()>
 pub fn sync_files<H: Host>(host: &mut H) -> io::Result<()>
     ensures synced { OnOk result (AreSyncedTo 4 (H.ledger host.new)) }
     ensures keeps { Keeps (H.ledger host.old) (H.ledger host.new) }
+    ensures cause { HasCause (H.disk_faults host.old) (H.disk_faults host.new) result }
+    ensures told_faults { H.told_faults host.new ≡ H.told_faults host.old }
     ensures disk { IsTrue H.tells → Rests (H.disk host.old) (H.disk host.new) }
 {
     for file in 0..4u32 {
@@ -111,6 +118,8 @@ fn sync_file<H: Host>(host: &mut H, file: u32) -> io::Result<()>
     requires { file < 4 }
     ensures synced { OnOk result (IsTrue ((H.ledger host.new).synced file)) }
     ensures keeps { Keeps (H.ledger host.old) (H.ledger host.new) }
+    ensures cause { HasCause (H.disk_faults host.old) (H.disk_faults host.new) result }
+    ensures told_faults { H.told_faults host.new ≡ H.told_faults host.old }
     ensures disk { IsTrue H.tells → Rests (H.disk host.old) (H.disk host.new) }
 {
     if find(host, file)? {

@@ -1,7 +1,8 @@
 //! Where the files lie and the replies go.
-ghost use Rattle.std.specs.Prelude.{◌≡◌, ◌<◌, ◌≤◌, ◌++◌, ℕ, List, Bool, IsTrue, length, take, IfOk, IfErr, OnOk};
+ghost use Rattle.std.specs.Prelude.{◌≡◌, ◌≢◌, ◌<◌, ◌≤◌, ◌+◌, ◌^◌, ◌++◌, ℕ, List, Bool, IsTrue, length, take, IfOk, IfErr, OnOk};
 ghost use Rattle.std.specs.IoError.{error_kind};
 ghost use Rattle.site_core.specs.Calls.{Rests, Writes, Emits};
+ghost use Rattle.site_core.specs.Causes.{HasCause, Rose};
 ghost use Rattle.site_core.specs.Disk.{Files, Disk, with_file, overwritten};
 ghost use Rattle.site_core.specs.Moments.{IsStable};
 ghost use Rattle.site_folder.specs.Ledger.{IsAllSynced, Keeps, KeepsFiles, KeepsOthers, Ledger};
@@ -23,6 +24,13 @@ pub trait Host {
     /// What is open, and what is synced.
     ghost ledger: { Self → Ledger };
 
+    /// How often a call on the files has failed, but for a file that is not there. Like the next count it never falls, and stands still at
+    /// the end of a `u64`.
+    ghost disk_faults: { Self → ℕ };
+
+    /// How often the output has failed.
+    ghost told_faults: { Self → ℕ };
+
     /// Opens a file that is there, unless it is open. Where it is not there the error is `NotFound`; then it has no bytes, and nothing
     /// that is not synced.
     fn open(&mut self, file: u32) -> io::Result<()>
@@ -32,6 +40,11 @@ pub trait Host {
             → length ((disk self.old).files file) ≡ 0) }
         ensures nothing { IfErr result (λ error. error_kind error ≡ ErrorKind.NotFound → IsTrue ((ledger self.new).synced file)) }
         ensures keeps { Keeps (ledger self.old) (ledger self.new) }
+        ensures cause { IfErr result (λ error. error_kind error ≢ ErrorKind.NotFound → Rose (disk_faults self.old) (disk_faults self.new)) }
+        ensures none { IfErr result (λ error. error_kind error ≡ ErrorKind.NotFound → disk_faults self.new ≡ disk_faults self.old) }
+        ensures ok { OnOk result (disk_faults self.new ≡ disk_faults self.old) }
+        ensures later { disk_faults self.old ≤ disk_faults self.new }
+        ensures told_faults { told_faults self.new ≡ told_faults self.old }
         ensures disk { IsTrue tells → Rests (disk self.old) (disk self.new) };
 
     /// Opens a file, and makes it where it is not there. The folder may then have to be synced.
@@ -39,6 +52,8 @@ pub trait Host {
         requires { file < 4 }
         ensures opened { OnOk result (IsTrue ((ledger self.new).opened file)) }
         ensures keeps { KeepsFiles (ledger self.old) (ledger self.new) }
+        ensures cause { HasCause (disk_faults self.old) (disk_faults self.new) result }
+        ensures told_faults { told_faults self.new ≡ told_faults self.old }
         ensures disk { IsTrue tells → Rests (disk self.old) (disk self.new) };
 
     /// The length of an open file in bytes.
@@ -47,6 +62,8 @@ pub trait Host {
         requires open { IsTrue ((ledger self.old).opened file) }
         ensures answer { IsTrue tells → IfOk result (λ count. count ≡ length ((disk self.old).files file)) }
         ensures keeps { Keeps (ledger self.old) (ledger self.new) }
+        ensures cause { HasCause (disk_faults self.old) (disk_faults self.new) result }
+        ensures told_faults { told_faults self.new ≡ told_faults self.old }
         ensures disk { IsTrue tells → Rests (disk self.old) (disk self.new) };
 
     /// One read of an open file from a place on: some of the bytes there, and none only at the file's end.
@@ -57,19 +74,34 @@ pub trait Host {
         ensures bound { IfOk result (λ count. count ≤ length into.new) }
         ensures answer { IsTrue tells → IfOk result (λ count. ReadsAt ((disk self.old).files file) at count into.new) }
         ensures keeps { Keeps (ledger self.old) (ledger self.new) }
+        ensures cause { HasCause (disk_faults self.old) (disk_faults self.new) result }
+        ensures told_faults { told_faults self.new ≡ told_faults self.old }
         ensures disk { IsTrue tells → Rests (disk self.old) (disk self.new) };
 
-    /// One write of an open file at a place: some of the first of these bytes. After a fault any part may have been written.
+    /// One write of an open file at a place: some of the first of these bytes, and none only in a fault. After a fault any part may have been
+    /// written.
     fn write_at(&mut self, file: u32, at: u64, bytes: &[u8]) -> io::Result<usize>
         requires file { file < 4 }
         requires open { IsTrue ((ledger self.old).opened file) }
         requires place { IsTrue tells → at ≤ length ((disk self.old).files file) }
         requires some { 0 < length bytes.now }
+        ensures taken { IfOk result (λ count. 0 < count) }
         ensures bound { IfOk result (λ count. count ≤ length bytes.now) }
         ensures written { IsTrue tells → IfOk result (λ count. (disk self.new).files
             ≡ with_file (disk self.old).files file (overwritten ((disk self.old).files file) at (take count bytes.now))) }
         ensures keeps { KeepsOthers file (ledger self.old) (ledger self.new) }
+        ensures cause { HasCause (disk_faults self.old) (disk_faults self.new) result }
+        ensures told_faults { told_faults self.new ≡ told_faults self.old }
         ensures disk { IsTrue tells → Writes file at bytes.now (disk self.old) (disk self.new) };
+
+    /// The fault of a place so many bytes behind another that no call can name, since it is no `u64`.
+    fn too_far(&mut self, at: u64, count: usize) -> io::Error
+        requires { 2 ^ 64 ≤ at + count }
+        ensures cause { Rose (disk_faults self.old) (disk_faults self.new) }
+        ensures later { disk_faults self.old ≤ disk_faults self.new }
+        ensures told_faults { told_faults self.new ≡ told_faults self.old }
+        ensures keeps { Keeps (ledger self.old) (ledger self.new) }
+        ensures disk { IsTrue tells → Rests (disk self.old) (disk self.new) };
 
     /// Syncs an open file.
     fn sync_file(&mut self, file: u32) -> io::Result<()>
@@ -77,26 +109,35 @@ pub trait Host {
         requires open { IsTrue ((ledger self.old).opened file) }
         ensures synced { OnOk result (IsTrue ((ledger self.new).synced file)) }
         ensures keeps { Keeps (ledger self.old) (ledger self.new) }
+        ensures cause { HasCause (disk_faults self.old) (disk_faults self.new) result }
+        ensures told_faults { told_faults self.new ≡ told_faults self.old }
         ensures disk { IsTrue tells → Rests (disk self.old) (disk self.new) };
 
     /// Syncs the folder, so that files which were made are found again.
     fn sync_folder(&mut self) -> io::Result<()>
         ensures listed { OnOk result (IsTrue (ledger self.new).listed) }
         ensures keeps { Keeps (ledger self.old) (ledger self.new) }
+        ensures cause { HasCause (disk_faults self.old) (disk_faults self.new) result }
+        ensures told_faults { told_faults self.new ≡ told_faults self.old }
         ensures disk { IsTrue tells → Rests (disk self.old) (disk self.new) };
 
-    /// One write of the output: some of the first of these bytes. The output may hold them back.
+    /// One write of the output: some of the first of these bytes, and none only in a fault. The output may hold them back.
     fn put(&mut self, bytes: &[u8]) -> io::Result<usize>
         requires { 0 < length bytes.now }
+        ensures taken { IfOk result (λ count. 0 < count) }
         ensures bound { IfOk result (λ count. count ≤ length bytes.now) }
         ensures told { IsTrue tells → IfOk result (λ count. (disk self.new).told ≡ (disk self.old).told ++ take count bytes.now) }
         ensures keeps { Keeps (ledger self.old) (ledger self.new) }
+        ensures cause { HasCause (told_faults self.old) (told_faults self.new) result }
+        ensures disk_faults { disk_faults self.new ≡ disk_faults self.old }
         ensures disk { IsTrue tells → Emits bytes.now (disk self.old) (disk self.new) };
 
     /// Gives out what the output holds back.
     fn flush(&mut self) -> io::Result<()>
         ensures flushed { OnOk result (IsTrue (ledger self.new).flushed) }
         ensures keeps { Keeps (ledger self.old) (ledger self.new) }
+        ensures cause { HasCause (told_faults self.old) (told_faults self.new) result }
+        ensures disk_faults { disk_faults self.new ≡ disk_faults self.old }
         ensures disk { IsTrue tells → Rests (disk self.old) (disk self.new) };
 
     /// What a read gives now is among what a stop now may leave.

@@ -4,17 +4,16 @@ ghost use Rattle.std.specs.Prelude.{length};
 use crate::reader::Reader;
 use site_core::{Fault, Source};
 
-/// What a reader gives, one read a pull, with the count of its faults, which begins at 0.
+/// What a reader gives, one read a pull, with the faults that it counts.
 #[derive(Drop)]
 pub struct Input<R> {
     reader: R,
-    faults: u64,
 }
 
 impl<R> Input<R> {
     /// A reader of which nothing was asked yet. It takes no memory.
     pub fn new(reader: R) -> Self {
-        Input { reader, faults: 0 }
+        Input { reader }
     }
 }
 
@@ -23,7 +22,7 @@ impl<R: Reader> Source for Input<R> {
 
     ghost left = { λ s. R.left s.reader };
 
-    ghost faults = { λ s. s.faults };
+    ghost faults = { λ s. R.faults s.reader };
 
     ghost pulls = { λ s. R.reads s.reader };
 
@@ -32,10 +31,7 @@ impl<R: Reader> Source for Input<R> {
     fn pull(&mut self, into: &mut [u8]) -> Result<usize, Fault> {
         match self.reader.read(into) {
             Ok(count) => Ok(count),
-            Err(_) => {
-                self.faults = self.faults.saturating_add(1);
-                Err(Fault)
-            }
+            Err(_) => Err(Fault),
         }
     }
 }

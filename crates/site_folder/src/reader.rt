@@ -1,5 +1,6 @@
 //! Where a script comes from.
 ghost use Rattle.std.specs.Prelude.{◌≡◌, ◌<◌, ◌≤◌, ◌+◌, ℕ, List, Bool, IsTrue, length, IfOk, OnErr};
+ghost use Rattle.site_core.specs.Causes.{HasCause};
 ghost use Rattle.site_core.specs.Pull.{Gives, MeetsEnd};
 
 use std::io;
@@ -11,6 +12,9 @@ pub trait Reader {
 
     /// The bytes that are left.
     ghost left: { Self → List ℕ };
+
+    /// How often a read has failed. The count never falls, and stands still at the end of a `u64`.
+    ghost faults: { Self → ℕ };
 
     /// How many reads were asked for.
     ghost reads: { Self → ℕ };
@@ -24,6 +28,7 @@ pub trait Reader {
         ensures bound { IfOk result (λ count. count ≤ length into.new) }
         ensures bytes { IsTrue tells → IfOk result (λ count. Gives (left self.old) (left self.new) count into.new) }
         ensures failed { IsTrue tells → OnErr result (left self.new ≡ left self.old) }
+        ensures cause { HasCause (faults self.old) (faults self.new) result }
         ensures one { reads self.new ≤ reads self.old + 1 }
         ensures end { MeetsEnd (ends self.old) (ends self.new) result };
 }

@@ -1,5 +1,5 @@
 //! The site over a host.
-ghost use Rattle.std.specs.Prelude.{◌≡◌, ◌<◌, ◌≤◌, ◌+◌, ◌++◌, ℕ, IsTrue, length, IfOk, OnOk};
+ghost use Rattle.std.specs.Prelude.{◌≡◌, ◌<◌, ◌≤◌, ◌+◌, ◌++◌, ℕ, IsTrue, length, IfOk, IsErr, OnErr, OnOk};
 ghost use Rattle.site_core.specs.Calls.{Rests, Fills, Writes, Emits};
 ghost use Rattle.site_core.specs.Causes.{HasCause};
 ghost use Rattle.site_core.specs.Disk.{with_file, overwritten};
@@ -11,14 +11,12 @@ use crate::host::Host;
 use site_core::{Fault, Site};
 use std::io;
 
-/// Four files of a folder and an output, with the four counts, each of which begins at 0. A file is opened when it is first
-/// asked for, and made at its first write.
+/// Four files of a folder and an output, with the faults that its host counts, and two counts of its own, of reads and
+/// writes, which begin at 0. A file is opened when it is first asked for, and made at its first write.
 #[derive(Drop)]
 pub struct FolderSite<H: Host> {
     host: H,
     is_listed: bool,
-    disk_faults: u64,
-    told_faults: u64,
     reads: u64,
     writes: u64,
     ghost listed: { IsTrue is_listed → IsTrue (H.ledger host).listed },
@@ -30,25 +28,20 @@ impl<H: Host> FolderSite<H> {
         FolderSite {
             host,
             is_listed: false,
-            disk_faults: 0,
-            told_faults: 0,
             reads: 0,
             writes: 0,
         }
     }
 }
 
-/// Counts a failure.
-fn counted<T: Drop>(outcome: io::Result<T>, faults: &mut u64) -> Result<T, Fault>
-    ensures cause { HasCause faults.old faults.new result }
-    ensures value { IfOk result (λ value. outcome ≡ Ok value) }
+/// A fault of the host is one of the site.
+fn answer<T: Drop>(outcome: io::Result<T>) -> Result<T, Fault>
+    ensures ok { IfOk result (λ value. outcome ≡ Ok value) }
+    ensures failed { OnErr result (IsErr outcome) }
 {
     match outcome {
         Ok(value) => Ok(value),
-        Err(_) => {
-            *faults = faults.saturating_add(1);
-            Err(Fault)
-        }
+        Err(_) => Err(Fault),
     }
 }
 
@@ -57,6 +50,8 @@ fn length_of<H: Host>(host: &mut H, file: u32) -> io::Result<u64>
     requires { file < 4 }
     ensures answer { IsTrue H.tells → IfOk result (λ count. count ≡ length ((H.disk host.old).files file)) }
     ensures keeps { Keeps (H.ledger host.old) (H.ledger host.new) }
+    ensures cause { HasCause (H.disk_faults host.old) (H.disk_faults host.new) result }
+    ensures told_faults { H.told_faults host.new ≡ H.told_faults host.old }
     ensures disk { IsTrue H.tells → Rests (H.disk host.old) (H.disk host.new) }
 {
     if find(host, file)? {
@@ -71,6 +66,8 @@ fn read_from<H: Host>(host: &mut H, file: u32, at: u64, into: &mut [u8]) -> io::
     ensures bound { IfOk result (λ count. count ≤ length into.new) }
     ensures answer { IsTrue H.tells → IfOk result (λ count. Fills ((H.disk host.old).files file) at count into.new) }
     ensures keeps { Keeps (H.ledger host.old) (H.ledger host.new) }
+    ensures cause { HasCause (H.disk_faults host.old) (H.disk_faults host.new) result }
+    ensures told_faults { H.told_faults host.new ≡ H.told_faults host.old }
     ensures disk { IsTrue H.tells → Rests (H.disk host.old) (H.disk host.new) }
 {
     if find(host, file)? {
@@ -85,6 +82,8 @@ fn find_or_make<H: Host>(host: &mut H, is_listed: &mut bool, file: u32) -> io::R
     requires listed { IsTrue is_listed.old → IsTrue (H.ledger host.old).listed }
     ensures opened { OnOk result (IsTrue ((H.ledger host.new).opened file)) }
     ensures listed { IsTrue is_listed.new → IsTrue (H.ledger host.new).listed }
+    ensures cause { HasCause (H.disk_faults host.old) (H.disk_faults host.new) result }
+    ensures told_faults { H.told_faults host.new ≡ H.told_faults host.old }
     ensures disk { IsTrue H.tells → Rests (H.disk host.old) (H.disk host.new) }
 {
     if find(host, file)? {
@@ -108,6 +107,8 @@ fn write_to<H: Host>(
     ensures written { IsTrue H.tells → OnOk result ((H.disk host.new).files
         ≡ with_file (H.disk host.old).files file (overwritten ((H.disk host.old).files file) at bytes.now)) }
     ensures listed { IsTrue is_listed.new → IsTrue (H.ledger host.new).listed }
+    ensures cause { HasCause (H.disk_faults host.old) (H.disk_faults host.new) result }
+    ensures told_faults { H.told_faults host.new ≡ H.told_faults host.old }
     ensures disk { IsTrue H.tells → Writes file at bytes.now (H.disk host.old) (H.disk host.new) }
 {
     find_or_make(host, is_listed, file)?;
@@ -120,6 +121,8 @@ fn sync_all<H: Host>(host: &mut H, is_listed: &mut bool) -> io::Result<()>
     ensures synced { OnOk result (IsAllSynced (H.ledger host.new)) }
     ensures stable { IsTrue H.tells → OnOk result (IsStable (H.disk host.new)) }
     ensures listed { IsTrue is_listed.new → IsTrue (H.ledger host.new).listed }
+    ensures cause { HasCause (H.disk_faults host.old) (H.disk_faults host.new) result }
+    ensures told_faults { H.told_faults host.new ≡ H.told_faults host.old }
     ensures disk { IsTrue H.tells → Rests (H.disk host.old) (H.disk host.new) }
 {
     sync_files(host)?;
@@ -135,9 +138,9 @@ impl<H: Host> Site for FolderSite<H> {
 
     ghost disk = { λ s. H.disk s.host };
 
-    ghost disk_faults = { λ s. s.disk_faults };
+    ghost disk_faults = { λ s. H.disk_faults s.host };
 
-    ghost told_faults = { λ s. s.told_faults };
+    ghost told_faults = { λ s. H.told_faults s.host };
 
     ghost reads = { λ s. s.reads };
 
@@ -150,29 +153,24 @@ impl<H: Host> Site for FolderSite<H> {
     ghost only_now = { λ s told files tells. H.only_now s.host told files tells };
 
     fn length(&mut self, file: u32) -> Result<u64, Fault> {
-        counted(length_of(&mut self.host, file), &mut self.disk_faults)
+        answer(length_of(&mut self.host, file))
     }
 
     fn read(&mut self, file: u32, at: u64, into: &mut [u8]) -> Result<usize, Fault> {
         self.reads = self.reads.saturating_add(1);
-        counted(
-            read_from(&mut self.host, file, at, into),
-            &mut self.disk_faults,
-        )
+        answer(read_from(&mut self.host, file, at, into))
     }
 
     fn write(&mut self, file: u32, at: u64, bytes: &[u8]) -> Result<(), Fault> {
         self.writes = self.writes.saturating_add(1);
-        let outcome = write_to(&mut self.host, &mut self.is_listed, file, at, bytes);
-        counted(outcome, &mut self.disk_faults)
+        answer(write_to(&mut self.host, &mut self.is_listed, file, at, bytes))
     }
 
     fn sync(&mut self) -> Result<(), Fault> {
-        let outcome = sync_all(&mut self.host, &mut self.is_listed);
-        counted(outcome, &mut self.disk_faults)
+        answer(sync_all(&mut self.host, &mut self.is_listed))
     }
 
     fn emit(&mut self, bytes: &[u8]) -> Result<(), Fault> {
-        counted(tell(&mut self.host, bytes), &mut self.told_faults)
+        answer(tell(&mut self.host, bytes))
     }
 }

@@ -1,4 +1,4 @@
-use Rattle.std.proofs.Common.{rules, arith, ap, subst, List, ℕ}
+use Rattle.std.proofs.Common.{rules, ◌+◌, arith, ap, subst, List, ℕ}
 use Rattle.site_core.specs.Disk.{Files}
 use Rattle.site_core.proofs.Run.{Rests-then}
 use Rattle.site_folder.specs.Reads.{ReadsAt}
@@ -8,7 +8,7 @@ use Rattle.site_folder.proofs.calls.fill.Goals as goal
 pub loop-count-preserved : goal.loop-count-preserved
 loop-count-preserved g c =
     let file : List ℕ = (g.H.Host.disk c.args.host.now).files c.args.file in
-    let place : ℕ = c.in_ok-behind.field-0 in
+    let place : ℕ = (c.args.at + c.loop-count.count) in
     record {
       within = search rules;
       few = λ tells.
@@ -24,4 +24,6 @@ loop-count-preserved g c =
           (c.loop-count.invariant.bytes tells) now.bytes;
       disk = λ tells. Rests-then _ (g.H.Host.disk c.loop-count.host) _ (c.loop-count.invariant.disk tells) (c.read_at.ensures.disk tells);
       keeps = search rules;
+      faults = search rules;
+      others = search rules;
     }

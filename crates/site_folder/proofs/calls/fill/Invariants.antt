@@ -10,6 +10,8 @@ invariant-loop-count g l = record {
   bytes : IsTrue g.H.Host.tells → take l.count l.into ≡ take l.count (drop l.at ((g.H.Host.disk l.fn.host).files l.file));
   disk : IsTrue g.H.Host.tells → Rests (g.H.Host.disk l.fn.host) (g.H.Host.disk l.host);
   keeps : Keeps (g.H.Host.ledger l.fn.host) (g.H.Host.ledger l.host);
+  faults : g.H.Host.disk_faults l.host ≡ g.H.Host.disk_faults l.fn.host;
+  others : g.H.Host.told_faults l.host ≡ g.H.Host.told_faults l.fn.host;
 }
 
 abbrev pub decreases-loop-count : goal.decreases-loop-count

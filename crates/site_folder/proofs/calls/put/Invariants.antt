@@ -11,6 +11,8 @@ invariant-loop-count g l = record {
       ≡ with_file (g.H.Host.disk l.fn.host).files l.file (overwritten ((g.H.Host.disk l.fn.host).files l.file) l.at (take l.count l.bytes));
   disk : IsTrue g.H.Host.tells → Writes l.file l.at l.bytes (g.H.Host.disk l.fn.host) (g.H.Host.disk l.host);
   keeps : KeepsOthers l.file (g.H.Host.ledger l.fn.host) (g.H.Host.ledger l.host);
+  faults : g.H.Host.disk_faults l.host ≡ g.H.Host.disk_faults l.fn.host;
+  others : g.H.Host.told_faults l.host ≡ g.H.Host.told_faults l.fn.host;
 }
 
 abbrev pub decreases-loop-count : goal.decreases-loop-count

@@ -3,13 +3,8 @@ use Rattle.std.proofs.lemmas.List.{take_rest}
 use Rattle.site_folder.proofs.Parts.{Emits-then, told-then}
 use Rattle.site_folder.proofs.calls.tell.Goals as goal
 
-pub returns-in_err-taken-clause-disk : goal.returns-in_err-taken-clause-disk
-returns-in_err-taken-clause-disk g c = λ tells.
-    Emits-then c.args.bytes.now c.loop-count.count _ (g.H.Host.disk c.args.host.now) (g.H.Host.disk c.loop-count.host) (g.H.Host.disk c.put.new.self)
-    (take_rest c.args.bytes.now c.loop-count.count) (c.loop-count.invariant.told tells) (c.loop-count.invariant.disk tells) (c.put.ensures.disk tells)
-
-pub returns-then-taken-eq0-clause-disk : goal.returns-then-taken-eq0-clause-disk
-returns-then-taken-eq0-clause-disk g c = λ tells.
+pub returns-in_err-count-clause-disk : goal.returns-in_err-count-clause-disk
+returns-in_err-count-clause-disk g c = λ tells.
     Emits-then c.args.bytes.now c.loop-count.count _ (g.H.Host.disk c.args.host.now) (g.H.Host.disk c.loop-count.host) (g.H.Host.disk c.put.new.self)
     (take_rest c.args.bytes.now c.loop-count.count) (c.loop-count.invariant.told tells) (c.loop-count.invariant.disk tells) (c.put.ensures.disk tells)
 
@@ -19,9 +14,11 @@ loop-count-preserved g c =
     record {
       within = search rules;
       told = λ tells.
-          told-then c.args.bytes.now _ c.loop-count.count c.in_ok-taken.taken _ _ _ rest (c.loop-count.invariant.told tells) (c.in_ok-taken.ensures.told tells);
+          told-then c.args.bytes.now _ c.loop-count.count c.in_ok-count.field-0 _ _ _ rest (c.loop-count.invariant.told tells) (c.in_ok-count.ensures.told tells);
       disk = λ tells.
           Emits-then c.args.bytes.now c.loop-count.count _ (g.H.Host.disk c.args.host.now) (g.H.Host.disk c.loop-count.host) (g.H.Host.disk c.put.new.self)
           rest (c.loop-count.invariant.told tells) (c.loop-count.invariant.disk tells) (c.put.ensures.disk tells);
       keeps = search rules;
+      faults = search rules;
+      others = search rules;
     }

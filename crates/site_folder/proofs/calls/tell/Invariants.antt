@@ -9,6 +9,8 @@ invariant-loop-count g l = record {
   told : IsTrue g.H.Host.tells → (g.H.Host.disk l.host).told ≡ (g.H.Host.disk l.fn.host).told ++ take l.count l.bytes;
   disk : IsTrue g.H.Host.tells → Emits l.bytes (g.H.Host.disk l.fn.host) (g.H.Host.disk l.host);
   keeps : Keeps (g.H.Host.ledger l.fn.host) (g.H.Host.ledger l.host);
+  faults : g.H.Host.told_faults l.host ≡ g.H.Host.told_faults l.fn.host;
+  others : g.H.Host.disk_faults l.host ≡ g.H.Host.disk_faults l.fn.host;
 }
 
 abbrev pub decreases-loop-count : goal.decreases-loop-count
