@@ -1,5 +1,6 @@
 //! The files of the folder that are open, in single calls of std.
-ghost use Rattle.std.specs.Prelude.{◌<◌, ◌≤◌, length, IfOk};
+ghost use Rattle.std.specs.Prelude.{◌≡◌, ◌≢◌, ◌<◌, ◌≤◌, ◌↔◌, ℕ, length, IfOk, IsSome, IsTrue, OnOk, Some};
+ghost use Rattle.cubetree.specs.Slots.{file_in};
 
 use crate::data_file::DataFile;
 use crate::faults::taken;
@@ -24,6 +25,7 @@ impl OpenFiles {
     /// Whether a file is open.
     pub fn has(&self, file: u32) -> bool
         requires { file < 4 }
+        ensures { IsTrue result ↔ IsSome (file_in self.now.files file) }
     {
         self.files[file as usize].is_some()
     }
@@ -31,6 +33,8 @@ impl OpenFiles {
     /// Keeps a file that was opened. One with the descriptor of a stream is closed again, and that is a fault.
     pub fn keep(&mut self, file: u32, open: File) -> io::Result<()>
         requires { file < 4 }
+        ensures kept { OnOk result (file_in self.new.files file ≡ Some «open») }
+        ensures others { (g : ℕ) → g ≢ file → file_in self.new.files g ≡ file_in self.old.files g }
     {
         self.files[file as usize] = Some(DataFile::new(open)?);
         Ok(())
@@ -38,6 +42,7 @@ impl OpenFiles {
 
     fn get(&self, file: u32) -> io::Result<&File>
         requires { file < 4 }
+        ensures { IfOk result (λ found. file_in self.now.files file ≡ Some found.now) }
     {
         match &self.files[file as usize] {
             Some(open) => Ok(&open.file),

@@ -22,6 +22,7 @@ impl<T: Site> PartHost<T> {
     /// A site of which nothing counts as synced yet. It takes no memory.
     pub fn new(site: T, most: usize) -> PartHost<T>
         requires { 0 < most }
+        ensures { result.site ≡ site }
     {
         PartHost {
             site,

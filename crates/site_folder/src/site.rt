@@ -15,7 +15,8 @@ use std::io;
 /// writes, which begin at 0. A file is opened when it is first asked for, and made at its first write.
 #[derive(Drop)]
 pub struct FolderSite<H: Host> {
-    host: H,
+    /// Where the files lie and the output goes.
+    pub host: H,
     is_listed: bool,
     reads: u64,
     writes: u64,
@@ -24,7 +25,9 @@ pub struct FolderSite<H: Host> {
 
 impl<H: Host> FolderSite<H> {
     /// A host of which nothing was asked yet. It takes no memory.
-    pub fn new(host: H) -> FolderSite<H> {
+    pub fn new(host: H) -> FolderSite<H>
+        ensures { result.host ≡ host }
+    {
         FolderSite {
             host,
             is_listed: false,
