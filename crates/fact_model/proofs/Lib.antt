@@ -6,3 +6,4 @@ pub mod Folds
 pub mod Masses
 pub mod RowsParts
 pub mod ValueOrder
+pub mod Vectors
