@@ -3,3 +3,4 @@ pub mod Feeds
 pub mod LineReads
 pub mod LongLines
 pub mod SaidLines
+pub mod Vectors

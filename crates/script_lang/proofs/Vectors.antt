@@ -1,0 +1,23 @@
+-- Worked examples: the numbers and texts of commands, and the bytes of blocks.
+use Rattle.std.specs.Prelude.{◌≡◌, [], ◌∷◌, ◌++◌, codes, refl}
+use Rattle.script_lang.specs.declared.command.Block.TheVariants.{Whole}
+use Rattle.script_lang.specs.declared.command.Command.TheVariants.{Schema, Load, Begin, Step, Slice, Generate, Unknown}
+use Rattle.script_lang.specs.Script.{commands}
+
+numbers : commands (codes "step 0\nstep 007\nstep 18446744073709551615\ngenerate 1 262145\ngenerate 0 0\n")
+    ≡ Step 0 ∷ Step 7 ∷ Step 18446744073709551615 ∷ Generate 1 262145 ∷ Generate 0 0 ∷ []
+numbers = refl
+
+-- a line loses one carriage return at its end
+texts : commands (codes "slice count by a\nslice \nslice  a\r\nslice a\r\r\nslice " ++ 255 ∷ 10 ∷ [])
+    ≡ Slice (codes "count by a") ∷ Slice [] ∷ Slice (codes " a") ∷ Slice (codes "a\r") ∷ Slice (255 ∷ []) ∷ []
+texts = refl
+
+-- a block keeps its bytes, and ends at the first line `end`
+blocks : commands (codes "schema\nattr a text\nend\nload\n1,2\n\n3,4\nend\nbegin\nend\nload\n\"a\nend\nb\"\n")
+    ≡ Schema (Whole (codes "attr a text\n")) ∷ Load (Whole (codes "1,2\n\n3,4\n")) ∷ Begin (Whole []) ∷ Load (Whole (codes "\"a\n")) ∷ Unknown ∷ []
+blocks = refl
+
+ends : commands (codes "load\n end\nend \nEND\nends\nend\nload\na\r\n\r\nend\r\nload\nend\r\r\nend\r")
+    ≡ Load (Whole (codes " end\nend \nEND\nends\n")) ∷ Load (Whole (codes "a\r\n\r\n")) ∷ Load (Whole (codes "end\r\r\n")) ∷ []
+ends = refl
