@@ -1,2 +1,3 @@
 pub mod AllRecords
 pub mod RowTexts
+pub mod Vectors
