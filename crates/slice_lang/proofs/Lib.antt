@@ -11,3 +11,4 @@ pub mod ItemTexts
 pub mod SliceTexts
 pub mod ToldItems
 pub mod Told
+pub mod Vectors
