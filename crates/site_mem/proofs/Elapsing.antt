@@ -53,10 +53,10 @@ Writes-tore first steps r = record {
   };
 }
 
-all_told : (bytes old : List ℕ) → TellsFront bytes old (old ++ bytes)
+pub all_told : (bytes old : List ℕ) → TellsFront bytes old (old ++ bytes)
 all_told bytes old = (length bytes, ap (λ (l : List ℕ). old ++ l) (sym (take_all (length bytes) bytes (omega arith))))
 
-none_told : (bytes old : List ℕ) → TellsFront bytes old old
+pub none_told : (bytes old : List ℕ) → TellsFront bytes old old
 none_told bytes old = (0, sym (append-nil old))
 
 Emits-told : (first : Files) (steps : List Step) (bytes : Vec ℕ Global) → Emits bytes.items (disk_of first steps) (disk_of first (Told bytes ∷ steps))

@@ -188,8 +188,8 @@ fn failed(faults: &mut u64) -> Fault
     Fault
 }
 
-// The fault of a call that found no memory.
-fn starved(faults: &mut u64, starved: &mut u64) -> Fault
+/// The fault of a call that found no memory.
+pub fn starved(faults: &mut u64, starved: &mut u64) -> Fault
     ensures later { faults.old ≤ faults.new }
     ensures faults { faults.new ≡ risen faults.old }
     ensures starved { starved.new ≡ risen starved.old }
@@ -198,8 +198,8 @@ fn starved(faults: &mut u64, starved: &mut u64) -> Fault
     failed(faults)
 }
 
-// Copies the bytes from a place on, as many as there are or as there is room for.
-fn fill(bytes: &[u8], at: u64, into: &mut [u8]) -> usize
+/// Copies the bytes from a place on, as many as there are or as there is room for.
+pub fn fill(bytes: &[u8], at: u64, into: &mut [u8]) -> usize
     ensures { Fills bytes.now at result into.new }
 {
     if at >= bytes.len() as u64 {

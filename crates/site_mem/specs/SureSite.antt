@@ -1,0 +1,23 @@
+-- What is known of a site of which no call fails.
+use Rattle.std.specs.Prelude.{◌≡◌, ℕ, List, [], ◌∷◌, ◌++◌, length, reverse}
+use Rattle.site_core.specs.Disk.{Files, Disk, with_file, overwritten}
+use Rattle.site_mem.specs.declared.sure_site.Change.{Change}
+use Rattle.site_mem.specs.declared.sure_site.Change.TheVariants.{Wrote, Told}
+use Rattle.site_mem.specs.declared.sure_site.SureSite.{SureSite}
+use Rattle.site_mem.specs.History.{texts_of}
+use Rattle.site_mem.specs.Changes.{changed_disk}
+
+abbrev pub sure_disk : SureSite → Disk
+sure_disk site = changed_disk (texts_of site.files) site.told.items (reverse site.past.items)
+
+-- how often a call found no memory
+abbrev pub sure_starved : SureSite → ℕ
+sure_starved site = site.starved
+
+-- nothing was asked of the site yet
+pub record IsUnasked (site : SureSite) : Type 0 where
+  pub disk_faults : site.disk_faults ≡ 0
+  pub told_faults : site.told_faults ≡ 0
+  pub reads : site.reads ≡ 0
+  pub writes : site.writes ≡ 0
+  pub starved : sure_starved site ≡ 0
