@@ -3,6 +3,10 @@ use Rattle.std.specs.Prelude.{◌≡◌, ℕ, List, drop, length, min, Option, S
 use Rattle.site_mem.specs.declared.source.MemorySource.{MemorySource}
 use Rattle.site_mem.specs.declared.source.SureSource.{SureSource}
 
+-- the bytes that it was made with
+abbrev pub source_bytes : MemorySource → List ℕ
+source_bytes source = source.bytes
+
 -- the bytes that are left
 abbrev pub source_left : MemorySource → List ℕ
 source_left source = drop source.taken source.bytes

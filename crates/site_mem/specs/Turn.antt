@@ -1,5 +1,5 @@
 -- Calls that are to fail.
-use Rattle.std.specs.Prelude.{◌≡◌, ℕ, ◌≤◌, ⊤, Option, Some, None, List, [], ◌∷◌, ◌++◌, Contains}
+use Rattle.std.specs.Prelude.{◌≡◌, ℕ, ◌≤◌, Bool, false, ◌==◌, ⊤, Option, Some, None, List, [], ◌∷◌, ◌++◌, Contains}
 use Rattle.site_mem.specs.declared.call.Call.{Call}
 use Rattle.site_mem.specs.declared.log.Turn.{Turn}
 use Rattle.site_mem.specs.declared.log.Turn.TheVariants.{Goes, Fails, Stops, Starves}
@@ -20,3 +20,8 @@ IsTurn stop fails number Starves = ⊤
 abbrev pub IsNoted : Turn → Call → List Call → List Call → Type 0
 IsNoted Starves call old new = new ≡ old
 IsNoted _ call old new = new ≡ old ++ call ∷ []
+
+-- this number is the one that was asked for
+abbrev pub is_asked : Option ℕ → ℕ → Bool
+is_asked None number = false
+is_asked (Some asked) number = asked == number

@@ -17,6 +17,7 @@ pub struct MemorySource {
     faults: u64,
     ended: u64,
     ghost some: { 0 < piece },
+    ghost within: { taken ≤ length bytes },
 }
 
 /// The same, of which no pull fails. It counts no pulls.
@@ -29,11 +30,12 @@ pub struct SureSource {
 }
 
 impl MemorySource {
-    ghost use Rattle.site_mem.specs.Source.{source_left, source_faults, source_piece, source_number, source_fails, source_ends};
+    ghost use Rattle.site_mem.specs.Source.{source_bytes, source_left, source_faults, source_piece, source_number, source_fails, source_ends};
 
     /// These bytes, at most `piece` of them a pull. It takes no memory.
     pub fn new(bytes: Text, piece: usize) -> MemorySource
         requires { 0 < piece }
+        ensures bytes { source_bytes result ≡ bytes }
         ensures left { source_left result ≡ bytes }
         ensures faults { source_faults result ≡ 0 }
         ensures piece { source_piece result ≡ piece }
@@ -56,6 +58,7 @@ impl MemorySource {
     /// It takes no memory.
     pub fn fail_at(&mut self, pull: u64)
         ensures fails { source_fails self.new ≡ Some pull }
+        ensures bytes { source_bytes self.new ≡ source_bytes self.old }
         ensures left { source_left self.new ≡ source_left self.old }
         ensures faults { source_faults self.new ≡ source_faults self.old }
         ensures piece { source_piece self.new ≡ source_piece self.old }
@@ -63,6 +66,13 @@ impl MemorySource {
         ensures ends { source_ends self.new ≡ source_ends self.old }
     {
         self.fails = Some(pull);
+    }
+
+    /// How many bytes it has given. It takes no memory.
+    pub fn given(&self) -> u64
+        ensures { result + length (source_left self.now) ≡ length (source_bytes self.now) }
+    {
+        self.taken as u64
     }
 }
 
@@ -85,7 +95,7 @@ impl SureSource {
 
 impl Source for MemorySource {
     ghost use Rattle.site_mem.specs.Counts.{risen};
-    ghost use Rattle.site_mem.specs.Source.{source_left, source_faults, source_piece, source_number, source_fails, source_ends, pulled, IsPullNamed};
+    ghost use Rattle.site_mem.specs.Source.{source_bytes, source_left, source_faults, source_piece, source_number, source_fails, source_ends, pulled, IsPullNamed};
 
     ghost tells = { true };
 
@@ -116,6 +126,7 @@ impl Source for MemorySource {
         ensures one { source_number self.new ≤ source_number self.old + 1 }
         ensures end { MeetsEnd (source_ends self.old) (source_ends self.new) result }
         ensures met { IfOk result (λ count. count ≡ 0 → source_ends self.new ≡ risen (source_ends self.old)) }
+        ensures all { source_bytes self.new ≡ source_bytes self.old }
         ensures piece { source_piece self.new ≡ source_piece self.old }
     {
         let number = self.next;
@@ -171,6 +182,7 @@ fn give(bytes: &[u8], taken: &mut usize, piece: usize, into: &mut [u8]) -> usize
     ensures bound { result ≤ length into.new }
     ensures gives { Gives (drop taken.old bytes.now) (drop taken.new bytes.now) result into.new }
     ensures count { result ≡ min piece (min (length into.old) (length (drop taken.old bytes.now))) }
+    ensures within { taken.old ≤ length bytes.now → taken.new ≤ length bytes.now }
 {
     if *taken >= bytes.len() {
         return 0;

@@ -179,8 +179,8 @@ impl Site for MemorySite {
     }
 }
 
-// The fault of a call that was to fail.
-fn failed(faults: &mut u64) -> Fault
+/// The fault of a call that was to fail.
+pub fn failed(faults: &mut u64) -> Fault
     ensures later { faults.old ≤ faults.new }
     ensures faults { faults.new ≡ risen faults.old }
 {

@@ -1,0 +1,18 @@
+-- What is known of a site of which one read gives a byte fewer.
+use Rattle.std.specs.Prelude.{◌≡◌, ℕ, ◌-◌, if◌then◌else◌, Option}
+use Rattle.site_mem.specs.declared.site.MemorySite.{MemorySite}
+use Rattle.site_mem.specs.declared.site.short.ShortSite.{ShortSite}
+use Rattle.site_mem.specs.Site.{site_number}
+use Rattle.site_mem.specs.Turn.{is_asked}
+
+-- the site below
+abbrev pub site_below : ShortSite → MemorySite
+site_below short = short.site
+
+-- the number of the call that is to give a byte fewer, if there is one
+abbrev pub short_call : ShortSite → Option ℕ
+short_call short = short.short
+
+-- how many bytes a read now gives where the site below gives so many
+abbrev pub shortened : ShortSite → ℕ → ℕ
+shortened short count = if is_asked (short_call short) (site_number (site_below short)) then count - 1 else count
