@@ -10,7 +10,7 @@ use Rattle.site_mem.specs.declared.step.Step.{Step}
 use Rattle.site_mem.specs.Image.{pictured, unstable_below}
 use Rattle.site_mem.specs.Unstable.{stable, is_unstable}
 
-state_after-more : (state count : ℕ) → state_after state (count + 1) ≡ next_state (state_after state count)
+pub state_after-more : (state count : ℕ) → state_after state (count + 1) ≡ next_state (state_after state count)
 state_after-more state count = ap (state_after state) (add-one count)
 
 module _ (first : Files) (steps : List Step) (file : ℕ) where
@@ -24,7 +24,7 @@ module _ (first : Files) (steps : List Step) (file : ℕ) where
   range-more : (n : ℕ) → range_with_len 0 (n + 1) ≡ range_with_len 0 n ++ n ∷ []
   range-more n = sym (map-id (range_with_len 0 (n + 1))) ∙ map-range_with_len_more (λ (i : ℕ). i) 0 n n (omega arith) ∙ ap (λ (l : List ℕ). l ++ n ∷ []) (map-id (range_with_len 0 n))
 
-  below-more : (place : ℕ) → unstable_below first steps file (place + 1) ≡ unstable_below first steps file place + (if is_unstable first steps file place then 1 else 0)
+  pub below-more : (place : ℕ) → unstable_below first steps file (place + 1) ≡ unstable_below first steps file place + (if is_unstable first steps file place then 1 else 0)
   below-more place = ap (count_by (is_unstable first steps file)) (range-more place) ∙ sum_by_push (λ i. if is_unstable first steps file i then 1 else 0) (range_with_len 0 place) place
 
   -- one place more was drawn, or not

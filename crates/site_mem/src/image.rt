@@ -1,7 +1,7 @@
 //! The files of one outcome of a stop.
-ghost use Rattle.std.specs.Prelude.{◌≡◌, ◌<◌, ◌+◌, ◌%◌, ◌^◌, if◌then◌else◌, reverse, IfOk, OnOk};
+ghost use Rattle.std.specs.Prelude.{◌≡◌, ◌<◌, ◌+◌, ◌^◌, reverse, IfOk, OnOk};
 ghost use Rattle.site_mem.specs.History.{files_of, texts_of};
-ghost use Rattle.site_mem.specs.Unstable.{is_torn, reach};
+ghost use Rattle.site_mem.specs.Unstable.{reach};
 
 use crate::step::Step;
 use crate::tape::Tape;
@@ -10,8 +10,8 @@ use fact_model::{Memory, Text};
 use std::alloc::Global;
 
 impl Tape {
-    ghost use Rattle.draws.specs.Draw.{draw, next_state};
-    ghost use Rattle.site_mem.specs.Tape.{tape_disk, tape_stable, tape_unstable, tape_full, tape_byte};
+    ghost use Rattle.draws.specs.Draw.{next_state};
+    ghost use Rattle.site_mem.specs.Tape.{tape_disk, tape_stable, tape_full};
     ghost use Rattle.site_mem.specs.Tape.{tape_filled, tape_drawn, tape_drawn_length, tape_drawn_file, tape_state_behind};
 
     /// The files of one outcome of a stop now: as a read gives them, the stable ones, with the byte 1 or 0 at all unstable
@@ -58,14 +58,6 @@ impl Tape {
         ])
     }
 
-    // Whether a stop now may leave any byte at a place of a file.
-    fn is_unstable(&self, file: u32, place: usize) -> bool
-        requires { file < 4 }
-        ensures { result ≡ tape_unstable self.now file place }
-    {
-        self.stable_bytes(file).len() <= place || is_torn(&self.steps, file, place as u64)
-    }
-
     // The greatest length that a stop now may leave.
     fn full_length(&self, file: u32) -> usize
         requires { file < 4 }
@@ -77,38 +69,15 @@ impl Tape {
             .max(reach(&self.steps, file) as usize)
     }
 
-    // The stable byte of a place, or this one where the place is unstable.
-    fn byte_or(&self, file: u32, place: usize, byte: u8) -> u8
-        requires { file < 4 }
-        ensures { result ≡ tape_byte self.now file place byte }
-    {
-        if self.is_unstable(file, place) {
-            return byte;
-        }
-        self.stable_bytes(file)[place]
-    }
-
-    // The same with a drawn byte.
-    fn byte_or_draw(&self, file: u32, place: usize, draws: &mut Draws) -> u8
-        requires { file < 4 }
-        ensures byte { result ≡ tape_byte self.now file place (draw draws.old.state % 256) }
-        ensures draws { draws.new.state ≡ (if tape_unstable self.now file place
-            then next_state draws.old.state else draws.old.state) }
-    {
-        if self.is_unstable(file, place) {
-            return (draws.draw() % 256) as u8;
-        }
-        self.stable_bytes(file)[place]
-    }
-
     // A file of its full length, with one byte at each unstable place.
     fn filled(&self, alloc: Global, file: u32, byte: u8) -> Result<Text, Memory>
         requires { file < 4 }
         ensures { IfOk result (λ text. text ≡ tape_filled self.now byte file) }
     {
-        let mut bytes = Vec::new(alloc);
-        for place in 0..self.full_length(file) {
-            bytes.push(self.byte_or(file, place, byte))?;
+        let length = self.full_length(file);
+        let mut bytes = Vec::with_capacity(alloc, length)?;
+        while bytes.len() < length {
+            self.push_filled(file, length, byte, &mut bytes)?;
         }
         Ok(Text::from_vec(bytes))
     }
@@ -120,9 +89,9 @@ impl Tape {
         ensures draws { OnOk result (draws.new.state ≡ tape_state_behind self.now file draws.old.state) }
     {
         let length = self.drawn_length(file, draws);
-        let mut bytes = Vec::new(alloc);
-        for place in 0..length {
-            bytes.push(self.byte_or_draw(file, place, draws))?;
+        let mut bytes = Vec::with_capacity(alloc, length)?;
+        while bytes.len() < length {
+            self.push_drawn(file, length, draws, &mut bytes)?;
         }
         Ok(Text::from_vec(bytes))
     }
@@ -157,22 +126,7 @@ fn text(alloc: Global, files: &[Vec<u8>; 4], file: u32) -> Result<Text, Memory>
     Text::from_bytes(alloc, &files[file as usize])
 }
 
-// Whether a place of a file lies in a range that was written since the last sync.
-fn is_torn(steps: &[Step], file: u32, place: u64) -> bool
-    ensures { result ≡ is_torn (reverse steps.now) file place }
-{
-    for step in steps.iter().rev() {
-        if step.is_synced() {
-            return false;
-        }
-        if step.tears(file, place) {
-            return true;
-        }
-    }
-    false
-}
-
-// The greatest end of such a range.
+// The greatest end of a range that was written since the last sync.
 fn reach(steps: &[Step], file: u32) -> u64
     ensures value { result ≡ reach (reverse steps.now) file }
     ensures small { result + 1 < 2 ^ 64 }

@@ -1,11 +1,13 @@
-use Rattle.std.proofs.Common.{◌≡◌, ◌+◌, ◌%◌}
-use Rattle.draws.specs.Draw.{draw, state_after}
-use Rattle.site_mem.specs.Image.{pictured, unstable_below}
-use Rattle.site_mem.specs.Tape.{tape_first, tape_steps}
+use Rattle.std.proofs.Common.{◌≡◌, ◌≤◌, ◌-◌}
+use Rattle.std.specs.Vec.{vec_len}
+use Rattle.site_mem.specs.Tape.{IsDrawnTo}
 use Rattle.site_mem.proofs.tape.Tape.drawn.Given as goal
 
-abbrev pub invariant-loop-place : goal.invariant-loop-place
-invariant-loop-place l = record {
-  bytes : l.bytes.items ≡ pictured (tape_first l.self) (tape_steps l.self) l.file l.place (λ i. draw (state_after l.fn.draws.state (unstable_below (tape_first l.self) (tape_steps l.self) l.file i + 1)) % 256);
-  state : l.draws.state ≡ state_after l.fn.draws.state (unstable_below (tape_first l.self) (tape_steps l.self) l.file l.place + 1);
+abbrev pub invariant-loop-draws : goal.invariant-loop-draws
+invariant-loop-draws l = record {
+  drawn : IsDrawnTo l.self l.file l.fn.draws.state (vec_len l.bytes) l.bytes.items l.draws.state;
+  within : vec_len l.bytes ≤ l.length;
 }
+
+abbrev pub decreases-loop-draws : goal.decreases-loop-draws
+decreases-loop-draws l = l.length - vec_len l.bytes
