@@ -1,7 +1,6 @@
 -- What each step of a history makes of the moments.
-use Rattle.std.proofs.Common.{◌≡◌, inl, inr, ℕ, List, [], ◌∷◌, ◌++◌, length, reverse, refl, sym, ap, subst, arith, append-nil, Vec, Result, Ok, Err, OnOk, OnErr, ◌∙◌}
+use Rattle.std.proofs.Common.{◌≡◌, inl, inr, ℕ, List, [], ◌∷◌, ◌++◌, length, reverse, refl, sym, ap, subst, arith, append-nil, Result, Ok, Err, OnOk, OnErr, ◌∙◌}
 use Rattle.std.proofs.lemmas.List.{take_all, reverse-append}
-use Rattle.std.specs.declared.alloc.Global.{Global}
 use Rattle.site_core.specs.Disk.{Files, Disk, Torn}
 use Rattle.site_core.specs.Calls.{Rests, Writes, Emits, TellsNothing, TellsFront, Stays}
 use Rattle.site_core.specs.Moments.{Elapses}
@@ -29,9 +28,9 @@ Rests-synced first steps = record {
   };
 }
 
-Writes-wrote : (first : Files) (steps : List Step) (r : Range) → Writes r.file r.at r.bytes.items (disk_of first steps) (disk_of first (Wrote r ∷ steps))
+Writes-wrote : (first : Files) (steps : List Step) (r : Range) → Writes r.file r.at r.bytes (disk_of first steps) (disk_of first (Wrote r ∷ steps))
 Writes-wrote first steps r = record {
-  files = Torn-overwritten (read_after first steps) r.file r.at r.bytes.items;
+  files = Torn-overwritten (read_after first steps) r.file r.at r.bytes;
   told = refl;
   time = record {
     later = omega arith;
@@ -41,9 +40,9 @@ Writes-wrote first steps r = record {
   };
 }
 
-Writes-tore : (first : Files) (steps : List Step) (r : Range) → Writes r.file r.at r.bytes.items (disk_of first steps) (disk_of first (Tore r ∷ steps))
+Writes-tore : (first : Files) (steps : List Step) (r : Range) → Writes r.file r.at r.bytes (disk_of first steps) (disk_of first (Tore r ∷ steps))
 Writes-tore first steps r = record {
-  files = Torn-refl r.file r.at (length r.bytes.items) (length (read_after first steps r.file)) (read_after first steps);
+  files = Torn-refl r.file r.at (length r.bytes) (length (read_after first steps r.file)) (read_after first steps);
   told = refl;
   time = record {
     later = omega arith;
@@ -59,9 +58,9 @@ all_told bytes old = (length bytes, ap (λ (l : List ℕ). old ++ l) (sym (take_
 pub none_told : (bytes old : List ℕ) → TellsFront bytes old old
 none_told bytes old = (0, sym (append-nil old))
 
-Emits-told : (first : Files) (steps : List Step) (bytes : Vec ℕ Global) → Emits bytes.items (disk_of first steps) (disk_of first (Told bytes ∷ steps))
+Emits-told : (first : Files) (steps : List Step) (bytes : List ℕ) → Emits bytes (disk_of first steps) (disk_of first (Told bytes ∷ steps))
 Emits-told first steps bytes = record {
-  some = all_told bytes.items (told_after steps);
+  some = all_told bytes (told_after steps);
   files = refl;
   time = record {
     later = omega arith;
@@ -69,15 +68,15 @@ Emits-told first steps bytes = record {
     since = λ t told files le left. elim left [
       | inl past ↦ inl past
       | inr (inl inside) ↦ inr (inside.1.0, (files, inside.1.1, refl))
-      | inr (inr now) ↦ inr (subst (TellsFront bytes.items (told_after steps)) (sym now.1) (all_told bytes.items (told_after steps)), (files, now.2, refl))
+      | inr (inr now) ↦ inr (subst (TellsFront bytes (told_after steps)) (sym now.1) (all_told bytes (told_after steps)), (files, now.2, refl))
     ];
     keeps = λ t told files le left. inl left;
   };
 }
 
-Emits-untold : (first : Files) (steps : List Step) (bytes : Vec ℕ Global) → Emits bytes.items (disk_of first steps) (disk_of first (Untold bytes ∷ steps))
+Emits-untold : (first : Files) (steps : List Step) (bytes : List ℕ) → Emits bytes (disk_of first steps) (disk_of first (Untold bytes ∷ steps))
 Emits-untold first steps bytes = record {
-  some = none_told bytes.items (told_after steps);
+  some = none_told bytes (told_after steps);
   files = refl;
   time = record {
     later = omega arith;
@@ -85,7 +84,7 @@ Emits-untold first steps bytes = record {
     since = λ t told files le left. elim left [
       | inl past ↦ inl past
       | inr (inl inside) ↦ inr (inside.1.0, (files, inside.1.1, refl))
-      | inr (inr now) ↦ inr (subst (TellsFront bytes.items (told_after steps)) (sym now.1) (none_told bytes.items (told_after steps)), (files, now.2, refl))
+      | inr (inr now) ↦ inr (subst (TellsFront bytes (told_after steps)) (sym now.1) (none_told bytes (told_after steps)), (files, now.2, refl))
     ];
     keeps = λ t told files le left. inl left;
   };
@@ -111,13 +110,13 @@ module _ (first : Files) (steps new : List Step) where
       time = stands TellsNothing (Torn file at (length bytes) (length (read_after first steps file))) (Torn-refl file at (length bytes) (length (read_after first steps file))) (disk_of first steps);
     })
 
-    moved : (r : Range) (step : Step) → r.file ≡ file → r.at ≡ at → r.bytes.items ≡ bytes → new ≡ step ∷ steps
-        → Writes r.file r.at r.bytes.items (disk_of first steps) (disk_of first (step ∷ steps)) → Writes file at bytes (disk_of first steps) (disk_of first new)
+    moved : (r : Range) (step : Step) → r.file ≡ file → r.at ≡ at → r.bytes ≡ bytes → new ≡ step ∷ steps
+        → Writes r.file r.at r.bytes (disk_of first steps) (disk_of first (step ∷ steps)) → Writes file at bytes (disk_of first steps) (disk_of first new)
     moved r step file_is at_is bytes_is is wrote =
         subst (λ n. Writes file at bytes (disk_of first steps) (disk_of first n)) (sym is)
         (subst (λ b. Writes file at b (disk_of first steps) (disk_of first (step ∷ steps))) bytes_is
-        (subst (λ a. Writes file a r.bytes.items (disk_of first steps) (disk_of first (step ∷ steps))) at_is
-        (subst (λ f. Writes f r.at r.bytes.items (disk_of first steps) (disk_of first (step ∷ steps))) file_is wrote)))
+        (subst (λ a. Writes file a r.bytes (disk_of first steps) (disk_of first (step ∷ steps))) at_is
+        (subst (λ f. Writes f r.at r.bytes (disk_of first steps) (disk_of first (step ∷ steps))) file_is wrote)))
 
     pub Writes-is_wrote : Notes Wrote file at bytes steps new → Writes file at bytes (disk_of first steps) (disk_of first new)
     Writes-is_wrote is = moved is.0 (Wrote is.0) is.1.0 is.1.1 is.1.2 is.2 (Writes-wrote first steps is.0)
@@ -134,10 +133,10 @@ module _ (first : Files) (steps new : List Step) where
     })
 
     pub Emits-is_told : NotesBytes Told bytes steps new → Emits bytes (disk_of first steps) (disk_of first new)
-    Emits-is_told is = subst (λ n. Emits bytes (disk_of first steps) (disk_of first n)) (sym is.2) (subst (λ b. Emits b (disk_of first steps) (disk_of first (Told is.0 ∷ steps))) is.1 (Emits-told first steps is.0))
+    Emits-is_told is = subst (λ n. Emits bytes (disk_of first steps) (disk_of first n)) (sym is) (Emits-told first steps bytes)
 
     pub Emits-is_untold : NotesBytes Untold bytes steps new → Emits bytes (disk_of first steps) (disk_of first new)
-    Emits-is_untold is = subst (λ n. Emits bytes (disk_of first steps) (disk_of first n)) (sym is.2) (subst (λ b. Emits b (disk_of first steps) (disk_of first (Untold is.0 ∷ steps))) is.1 (Emits-untold first steps is.0))
+    Emits-is_untold is = subst (λ n. Emits bytes (disk_of first steps) (disk_of first n)) (sym is) (Emits-untold first steps bytes)
 
 -- a result of two kinds
 pub either : {T E G P Q : Type 0} → (r : Result T E) → OnOk r P → OnErr r Q → (P → G) → (Q → G) → G

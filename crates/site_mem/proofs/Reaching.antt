@@ -17,11 +17,11 @@ module _ (first : Files) (steps new : List Step) where
   pub leaves_torn : (file at : ℕ) (bytes : List ℕ) → ReachesTorn file at bytes (disk_of first steps) (disk_of first new) → LeavesAsBefore (disk_of first steps) (disk_of first new)
   leaves_torn file at bytes reaches d left = reaches.each d d left (Torn-refl file at (length bytes) (length (read_after first steps file)) d)
 
-  torn_by : (file at : ℕ) (bytes : List ℕ) (r : Range) → r.file ≡ file → r.at ≡ at → r.bytes.items ≡ bytes
-      → (d c : Files) → Torn file at (length bytes) (length (read_after first steps file)) d c → Torn r.file r.at (length r.bytes.items) (length (read_after first steps r.file)) d c
+  torn_by : (file at : ℕ) (bytes : List ℕ) (r : Range) → r.file ≡ file → r.at ≡ at → r.bytes ≡ bytes
+      → (d c : Files) → Torn file at (length bytes) (length (read_after first steps file)) d c → Torn r.file r.at (length r.bytes) (length (read_after first steps r.file)) d c
   torn_by file at bytes r file_is at_is bytes_is d c torn =
-      subst (λ f. Torn f r.at (length r.bytes.items) (length (read_after first steps f)) d c) (sym file_is)
-      (subst (λ a. Torn file a (length r.bytes.items) (length (read_after first steps file)) d c) (sym at_is)
+      subst (λ f. Torn f r.at (length r.bytes) (length (read_after first steps f)) d c) (sym file_is)
+      (subst (λ a. Torn file a (length r.bytes) (length (read_after first steps file)) d c) (sym at_is)
       (subst (λ b. Torn file at (length b) (length (read_after first steps file)) d c) (sym bytes_is) torn))
 
   pub reaches_wrote : (file at : ℕ) (bytes : List ℕ) → Notes Wrote file at bytes steps new → ReachesTorn file at bytes (disk_of first steps) (disk_of first new)
@@ -35,21 +35,19 @@ module _ (first : Files) (steps new : List Step) where
   }
 
   pub leaves_told : (bytes : List ℕ) → NotesBytes Told bytes steps new → LeavesAsBefore (disk_of first steps) (disk_of first new)
-  leaves_told bytes is d left = subst (λ n. MayLeave first n d) (sym is.2) left
+  leaves_told bytes is d left = subst (λ n. MayLeave first n d) (sym is) left
 
   pub leaves_untold : (bytes : List ℕ) → NotesBytes Untold bytes steps new → LeavesAsBefore (disk_of first steps) (disk_of first new)
-  leaves_untold bytes is d left = subst (λ n. MayLeave first n d) (sym is.2) left
+  leaves_untold bytes is d left = subst (λ n. MayLeave first n d) (sym is) left
 
   pub reaches_told : (bytes : List ℕ) → NotesBytes Told bytes steps new → ReachesPrefixes bytes (disk_of first steps) (disk_of first new)
   reaches_told bytes is = record {
     each = λ k d left.
-        subst (λ b. (disk_of first new).left_since (length steps) ((disk_of first steps).told ++ take k b) d) is.1
-        (subst (λ n. (disk_of first n).left_since (length steps) ((disk_of first steps).told ++ take k is.0.items) d) (sym is.2) (inr (inl (omega arith, ((k, refl), left)))));
+        subst (λ n. (disk_of first n).left_since (length steps) ((disk_of first steps).told ++ take k bytes) d) (sym is) (inr (inl (omega arith, ((k, refl), left))));
   }
 
   pub reaches_untold : (bytes : List ℕ) → NotesBytes Untold bytes steps new → ReachesPrefixes bytes (disk_of first steps) (disk_of first new)
   reaches_untold bytes is = record {
     each = λ k d left.
-        subst (λ b. (disk_of first new).left_since (length steps) ((disk_of first steps).told ++ take k b) d) is.1
-        (subst (λ n. (disk_of first n).left_since (length steps) ((disk_of first steps).told ++ take k is.0.items) d) (sym is.2) (inr (inl (omega arith, ((k, refl), left)))));
+        subst (λ n. (disk_of first n).left_since (length steps) ((disk_of first steps).told ++ take k bytes) d) (sym is) (inr (inl (omega arith, ((k, refl), left))));
   }

@@ -24,18 +24,18 @@ abbrev pub read_after : Files → List Step → Files
 read_after first [] = first
 read_after first (Wrote r ∷ earlier) =
     let read = read_after first earlier in
-    with_file read r.file (overwritten (read r.file) r.at r.bytes.items)
+    with_file read r.file (overwritten (read r.file) r.at r.bytes)
 read_after first (_ ∷ earlier) = read_after first earlier
 
 -- the bytes told
 abbrev pub told_after : List Step → List ℕ
 told_after [] = []
-told_after (Told bytes ∷ earlier) = told_after earlier ++ bytes.items
+told_after (Told bytes ∷ earlier) = told_after earlier ++ bytes
 told_after (_ ∷ earlier) = told_after earlier
 
 -- the range of a write is torn
 abbrev pub TornBy : Range → Files → Files → Files → Type 0
-TornBy r read old new = Torn r.file r.at (length r.bytes.items) (length (read r.file)) old new
+TornBy r read old new = Torn r.file r.at (length r.bytes) (length (read r.file)) old new
 
 -- the files that a stop now may leave
 abbrev pub MayLeave : Files → List Step → Files → Type 0
@@ -54,8 +54,8 @@ TellsPart first bytes earlier told files =
 
 -- What a stop inside a call may leave and one before or after it may not: a part of the bytes told.
 abbrev pub Inside : Files → Step → List Step → List ℕ → Files → Type 0
-Inside first (Told bytes) earlier told files = TellsPart first bytes.items earlier told files
-Inside first (Untold bytes) earlier told files = TellsPart first bytes.items earlier told files
+Inside first (Told bytes) earlier told files = TellsPart first bytes earlier told files
+Inside first (Untold bytes) earlier told files = TellsPart first bytes earlier told files
 Inside first _ earlier told files = ⊥
 
 -- what a stop after the first t steps, or later, may have left

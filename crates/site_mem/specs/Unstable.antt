@@ -19,7 +19,7 @@ is_synced _ = false
 
 -- the place of the file lies in the range
 abbrev pub covers : Range → ℕ → ℕ → Bool
-covers r file i = file == r.file && (nat_le r.at i && nat_lt i (r.at + length r.bytes.items))
+covers r file i = file == r.file && (nat_le r.at i && nat_lt i (r.at + length r.bytes))
 
 -- the step wrote there, or failed to
 abbrev pub tears : Step → ℕ → ℕ → Bool
@@ -34,7 +34,7 @@ is_torn (step ∷ earlier) file i = not (is_synced step) && (tears step file i |
 
 -- the end of the range in the file, and zero for a range of another file
 abbrev pub range_end : Range → ℕ → ℕ
-range_end r file = if file == r.file then r.at + length r.bytes.items else 0
+range_end r file = if file == r.file then r.at + length r.bytes else 0
 
 -- the end of the range that the step wrote in the file, or failed to, and zero where there is none
 abbrev pub end_in : Step → ℕ → ℕ

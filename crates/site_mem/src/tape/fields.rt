@@ -7,6 +7,7 @@ ghost use Rattle.site_mem.specs.declared.step.Step.{Step};
 ghost use Rattle.site_mem.specs.declared.step.Step.TheVariants.{Wrote, Tore, Synced, Told, Untold};
 
 use crate::step::{Range, Step};
+use fact_model::Text;
 use std::alloc::{AllocError, Global};
 
 /// Notes the write and changes the file.
@@ -99,7 +100,7 @@ fn note_told(alloc: Global, steps: &mut Vec<Step>, bytes: &[u8]) -> Result<(), A
     ensures err { OnErr result (steps.new.items ≡ steps.old.items) }
 {
     let copy = bytes.to_vec(alloc)?;
-    steps.push(Step::Told(copy))?;
+    steps.push(Step::Told(Text::from_vec(copy)))?;
     Ok(())
 }
 
@@ -110,7 +111,7 @@ pub fn hush_fields(alloc: Global, steps: &mut Vec<Step>, bytes: &[u8]) -> Result
     ensures err { OnErr result (steps.new.items ≡ steps.old.items) }
 {
     let copy = bytes.to_vec(alloc)?;
-    steps.push(Step::Untold(copy))?;
+    steps.push(Step::Untold(Text::from_vec(copy)))?;
     Ok(())
 }
 
@@ -164,7 +165,7 @@ fn copied(
     Ok(Range {
         file,
         at,
-        bytes: copy,
+        bytes: Text::from_vec(copy),
     })
 }
 
