@@ -1,5 +1,5 @@
 -- What is known of a site of which one read gives a byte fewer.
-use Rattle.std.specs.Prelude.{◌≡◌, ℕ, ◌-◌, if◌then◌else◌, Option}
+use Rattle.std.specs.Prelude.{ℕ, ◌-◌, if◌then◌else◌, Option}
 use Rattle.site_mem.specs.declared.site.MemorySite.{MemorySite}
 use Rattle.site_mem.specs.declared.site.short.ShortSite.{ShortSite}
 use Rattle.site_mem.specs.Site.{site_number}

@@ -1,8 +1,6 @@
 -- What is known of a site of which no call fails.
-use Rattle.std.specs.Prelude.{◌≡◌, ℕ, List, [], ◌∷◌, ◌++◌, length, reverse}
-use Rattle.site_core.specs.Disk.{Files, Disk, with_file, overwritten}
-use Rattle.site_mem.specs.declared.sure_site.Change.{Change}
-use Rattle.site_mem.specs.declared.sure_site.Change.TheVariants.{Wrote, Told}
+use Rattle.std.specs.Prelude.{◌≡◌, ℕ, reverse}
+use Rattle.site_core.specs.Disk.{Disk}
 use Rattle.site_mem.specs.declared.sure_site.SureSite.{SureSite}
 use Rattle.site_mem.specs.History.{texts_of}
 use Rattle.site_mem.specs.Changes.{changed_disk}

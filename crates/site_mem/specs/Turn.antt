@@ -1,6 +1,5 @@
 -- Calls that are to fail.
 use Rattle.std.specs.Prelude.{◌≡◌, ℕ, ◌≤◌, Bool, false, ◌==◌, ⊤, Option, Some, None, List, [], ◌∷◌, ◌++◌, Contains}
-use Rattle.site_mem.specs.declared.call.Call.{Call}
 use Rattle.site_mem.specs.declared.log.Turn.{Turn}
 use Rattle.site_mem.specs.declared.log.Turn.TheVariants.{Goes, Fails, Stops, Starves}
 
@@ -16,10 +15,10 @@ IsTurn stop fails number Fails = (IsPast stop number → ⊥) × Contains fails 
 IsTurn stop fails number Stops = IsPast stop number
 IsTurn stop fails number Starves = ⊤
 
--- the call is noted behind the others, unless there was no memory for it
-abbrev pub IsNoted : Turn → Call → List Call → List Call → Type 0
-IsNoted Starves call old new = new ≡ old
-IsNoted _ call old new = new ≡ old ++ call ∷ []
+-- something is noted of a call behind what was noted of the others, unless there was no memory for it
+abbrev pub IsNoted : {X : Type 0} → Turn → X → List X → List X → Type 0
+IsNoted Starves x old new = new ≡ old
+IsNoted _ x old new = new ≡ old ++ x ∷ []
 
 -- this number is the one that was asked for
 abbrev pub is_asked : Option ℕ → ℕ → Bool

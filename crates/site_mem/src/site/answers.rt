@@ -47,7 +47,8 @@ impl Site for MemorySite {
         ensures memory { StarvesInNote self.old self.new }
         ensures tape { site_tape self.new ≡ site_tape self.old }
     {
-        match self.log.begin(Call::Length { file }) {
+        let steps = self.tape.steps.len();
+        match self.log.begin(Call::Length { file }, steps) {
             Turn::Goes => Ok(self.tape.bytes(file).len() as u64),
             Turn::Fails | Turn::Stops => Err(failed(&mut self.disk_faults)),
             Turn::Starves => Err(starved(&mut self.disk_faults, &mut self.starved)),
@@ -75,7 +76,8 @@ impl Site for MemorySite {
     {
         self.reads = self.reads.saturating_add(1);
         let len = into.len() as u64;
-        match self.log.begin(Call::Read { file, at, len }) {
+        let steps = self.tape.steps.len();
+        match self.log.begin(Call::Read { file, at, len }, steps) {
             Turn::Goes => Ok(fill(self.tape.bytes(file), at, into)),
             Turn::Fails | Turn::Stops => Err(failed(&mut self.disk_faults)),
             Turn::Starves => Err(starved(&mut self.disk_faults, &mut self.starved)),
@@ -107,7 +109,8 @@ impl Site for MemorySite {
     {
         self.writes = self.writes.saturating_add(1);
         let len = bytes.len() as u64;
-        match self.log.begin(Call::Write { file, at, len }) {
+        let steps = self.tape.steps.len();
+        match self.log.begin(Call::Write { file, at, len }, steps) {
             Turn::Goes => match self.tape.write(file, at, bytes) {
                 Ok(()) => Ok(()),
                 Err(_) => Err(starved(&mut self.disk_faults, &mut self.starved)),
@@ -136,7 +139,8 @@ impl Site for MemorySite {
         ensures kept { OnErr result (stable_files self.new ≡ stable_files self.old) }
         ensures taken { OnOk result (stable_files self.new ≡ (site_disk self.new).files) }
     {
-        match self.log.begin(Call::Sync) {
+        let steps = self.tape.steps.len();
+        match self.log.begin(Call::Sync, steps) {
             Turn::Goes => match self.tape.sync() {
                 Ok(()) => Ok(()),
                 Err(_) => Err(starved(&mut self.disk_faults, &mut self.starved)),
@@ -164,7 +168,8 @@ impl Site for MemorySite {
         ensures kept { stable_files self.new ≡ stable_files self.old }
     {
         let len = bytes.len() as u64;
-        match self.log.begin(Call::Emit { len }) {
+        let steps = self.tape.steps.len();
+        match self.log.begin(Call::Emit { len }, steps) {
             Turn::Goes => match self.tape.emit(bytes) {
                 Ok(()) => Ok(()),
                 Err(_) => Err(starved(&mut self.told_faults, &mut self.starved)),

@@ -36,6 +36,36 @@ pub fn write_fields(
     done
 }
 
+/// The same with a range that was written before.
+pub fn redo_write(
+    files: &mut [Vec<u8>; 4],
+    steps: &mut Vec<Step>,
+    range: &Range,
+) -> Result<(), AllocError>
+    ensures files { OnOk result (IsFileWritten range.now.file range.now.at range.now.bytes files.old files.new) }
+    ensures step { OnOk result (reverse steps.new.items ≡ Wrote range.now ∷ reverse steps.old.items) }
+    ensures err { OnErr result
+        ((files_of files.new ≡ files_of files.old) × (steps.new.items ≡ steps.old.items)) }
+{
+    let copy = range.copy()?;
+    steps.push(Step::Wrote(copy))?;
+    let done = overwrite_file(files, range.file, range.at as usize, range.bytes.as_bytes());
+    if done.is_err() {
+        drop_last(steps);
+    }
+    done
+}
+
+/// Notes such a range alone.
+pub fn redo_tear(steps: &mut Vec<Step>, range: &Range) -> Result<(), AllocError>
+    ensures step { OnOk result (reverse steps.new.items ≡ Tore range.now ∷ reverse steps.old.items) }
+    ensures err { OnErr result (steps.new.items ≡ steps.old.items) }
+{
+    let copy = range.copy()?;
+    steps.push(Step::Tore(copy))?;
+    Ok(())
+}
+
 /// Notes the write alone.
 pub fn tear_fields(
     alloc: Global,
@@ -128,8 +158,7 @@ fn overwrite_file(
     at: usize,
     bytes: &[u8],
 ) -> Result<(), AllocError>
-    requires file { file < 4 }
-    requires place { at ≤ length (files_of files.old file) }
+    requires { file < 4 }
     ensures ok { OnOk result (IsFileWritten file at bytes.now files.old files.new) }
     ensures err { OnErr result (files_of files.new ≡ files_of files.old) }
 {
@@ -138,6 +167,13 @@ fn overwrite_file(
 
 // Puts bytes over the old ones and past the end.
 fn overwrite(file: &mut Vec<u8>, at: usize, bytes: &[u8]) -> Result<(), AllocError>
+    ensures ok { OnOk result (file.new.items ≡ overwritten file.old.items at bytes.now) }
+    ensures err { OnErr result (file.new.items ≡ file.old.items) }
+{
+    overwrite_within(file, at.min(file.len()), bytes)
+}
+
+fn overwrite_within(file: &mut Vec<u8>, at: usize, bytes: &[u8]) -> Result<(), AllocError>
     requires { at ≤ length file.old.items }
     ensures ok { OnOk result (file.new.items ≡ overwritten file.old.items at bytes.now) }
     ensures err { OnErr result (file.new.items ≡ file.old.items) }

@@ -1,4 +1,3 @@
-use Rattle.std.proofs.Common.{◌≡◌}
 use Rattle.site_mem.proofs.tape.Tape.drawn.Goals as goal
 
 pub loop-draws-preserved : goal.loop-draws-preserved

@@ -1,4 +1,4 @@
-use Rattle.std.proofs.Common.{◌≡◌, ◌≤◌, ◌-◌}
+use Rattle.std.proofs.Common.{◌≤◌, ◌-◌}
 use Rattle.std.specs.Vec.{vec_len}
 use Rattle.site_mem.specs.Tape.{IsDrawnTo}
 use Rattle.site_mem.proofs.tape.Tape.drawn.Given as goal
