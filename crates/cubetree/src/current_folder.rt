@@ -29,7 +29,10 @@ impl<'a> CurrentFolder<'a> {
     /// A process may begin with one of its three streams closed, and the next file that is opened then takes its descriptor. So the folder
     /// itself is opened first, three times, and kept: a read or a write of a stream that was closed is a fault then, since a folder gives
     /// and takes no bytes.
-    pub fn new(rt: &'a HostRuntime) -> CurrentFolder<'a> {
+    pub fn new(rt: &'a HostRuntime) -> CurrentFolder<'a>
+        ensures disk_faults { result.disk_faults ≡ 0 }
+        ensures told_faults { result.told_faults ≡ 0 }
+    {
         CurrentFolder {
             rt,
             files: OpenFiles::new(),

@@ -1,5 +1,5 @@
 //! Standard input, in single calls of std.
-ghost use Rattle.std.specs.Prelude.{false, []};
+ghost use Rattle.std.specs.Prelude.{◌≡◌, false, []};
 
 use crate::faults::counted;
 use site_folder::Reader;
@@ -15,7 +15,9 @@ pub struct StandardInput<R> {
 
 impl<R> StandardInput<R> {
     /// A reader of which nothing was asked yet.
-    pub fn new(reader: R) -> StandardInput<R> {
+    pub fn new(reader: R) -> StandardInput<R>
+        ensures { result.faults ≡ 0 }
+    {
         StandardInput { reader, faults: 0 }
     }
 }

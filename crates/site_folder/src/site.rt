@@ -26,7 +26,9 @@ pub struct FolderSite<H: Host> {
 impl<H: Host> FolderSite<H> {
     /// A host of which nothing was asked yet. It takes no memory.
     pub fn new(host: H) -> FolderSite<H>
-        ensures { result.host ≡ host }
+        ensures host { result.host ≡ host }
+        ensures reads { result.reads ≡ 0 }
+        ensures writes { result.writes ≡ 0 }
     {
         FolderSite {
             host,
