@@ -1,38 +1,22 @@
 -- How a session goes on from command to command.
-use Rattle.std.proofs.Common.{◌≡◌, inl, inr, ℕ, List, [], ◌∷◌, ◌++◌, length, take, refl, sym, ◌∙◌, ap, subst, append-nil, arith, Result, Ok, Err, OnOk}
+use Rattle.std.proofs.Common.{◌≡◌, inl, inr, ℕ, List, [], ◌∷◌, ◌++◌, length, take, refl, sym, ◌∙◌, ap, subst, append-nil, Result, Ok, Err, OnOk}
 use Rattle.std.proofs.Math.Seq.{take-append_seam}
 use Rattle.site_core.specs.Disk.{Files, Disk}
 use Rattle.site_core.specs.Moments.{LeavesOnly}
 use Rattle.site_core.proofs.Run.{each_moment, started, joined, wider}
 use Rattle.site_core.specs.Calls.{Rests, Stays, TellsFront}
-use Rattle.cube_shell.specs.declared.state.State.{State}
 use Rattle.script_lang.specs.declared.command.Command.{Command}
-use Rattle.cube_shell.specs.World.{World}
-use Rattle.cube_shell.specs.Machine.{act}
-use Rattle.cube_shell.specs.Keeps.{Keeps}
-use Rattle.cube_shell.specs.Headline.{AfterStop, AfterRun, Meanwhile, Finished, Settled, replies_from, final}
-use Rattle.cube_shell.specs.Session.{Stands, Carried, Onward}
-use Rattle.cube_shell.proofs.Standing.{stands_read, stands_left}
-use Rattle.cube_shell.proofs.Acts.{reply_some}
-use Rattle.cube_shell.proofs.Stages.{at_rest, during, carried_none, carried_more, carried_then}
-
--- what is known of a site at each moment
-abbrev pub OnlyNow : Disk → Type 0
-OnlyNow d = (told : List ℕ) (files : Files) → d.left_since d.clock told files → (told ≡ d.told) × d.may_leave files
-
--- a command that does nothing
-pub untouched : (session : State) (d : Disk) (w : World) (c : Command) → Stands session d w → OnlyNow d
-    → LeavesOnly d d (Meanwhile w c d.told)
-untouched session d w c stands only_now = started d (Meanwhile w c d.told) (λ told files left.
-    let now = only_now told files left in
-    record {
-      front = [];
-      rest = (act w c).1;
-      tells = now.0 ∙ sym (append-nil d.told);
-      prefix = refl;
-      kept = inl (stands_left session d w stands files now.1);
-      acknowledged = λ same. absurd (omega (arith, ap length same, reply_some w c));
-    })
+use Rattle.plain_machine.specs.World.{World}
+use Rattle.plain_machine.specs.Machine.{act}
+use Rattle.plain_machine.specs.Keeps.{Keeps}
+use Rattle.plain_machine.specs.Stages.{AfterStop, Meanwhile, replies_from, final, Carried}
+use Rattle.plain_machine.proofs.Stages.{at_rest, during, carried_none, carried_more, carried_then}
+use Rattle.cube_state.specs.declared.state.State.{State}
+use Rattle.cube_state.specs.Session.{Stands}
+use Rattle.cube_state.proofs.Standing.{stands_read, stands_left}
+use Rattle.cube_state.proofs.Answering.{OnlyNow}
+use Rattle.cube_shell.specs.Headline.{AfterRun, Finished, Settled}
+use Rattle.cube_shell.specs.Onward.{Onward}
 
 -- before the first command
 pub started_moments : (session : State) (d : Disk) (w : World) (cs : List Command) → Stands session d w → OnlyNow d

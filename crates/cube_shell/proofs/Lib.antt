@@ -1,17 +1,4 @@
-pub mod Acts
-pub mod Answering
-pub mod BatchReads
-pub mod Commanded
-pub mod Declarings
-pub mod Gives
 pub mod Going
-pub mod Limits
-pub mod Openings
 pub mod Pieces
 pub mod Replied
-pub mod Sliced
-pub mod Stages
-pub mod Standing
 pub mod Statuses
-pub mod Takings
-pub mod Told

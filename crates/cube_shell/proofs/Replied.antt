@@ -2,11 +2,11 @@
 use Rattle.std.proofs.Common.{◌≡◌, ℕ, List, [], ◌∷◌, ◌++◌, Result, Ok, Err, OnOk, refl, sym, ◌∙◌, ap, subst, append_assoc, append-nil}
 use Rattle.site_core.specs.Disk.{Files}
 use Rattle.script_lang.specs.declared.command.Command.{Command}
-use Rattle.cube_shell.specs.declared.state.State.{State}
-use Rattle.cube_shell.specs.Gives.{RepliesTo}
+use Rattle.cube_state.specs.declared.state.State.{State}
+use Rattle.cube_state.specs.Session.{IsRunning}
+use Rattle.cube_session.specs.Gives.{RepliesTo}
+use Rattle.cube_session.proofs.Gives.{gives_some}
 use Rattle.cube_shell.specs.Replied.{AreLeft, HasReplied, Replied}
-use Rattle.cube_shell.specs.Session.{IsRunning}
-use Rattle.cube_shell.proofs.Gives.{gives_some}
 
 both_replied : (first second : List Command) (one two : List ℕ) → Replied first one → Replied second two → Replied (first ++ second) (one ++ two)
 both_replied [] second one two is then = subst (λ (l : List ℕ). Replied second (l ++ two)) (sym is) then

@@ -2,16 +2,18 @@
 use Rattle.std.proofs.Common.{◌≡◌, inl, inr, List, ℕ, refl, sym, subst, Result, Ok, Err, OnOk, IfErr}
 use Rattle.std.specs.Result.{IsErrAnd, IsErrOf}
 use Rattle.site_core.specs.Disk.{Files}
-use Rattle.cube_shell.specs.declared.stop.Stop.{Stop}
-use Rattle.cube_shell.specs.declared.stop.Stop.TheVariants as stops
-use Rattle.cube_shell.specs.declared.status.Status.{Status}
-use Rattle.cube_shell.specs.declared.status.Status.TheVariants.{Done, Usage, Input, Disk, Output, Damaged, Memory, TooLong}
 use Rattle.forest_open.specs.Opening.{Place}
-use Rattle.cube_shell.specs.Damage.{StopsAt, EndsAt, EndsForBreak, TellsBreak}
-use Rattle.cube_shell.specs.Ends.{IsNoDamage, IsPastOpening, IsUndamaged, status_of, words_status}
-use Rattle.cube_shell.specs.Headline.{HasOpened}
 use Rattle.cube_words.specs.declared.words.WordsStop.{WordsStop}
 use Rattle.cube_words.specs.declared.words.WordsStop.TheVariants as words
+use Rattle.cube_state.specs.declared.stop.Stop.{Stop}
+use Rattle.cube_state.specs.declared.stop.Stop.TheVariants as stops
+use Rattle.cube_state.specs.Stops.{IsNoDamage}
+use Rattle.cube_session.specs.Damage.{StopsAt, TellsBreak}
+use Rattle.cube_shell.specs.declared.status.Status.{Status}
+use Rattle.cube_shell.specs.declared.status.Status.TheVariants.{Done, Usage, Input, Disk, Output, Damaged, Memory, TooLong}
+use Rattle.cube_shell.specs.Damage.{EndsAt, EndsForBreak}
+use Rattle.cube_shell.specs.Ends.{IsPastOpening, IsUndamaged, status_of, words_status}
+use Rattle.cube_shell.specs.Headline.{HasOpened}
 
 never_too_long : (stop : Stop) → status_of stop ≡ TooLong → ⊥
 never_too_long stops.Disk is = cc

@@ -1,15 +1,6 @@
-pub mod Costs
 pub mod Damage
 pub mod Ends
-pub mod Gives
 pub mod Headline
-pub mod Keeps
-pub mod Machine
+pub mod Onward
 pub mod Pulls
-pub mod Reading
-pub mod Refusals
 pub mod Replied
-pub mod Session
-pub mod Sliced
-pub mod Told
-pub mod World

@@ -3,17 +3,20 @@ ghost use Rattle.std.specs.Prelude.{◌≡◌, ◌≤◌, ◌+◌, ◌^◌, ◌�
 ghost use Rattle.site_core.specs.Moments.{LeavesOnly};
 ghost use Rattle.script_lang.specs.Reading.{nothing_read, ready, to_come, whole_with};
 ghost use Rattle.script_lang.specs.Script.{commands};
-ghost use Rattle.cube_shell.specs.Ends.{EndCause, StopCause, Stayed, IsNoDamage, IsUndamaged, faults};
-ghost use Rattle.cube_shell.specs.Headline.{AfterStop, CutOff, Finished, LeftOff};
+ghost use Rattle.plain_machine.specs.Stages.{AfterStop};
+ghost use Rattle.plain_machine.specs.World.{World};
+ghost use Rattle.cube_state.specs.Stops.{StopCause, IsNoDamage};
+ghost use Rattle.cube_state.specs.Session.{IsFit, IsRunning, Stands};
+ghost use Rattle.cube_shell.specs.Ends.{EndCause, Stayed, IsUndamaged, faults};
+ghost use Rattle.cube_shell.specs.Headline.{CutOff, Finished, LeftOff};
 ghost use Rattle.cube_shell.specs.Pulls.{Gave, GaveAtMost};
 ghost use Rattle.cube_shell.specs.Replied.{AreLeft, HasReplied};
-ghost use Rattle.cube_shell.specs.Session.{IsFit, IsRunning, Onward, Stands};
-ghost use Rattle.cube_shell.specs.World.{World};
+ghost use Rattle.cube_shell.specs.Onward.{Onward};
 
 use crate::pull::{pull, room};
-use crate::session::Session;
 use crate::status::Status;
-use crate::stop::Stop;
+use cube_session::Session;
+use cube_state::Stop;
 use script_lang::Lines;
 use site_core::{Site, Source};
 use std::alloc::Global;

@@ -2,7 +2,7 @@
 ghost use Rattle.std.specs.Prelude.{◌≡◌};
 ghost use Rattle.cube_shell.specs.Ends.{code_of};
 
-use crate::stop::Stop;
+use cube_state::Stop;
 use cube_words::WordsStop;
 use fact_model::Memory;
 use std::alloc::AllocError;

@@ -1,7 +1,7 @@
 use Rattle.std.proofs.Common.{◌∙◌, ◌++◌, refl, ap, Option, option_to_list, [], rules}
 use Rattle.script_lang.specs.declared.command.Command.{Command}
 use Rattle.script_lang.specs.Reading.{to_come, whole_with}
-use Rattle.cube_shell.specs.Ends.{IsNoDamage}
+use Rattle.cube_state.specs.Stops.{IsNoDamage}
 use Rattle.cube_shell.proofs.Going.{started_moments, started_onward, more_moments, more_onward}
 use Rattle.cube_shell.proofs.Pieces.{none_given}
 use Rattle.cube_shell.proofs.Replied.{none_replied, one_replied}

@@ -1,10 +1,11 @@
 use Rattle.std.proofs.Common.{◌≡◌, ℕ, List, [], IsTrue, false, length}
 use Rattle.site_core.specs.Moments.{LeavesOnly}
 use Rattle.script_lang.specs.Reading.{ready, to_come, whole_with}
-use Rattle.cube_shell.specs.Headline.{AfterStop}
+use Rattle.plain_machine.specs.Stages.{AfterStop}
+use Rattle.plain_machine.specs.World.{World}
+use Rattle.cube_state.specs.Session.{IsFit, IsRunning, Stands}
 use Rattle.cube_shell.specs.Replied.{AreLeft}
-use Rattle.cube_shell.specs.Session.{IsFit, IsRunning, Onward, Stands}
-use Rattle.cube_shell.specs.World.{World}
+use Rattle.cube_shell.specs.Onward.{Onward}
 use Rattle.cube_shell.proofs.serve.carry_out.Given as goal
 
 -- some commands were carried out, and the others are still to come, whatever is fed

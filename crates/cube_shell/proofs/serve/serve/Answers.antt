@@ -4,7 +4,7 @@ use Rattle.script_lang.proofs.Feeding.{none_whole}
 use Rattle.script_lang.specs.Reading.{Reading, to_come, whole_with}
 use Rattle.cube_shell.specs.Headline.{Finished}
 use Rattle.cube_shell.specs.Replied.{AreLeft}
-use Rattle.cube_shell.specs.Session.{Onward}
+use Rattle.cube_shell.specs.Onward.{Onward}
 use Rattle.cube_shell.proofs.Going.{all_done, started_moments, started_onward, then_moments, then_onward}
 use Rattle.cube_shell.proofs.Pieces.{given_more, piece_left, piece_taken, piece_to_come, end_to_come}
 use Rattle.cube_shell.proofs.Replied.{last_replied, more_replied, none_replied}

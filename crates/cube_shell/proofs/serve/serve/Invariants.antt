@@ -2,10 +2,11 @@ use Rattle.std.proofs.Common.{◌≡◌, ◌≤◌, ◌+◌, ◌-◌, ◌++◌, 
 use Rattle.site_core.specs.Moments.{LeavesOnly}
 use Rattle.script_lang.specs.Reading.{nothing_read, to_come, whole_with}
 use Rattle.script_lang.specs.Script.{commands, whole}
-use Rattle.cube_shell.specs.Headline.{AfterStop}
+use Rattle.plain_machine.specs.Stages.{AfterStop}
+use Rattle.plain_machine.specs.World.{World}
+use Rattle.cube_state.specs.Session.{IsFit, IsRunning, Stands}
 use Rattle.cube_shell.specs.Replied.{AreLeft}
-use Rattle.cube_shell.specs.Session.{IsFit, IsRunning, Onward, Stands}
-use Rattle.cube_shell.specs.World.{World}
+use Rattle.cube_shell.specs.Onward.{Onward}
 use Rattle.cube_shell.proofs.serve.serve.Given as goal
 
 -- so many bytes were taken, and with those that are left in the source the other commands are still to come

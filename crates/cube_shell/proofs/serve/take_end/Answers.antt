@@ -3,7 +3,7 @@ use Rattle.site_core.specs.Moments.{LeavesOnly}
 use Rattle.script_lang.specs.declared.command.Command.{Command}
 use Rattle.script_lang.specs.Reading.{Reading, ready}
 use Rattle.script_lang.proofs.Feeding.{ended, none_to_come}
-use Rattle.cube_shell.specs.Headline.{AfterStop}
+use Rattle.plain_machine.specs.Stages.{AfterStop}
 use Rattle.cube_shell.proofs.Going.{finished_at}
 use Rattle.cube_shell.proofs.Replied.{replied_at}
 use Rattle.cube_shell.proofs.serve.take_end.Goals as goal

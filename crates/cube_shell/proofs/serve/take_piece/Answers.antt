@@ -3,9 +3,9 @@ use Rattle.site_core.specs.Moments.{LeavesOnly}
 use Rattle.script_lang.specs.declared.command.Command.{Command}
 use Rattle.script_lang.specs.Reading.{Reading, to_come, whole_with}
 use Rattle.script_lang.proofs.Feeding.{fed, fed_whole}
-use Rattle.cube_shell.specs.Headline.{AfterStop}
+use Rattle.plain_machine.specs.Stages.{AfterStop}
 use Rattle.cube_shell.specs.Replied.{AreLeft}
-use Rattle.cube_shell.specs.Session.{Onward}
+use Rattle.cube_shell.specs.Onward.{Onward}
 use Rattle.cube_shell.proofs.serve.take_piece.Goals as goal
 
 pub returns-clause-onward : goal.returns-clause-onward

@@ -1,10 +1,10 @@
 use Rattle.std.proofs.Common.{◌≡◌, ℕ, List, OnOk, ap, subst, Err}
 use Rattle.script_lang.specs.Script.{commands}
+use Rattle.plain_machine.specs.World.{bare}
 use Rattle.cube_shell.specs.Damage.{EndsAt, EndsForBreak}
 use Rattle.cube_shell.specs.Ends.{IsUndamaged, IsUsageOrMemory}
 use Rattle.cube_shell.specs.declared.status.Status.TheVariants.{Usage}
 use Rattle.cube_shell.specs.Replied.{HasReplied}
-use Rattle.cube_shell.specs.World.{bare}
 use Rattle.cube_shell.proofs.Going.{opened_moments, settled_behind, unopened_moments}
 use Rattle.cube_shell.proofs.Statuses.{broken_as, either_way, ended_by_words, named, none_told_as, not_ended_so, unopened, unread_words}
 use Rattle.cube_shell.proofs.top_call.attempt.Goals as goal

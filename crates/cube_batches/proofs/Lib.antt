@@ -1,0 +1,5 @@
+pub mod BatchReads
+pub mod Gives
+pub mod Limits
+pub mod Takings
+pub mod Told

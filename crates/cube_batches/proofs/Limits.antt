@@ -1,0 +1,170 @@
+-- A batch against the limits: what the plain machine makes of it.
+use Rattle.std.proofs.Common.{◌≡◌, inl, inr, ℕ, zero, suc, ◌+◌, ◌<◌, ◌≤◌, Bool, true, false, nat_le, List, [], ◌∷◌, ◌++◌, length, get_or, Some, None, refl, sym, ◌∙◌, ap, subst, append-nil, arith}
+use Rattle.std.proofs.lemmas.Bool.Decides.{nat_tests}
+use Rattle.std.proofs.lemmas.Bool.{cases_Bool}
+use Rattle.std.proofs.lemmas.List.{length-map}
+use Rattle.std.specs.List.{All}
+use Rattle.std.specs.Prelude.{nat_lt}
+use Rattle.fact_model.specs.declared.fact.Fact.{Fact}
+use Rattle.fact_model.specs.Fact.{mass, mass_limit}
+use Rattle.cube_schema.specs.Agreeing.{Agrees}
+use Rattle.cube_schema.specs.Kinds.{max_at, max_of, no_attr}
+use Rattle.cube_schema.specs.Lawful.{IsSchema}
+use Rattle.cube_schema.specs.declared.schema.Attr.{Attr}
+use Rattle.cube_schema.specs.declared.schema.Schema.{Schema}
+use Rattle.view_points.specs.Codes.{names_of}
+use Rattle.attr_dict.proofs.Kept.{all-agree, names-past}
+use Rattle.forest_open.proofs.Openings.{mass_past}
+use Rattle.forest_refresh.specs.declared.stop.BeginStop.{BeginStop}
+use Rattle.forest_refresh.specs.declared.stop.BeginStop.TheVariants as begins
+use Rattle.forest_refresh.specs.Limits.{TellsLimit}
+use Rattle.forest_store.specs.Held.{AreAccepted, HasNames}
+use Rattle.forest_store.proofs.Schemas.{few_measures}
+use Rattle.reply_text.specs.Replies.{committed_text}
+use Rattle.plain_machine.specs.Machine.{accepted, begun, begun_or_refused, committed, fact_limit, first_full, first_heavy, full_refusal, heavy_refusal, refusal_of, unless}
+use Rattle.plain_machine.specs.World.{Warehouse, World, idle}
+use Rattle.cube_batches.specs.Refusals.{refusal_text}
+
+-- ---- the first attribute with too many names
+
+-- there is none
+none_full : (k : ℕ) (attrs : List Attr) (facts : List Fact) → ((a : ℕ) → length (names_of facts (k + a)) ≤ max_of (get_or attrs a no_attr).kind)
+    → first_full k attrs facts ≡ None
+none_full k [] facts room = refl
+none_full k (attr ∷ attrs) facts room =
+    let here : length (names_of facts k) ≤ max_of attr.kind = subst (λ (n : ℕ). length (names_of facts n) ≤ max_of attr.kind) (omega arith) (room 0) in
+    let fits : nat_le (length (names_of facts k)) (max_of attr.kind) ≡ true = grind (arith, nat_tests) in
+    rw fits (none_full (suc k) attrs facts (λ a. subst (λ (n : ℕ). length (names_of facts n) ≤ max_of (get_or attrs a no_attr).kind) (omega arith) (room (suc a))))
+
+-- it is the one behind a others
+one_full : (k a : ℕ) (attrs : List Attr) (facts : List Fact) → a < length attrs
+    → ((c : ℕ) → c < a → length (names_of facts (k + c)) ≤ max_of (get_or attrs c no_attr).kind)
+    → max_of (get_or attrs a no_attr).kind < length (names_of facts (k + a)) → first_full k attrs facts ≡ Some (get_or attrs a no_attr).name
+one_full k a [] facts low room full = absurd (omega (arith, low))
+one_full k zero (attr ∷ attrs) facts low room full =
+    let over : max_of attr.kind < length (names_of facts k) = subst (λ (n : ℕ). max_of attr.kind < length (names_of facts n)) (omega arith) full in
+    let passes : nat_le (length (names_of facts k)) (max_of attr.kind) ≡ false = grind (arith, nat_tests) in
+    rw passes refl
+one_full k (suc a) (attr ∷ attrs) facts low room full =
+    let here : length (names_of facts k) ≤ max_of attr.kind = subst (λ (n : ℕ). length (names_of facts n) ≤ max_of attr.kind) (omega arith) (room 0 (omega arith)) in
+    let fits : nat_le (length (names_of facts k)) (max_of attr.kind) ≡ true = grind (arith, nat_tests) in
+    rw fits (one_full (suc k) a attrs facts (omega (arith, low))
+    (λ c below. subst (λ (n : ℕ). length (names_of facts n) ≤ max_of (get_or attrs c no_attr).kind) (omega arith) (room (suc c) (omega (arith, below))))
+    (subst (λ (n : ℕ). max_of (get_or attrs a no_attr).kind < length (names_of facts n)) (omega arith) full))
+
+-- ---- the first measure whose mass passes
+
+-- none does
+none_heavy : (k : ℕ) (names : List (List ℕ)) (facts : List Fact) → ((m : ℕ) → m < k + length names → mass m facts ≤ mass_limit) → first_heavy k names facts ≡ None
+none_heavy k [] facts light = refl
+none_heavy k (name ∷ names) facts light =
+    let low = light k (omega arith) in
+    let fits : nat_le (mass k facts) mass_limit ≡ true = grind (arith, nat_tests) in
+    rw fits (none_heavy (suc k) names facts (λ m below. light m (omega (arith, below))))
+
+-- the one behind m others does
+one_heavy : (k m : ℕ) (names : List (List ℕ)) (facts : List Fact) → m < length names → ((j : ℕ) → j < k + m → mass j facts ≤ mass_limit) → mass_limit < mass (k + m) facts
+    → first_heavy k names facts ≡ Some (get_or names m [])
+one_heavy k m [] facts low light heavy = absurd (omega (arith, low))
+one_heavy k zero (name ∷ names) facts low light heavy =
+    let over : mass_limit < mass k facts = subst (λ (n : ℕ). mass_limit < mass n facts) (omega arith) heavy in
+    let passes : nat_le (mass k facts) mass_limit ≡ false = grind (arith, nat_tests) in
+    rw passes refl
+one_heavy k (suc m) (name ∷ names) facts low light heavy =
+    let fit = light k (omega arith) in
+    let fits : nat_le (mass k facts) mass_limit ≡ true = grind (arith, nat_tests) in
+    rw fits (one_heavy (suc k) m names facts (omega (arith, low)) (λ j below. light j (omega (arith, below))) (subst (λ (n : ℕ). mass_limit < mass n facts) (omega arith) heavy))
+
+-- ---- a batch
+
+module _ (warehouse : Warehouse) (batch : List Fact) (lawful : IsSchema warehouse.schema) where
+  abbrev schema : Schema
+  schema = warehouse.schema
+
+  abbrev all : List Fact
+  all = warehouse.facts ++ batch
+
+  abbrev few : Bool
+  few = nat_le (length (warehouse.facts ++ batch)) fact_limit
+
+  past_few : few ≡ true → refusal_of schema all ≡ full_refusal schema all (first_full 0 schema.attrs all)
+  past_few a = rw a refl
+
+  past_named : few ≡ true → HasNames schema all → refusal_of schema all ≡ heavy_refusal (first_heavy 0 schema.measures all)
+  past_named a named = past_few a ∙ ap (full_refusal schema all)
+      (none_full 0 schema.attrs all (λ c. subst (λ (n : ℕ). length (names_of all n) ≤ max_at schema c) (omega arith) (named c)))
+
+  -- a batch that keeps the limits is not refused
+  pub none_refused : AreAccepted warehouse.schema (warehouse.facts ++ batch) → refusal_of warehouse.schema (warehouse.facts ++ batch) ≡ None
+  none_refused fine =
+      let long = fine.few in
+      let a : few ≡ true = grind (arith, nat_tests) in
+      past_named a fine.named
+      ∙ ap heavy_refusal (none_heavy 0 schema.measures all (λ m below. fine.masses m (omega (arith, below, few_measures schema lawful))))
+
+  -- so it is accepted
+  pub all_accepted : (world : World) → AreAccepted warehouse.schema (warehouse.facts ++ batch) → accepted world warehouse batch ≡ committed warehouse batch
+  all_accepted world fine = ap (unless world (committed warehouse batch)) (none_refused fine)
+
+  -- or made pending
+  pub all_begun : (world : World) → AreAccepted warehouse.schema (warehouse.facts ++ batch) → begun_or_refused world warehouse batch ≡ begun warehouse batch
+  all_begun world fine = ap (unless world (begun warehouse batch)) (none_refused fine)
+
+  -- a full attribute is declared
+  full_declared : All (Agrees warehouse.schema) all → (a : ℕ) → max_at warehouse.schema a < length (names_of all a) → a < length warehouse.schema.attrs
+  full_declared each a full = elim (cases_Bool (nat_lt a (length warehouse.schema.attrs))) [
+    | inl low ↦ grind (arith, nat_tests)
+    | inr past ↦ absurd (
+        let beyond : length warehouse.schema.attrs ≤ a = grind (arith, nat_tests) in
+        omega (
+          arith,
+          full,
+          ap length (names-past all (length warehouse.schema.attrs) a
+              (λ k d low. (all-agree warehouse.schema all each k d low).values ∙ length-map warehouse.schema.attrs (λ (attr : Attr). attr.kind)) beyond),
+        ))
+  ]
+
+  -- and so is a measure whose mass passes the limit
+  heavy_declared : All (Agrees warehouse.schema) all → (m : ℕ) → mass_limit < mass m all → m < length warehouse.schema.measures
+  heavy_declared each m heavy = elim (cases_Bool (nat_lt m (length warehouse.schema.measures))) [
+    | inl low ↦ grind (arith, nat_tests)
+    | inr past ↦ absurd (omega (arith, heavy, mass_past warehouse.schema all m each (grind (arith, nat_tests))))
+  ]
+
+  -- a batch that passes a limit is refused by it
+  pub one_refused : All (Agrees warehouse.schema) (warehouse.facts ++ batch) → (why : BeginStop) (text : List ℕ) → TellsLimit warehouse.schema (warehouse.facts ++ batch) why
+      → refusal_text warehouse.schema why ≡ Some text → refusal_of warehouse.schema (warehouse.facts ++ batch) ≡ Some text
+  one_refused each begins.FactsFull text is same =
+      let a : few ≡ false = grind (arith, nat_tests) in
+      let here : refusal_of schema all ≡ refusal_text schema begins.FactsFull = rw a refl in
+      here ∙ same
+  one_refused each (begins.NamesFull c) text is same =
+      let long = is.0 in
+      let a : few ≡ true = grind (arith, nat_tests) in
+      past_few a ∙ (ap (full_refusal schema all) (one_full 0 c schema.attrs all (full_declared each c is.1.passes)
+      (λ k below. subst (λ (n : ℕ). length (names_of all n) ≤ max_at schema k) (omega arith) (is.1.first k below))
+      (subst (λ (n : ℕ). max_at schema c < length (names_of all n)) (omega arith) is.1.passes)) ∙ same)
+  one_refused each (begins.Mass m) text is same =
+      let long = is.0 in
+      let a : few ≡ true = grind (arith, nat_tests) in
+      past_named a is.1 ∙ (ap heavy_refusal (one_heavy 0 m schema.measures all (heavy_declared each m is.2.passes)
+      (λ j below. is.2.first j (omega (arith, below))) (subst (λ (n : ℕ). mass_limit < mass n all) (omega arith) is.2.passes)) ∙ same)
+  one_refused each begins.Memory text is same = absurd (cc)
+  one_refused each begins.Disk text is same = absurd (cc)
+
+-- an empty batch is accepted or made pending, and changes no fact
+module _ (warehouse : Warehouse) (batch : List Fact) (lawful : IsSchema warehouse.schema) (fine : AreAccepted warehouse.schema warehouse.facts) (none : batch ≡ []) where
+  same_facts : warehouse.facts ++ batch ≡ warehouse.facts
+  same_facts = ap (λ (l : List Fact). warehouse.facts ++ l) none ∙ append-nil warehouse.facts
+
+  still_fine : AreAccepted warehouse.schema (warehouse.facts ++ batch)
+  still_fine = subst (AreAccepted warehouse.schema) (sym same_facts) fine
+
+  pub none_committed : committed warehouse batch ≡ (idle warehouse, committed_text (length warehouse.facts))
+  none_committed = ap (λ (l : List Fact). (idle (record { schema = warehouse.schema; facts = l }), committed_text (length l))) same_facts
+
+  pub none_accepted : (world : World) → accepted world warehouse batch ≡ (idle warehouse, committed_text (length warehouse.facts))
+  none_accepted world = all_accepted warehouse batch lawful world still_fine ∙ none_committed
+
+  pub none_begun : (world : World) → begun_or_refused world warehouse batch ≡ begun warehouse []
+  none_begun world = all_begun warehouse batch lawful world still_fine ∙ ap (begun warehouse) none

@@ -1,0 +1,197 @@
+-- What a batch that is taken in makes of the plain machine's world.
+use Rattle.std.proofs.Common.{◌≡◌, ◌<◌, ◌≤◌, ◌+◌, ◌++◌, ℕ, List, [], ◌∷◌, length, inl, inr, Some, None, Result, Ok, Err, IfOk, OnOk, codes, refl, sym, ◌∙◌, ap, subst, arith, length-append, take}
+use Rattle.std.proofs.lemmas.List.Elements.{All-append}
+use Rattle.std.specs.List.{All}
+use Rattle.std.specs.Prelude.{slice_index}
+use Rattle.site_core.specs.Disk.{Files, Disk}
+use Rattle.site_core.specs.Moments.{LeavesOnly, IsStable}
+use Rattle.site_core.proofs.Run.{joined, wider}
+use Rattle.cube_schema.specs.Agreeing.{Agrees}
+use Rattle.cube_schema.specs.declared.schema.Schema.{Schema}
+use Rattle.fact_model.specs.declared.fact.Fact.{Fact}
+use Rattle.forest_refresh.specs.Back.{IsBack}
+use Rattle.forest_refresh.specs.Begun.{Begun, IsRefreshOf}
+use Rattle.forest_refresh.specs.Limits.{TellsLimit}
+use Rattle.forest_refresh.specs.Refreshed as refreshes
+use Rattle.forest_refresh.specs.declared.stop.BeginStop.{BeginStop}
+use Rattle.forest_refresh.specs.declared.stop.BeginStop.TheVariants as begins
+use Rattle.forest_root.specs.declared.forest.Forest.{Forest}
+use Rattle.forest_root.specs.declared.forest.Store.{Store}
+use Rattle.forest_store.specs.Held.{AreAccepted, IsLive, KeepsFacts}
+use Rattle.forest_store.specs.Stored.{IsStoreOf}
+use Rattle.reply_text.specs.Replies.{committed_text, line}
+use Rattle.plain_machine.specs.Stages.{size}
+use Rattle.plain_machine.specs.Keeps.{IsLawful}
+use Rattle.plain_machine.specs.Machine.{Answer, abandon, accepted, begun, begun_or_refused, committed, refusal_of, unless}
+use Rattle.plain_machine.specs.World.{Warehouse, World, idle}
+use Rattle.cube_state.specs.declared.answered.Answered.{Answered}
+use Rattle.cube_state.specs.declared.state.State.{State}
+use Rattle.cube_state.specs.declared.state.State.TheVariants.{Idle, Pending}
+use Rattle.cube_state.specs.declared.stop.Stop.{Stop}
+use Rattle.cube_state.specs.Session.{Attends, Belongs, Between, IsAnswer, KeepsEither, Stands}
+use Rattle.cube_state.proofs.Answering.{answers, answers_as}
+use Rattle.cube_batches.specs.Costs.{begins_over}
+use Rattle.cube_batches.specs.Costs as costs
+use Rattle.cube_batches.specs.Refusals.{refusal_text}
+use Rattle.cube_batches.proofs.Limits.{all_accepted, all_begun, one_refused}
+
+-- ---- one run behind another
+
+pub between_then : (old mid new : Disk) (world next : World) → mid.told ≡ old.told → Between old mid world next → Between mid new world next → Between old new world next
+between_then old mid new world next quiet first second =
+    joined old mid new (λ told files. (told ≡ old.told) × KeepsEither world next files) first
+    (wider mid new _ _ (λ told files both. (both.0 ∙ quiet, both.1)) second)
+
+-- ---- a batch that is to begin
+
+module _ (store : Store) (old new : Disk) (warehouse : Warehouse) (batch : List Fact) (is : Belongs store old warehouse) where
+  -- at every moment the files keep what they kept
+  pub begin_moments : (next : World) → LeavesOnly old new (λ told files. (told ≡ old.told) × KeepsFacts store.forest.schema warehouse.facts files)
+      → Between old new (idle warehouse) next
+  begin_moments next run = wider old new _ _
+      (λ told files both. (both.0, inl (record { lawful = is.lawful; kept = subst (λ (s : Schema). KeepsFacts s warehouse.facts files) is.schema both.1 }))) run
+
+  -- it has begun
+  pub begin_attends : (r : Begun) → r.store.forest ≡ store.forest → IsRefreshOf r warehouse.facts batch new.files → 0 < length batch → IsStable new
+      → Attends r new warehouse batch
+  begin_attends r same adds some stable = record {
+    lawful = is.lawful;
+    schema = ap (λ (f : Forest). f.schema) same ∙ is.schema;
+    adds = adds;
+    some = some;
+    stable = stable;
+  }
+
+-- so it is pending
+module _ (r : Begun) (new : Disk) (warehouse : Warehouse) (batch : List Fact) (is : Attends r new warehouse batch) where
+  -- all facts keep the limits
+  pub all_fine : AreAccepted warehouse.schema (warehouse.facts ++ batch)
+  all_fine = subst (λ (s : Schema). AreAccepted s (warehouse.facts ++ batch)) is.schema is.adds.all
+
+  now_begun : begun_or_refused (idle warehouse) warehouse batch ≡ begun warehouse batch
+  now_begun = all_begun warehouse batch is.lawful.schema (idle warehouse) all_fine
+
+  pub now_accepted : accepted (idle warehouse) warehouse batch ≡ committed warehouse batch
+  now_accepted = all_accepted warehouse batch is.lawful.schema (idle warehouse) all_fine
+
+  pub begun_answer : (result : Result Answered Stop) → IfOk result (λ done. done.state ≡ Pending r) → IfOk result (λ done. done.reply.items ≡ line (codes "begun"))
+      → IfOk result (IsAnswer new (begun_or_refused (idle warehouse) warehouse batch))
+  begun_answer result state reply =
+      answers_as result new (begun warehouse batch) _ (sym now_begun) (answers result (Pending r) _ new (begun warehouse batch) state reply (warehouse, batch, refl, is) refl)
+
+  one_begins : (facts : List Fact) → 0 < length facts → begins_over None (Some facts) ≡ 1
+  one_begins [] some = absurd (omega (arith, some))
+  one_begins (x ∷ xs) some = refl
+
+  -- so it begins
+  pub does_begin : costs.begins (idle warehouse) (begun_or_refused (idle warehouse) warehouse batch).0 ≡ 0 → ⊥
+  does_begin none =
+      let one : costs.begins (idle warehouse) (begun_or_refused (idle warehouse) warehouse batch).0 ≡ 1 =
+      ap (λ (a : Answer). costs.begins (idle warehouse) a.0) now_begun ∙ one_begins batch is.some in
+      omega (arith, none, one)
+
+  -- which one write tells
+  pub begun_writes : (result : Result Answered Stop) (old now : ℕ) → now ≤ old + 1
+      → OnOk result (now ≤ old + costs.begins (idle warehouse) (begun_or_refused (idle warehouse) warehouse batch).0)
+  begun_writes (Err stop) old now few = tt
+  begun_writes (Ok done) old now few =
+      let one : costs.begins (idle warehouse) (begun_or_refused (idle warehouse) warehouse batch).0 ≡ 1 =
+      ap (λ (a : Answer). costs.begins (idle warehouse) a.0) now_begun ∙ one_begins batch is.some in
+      omega (arith, few, one)
+
+-- the store is handed back
+pub back_belongs : (store back : Store) (disk : Disk) (warehouse : Warehouse) → IsBack store back → Belongs store disk warehouse → Belongs back disk warehouse
+back_belongs store back disk warehouse same is = record {
+  lawful = is.lawful;
+  schema = ap (λ (f : Forest). f.schema) same.forest ∙ is.schema;
+  stored = record {
+    accepted = subst (λ (f : Forest). AreAccepted f.schema warehouse.facts) (sym same.forest) is.stored.accepted;
+    live = subst (λ (f : Forest). IsLive f.schema f.body warehouse.facts disk.files) (sym same.forest) is.stored.live;
+    names = λ a. (λ i. take (slice_index (same.shown i).at a) (same.names a i)) ∙ is.stored.names a;
+  };
+  stable = is.stable;
+}
+
+-- a refusal has a limit as its cause
+pub no_fault : (schema : Schema) (why : BeginStop) (text : List ℕ) → refusal_text schema why ≡ Some text → why ≡ begins.Disk → ⊥
+no_fault schema why text refused is = let none : refusal_text schema begins.Disk ≡ Some text = subst (λ (w : BeginStop). refusal_text schema w ≡ Some text) is refused in absurd (cc)
+
+-- a batch that is refused has made no call
+pub refused_silent : (schema : Schema) (why : BeginStop) (result : Result Answered Stop) (old new : ℕ) → IfOk result (λ done. refusal_text schema why ≡ Some done.reply.items)
+    → ((why ≡ begins.Disk → ⊥) → new ≡ old) → OnOk result (new ≡ old)
+refused_silent schema why (Ok done) old new text same = same (no_fault schema why done.reply.items text)
+refused_silent schema why (Err stop) old new text same = tt
+
+module _ (store back : Store) (old new : Disk) (warehouse : Warehouse) (batch : List Fact) (why : BeginStop) (is : Belongs store old warehouse)
+    (each : All (Agrees store.forest.schema) batch) (limit : TellsLimit store.forest.schema (warehouse.facts ++ batch) why)
+    (same : IsBack store back) (unchanged : (why ≡ begins.Disk → ⊥) → new ≡ old) where
+  agree : All (Agrees warehouse.schema) (warehouse.facts ++ batch)
+  agree = All-append (Agrees warehouse.schema) warehouse.facts batch is.lawful.accepted.each (subst (λ (s : Schema). All (Agrees s) batch) is.schema each)
+
+  by_limit : (text : List ℕ) → refusal_text back.forest.schema why ≡ Some text → refusal_of warehouse.schema (warehouse.facts ++ batch) ≡ Some text
+  by_limit text refused =
+      one_refused warehouse batch is.lawful.schema agree why text
+      (subst (λ (s : Schema). TellsLimit s (warehouse.facts ++ batch) why) is.schema limit)
+      (subst (λ (s : Schema). refusal_text s why ≡ Some text) (ap (λ (f : Forest). f.schema) same.forest ∙ is.schema) refused)
+
+  -- where a limit is passed the plain machine refuses so, whatever else it would answer
+  pub refused_answer : (answer : Answer) (result : Result Answered Stop) → IfOk result (λ done. done.state ≡ Idle back)
+      → IfOk result (λ done. refusal_text back.forest.schema why ≡ Some done.reply.items)
+      → IfOk result (IsAnswer new (unless (idle warehouse) answer (refusal_of warehouse.schema (warehouse.facts ++ batch))))
+  refused_answer answer (Err stop) state reply = tt
+  refused_answer answer (Ok done) state reply =
+      let belongs = back_belongs store back new warehouse same (subst (λ (d : Disk). Belongs store d warehouse) (sym (unchanged (no_fault back.forest.schema why done.reply.items reply))) is) in
+      answers_as (Ok done) new (idle warehouse, done.reply.items) _
+      (ap (unless (idle warehouse) answer) (sym (by_limit done.reply.items reply)))
+      (answers (Ok done) (Idle back) done.reply.items new (idle warehouse, done.reply.items) state refl (warehouse, refl, belongs) refl)
+
+-- ---- a batch that has begun is committed
+
+module _ (r : Begun) (old new : Disk) (warehouse : Warehouse) (batch : List Fact) (is : Attends r old warehouse batch) where
+  abbrev next : Warehouse
+  next = record { schema = warehouse.schema; facts = warehouse.facts ++ batch }
+
+  all_lawful : IsLawful next
+  all_lawful = record { schema = is.lawful.schema; accepted = all_fine r old warehouse batch is }
+
+  -- the files keep the facts without the batch, or all of them
+  pub commit_moments : LeavesOnly old new (λ told files. (told ≡ old.told) × refreshes.KeepsEither r.store.forest.schema warehouse.facts (warehouse.facts ++ batch) files)
+      → Between old new (idle warehouse) (committed warehouse batch).0
+  commit_moments run =
+      wider old new _ _
+      (λ told files both. (both.0, by files (subst (λ (s : Schema). refreshes.KeepsEither s warehouse.facts (warehouse.facts ++ batch) files) is.schema both.1))) run
+    where
+      by : (files : Files) → refreshes.KeepsEither warehouse.schema warehouse.facts (warehouse.facts ++ batch) files → KeepsEither (idle warehouse) (committed warehouse batch).0 files
+      by files (inl kept) = inl (record { lawful = is.lawful; kept = kept })
+      by files (inr both) = inr (record { lawful = all_lawful; kept = both.1 })
+
+  module _ (now : Store) (schema : now.forest.schema ≡ r.store.forest.schema) (stored : IsStoreOf now (warehouse.facts ++ batch) new.files) (stable : IsStable new) where
+    committed_belongs : Belongs now new next
+    committed_belongs = record { lawful = all_lawful; schema = schema ∙ is.schema; stored = stored; stable = stable }
+
+    pub committed_answer : (result : Result Answered Stop) → IfOk result (λ done. done.state ≡ Idle now)
+        → IfOk result (λ done. done.reply.items ≡ committed_text now.forest.body.facts) → IfOk result (IsAnswer new (committed warehouse batch))
+    committed_answer result state reply =
+        answers result (Idle now) (committed_text now.forest.body.facts) new (committed warehouse batch) state reply (next, refl, committed_belongs)
+        (ap committed_text stored.live.at.body_is.facts)
+
+  -- what is known grows
+  pub committed_grows : (committed warehouse batch).0.kept ≡ Some warehouse → ⊥
+  committed_grows stays =
+      let sizes : length (warehouse.facts ++ batch) + 1 ≡ length warehouse.facts + 1 = ap size stays in
+      omega (arith, is.some, sizes, length-append warehouse.facts batch)
+
+-- ---- a batch that has begun is dropped
+
+pub abandoned : (r : Begun) (store : Store) (disk : Disk) (world : World) (result : Result Answered Stop) → store.forest ≡ r.store.forest
+    → ((accepted batch : List Fact) (files : Files) → IsRefreshOf r accepted batch files → IsStoreOf store accepted files)
+    → Stands (Pending r) disk world → IfOk result (λ done. done.state ≡ Idle store) → IfOk result (λ done. Stands done.state disk (abandon world).0)
+abandoned r store disk world (Err stop) same given is state = tt
+abandoned r store disk world (Ok done) same given is state =
+    let belongs : Belongs store disk is.0 = record {
+      lawful = is.3.lawful;
+      schema = ap (λ (f : Forest). f.schema) same ∙ is.3.schema;
+      stored = given is.0.facts is.1 disk.files is.3.adds;
+      stable = is.3.stable;
+    } in
+    subst (λ (s : State). Stands s disk (abandon world).0) (sym state) (is.0, ap (λ (w : World). (abandon w).0) is.2, belongs)

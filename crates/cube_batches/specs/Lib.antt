@@ -1,0 +1,5 @@
+pub mod Costs
+pub mod Gives
+pub mod Reading
+pub mod Refusals
+pub mod Told

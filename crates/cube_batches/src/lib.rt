@@ -1,0 +1,11 @@
+//! The commands of a batch, over what a session has: `load` and `generate` take one in at once; `begin`, `step`, `finish` and `abandon` let
+//! slices go on between.
+#![tactic(auto)]
+
+mod batch;
+mod committing;
+mod loading;
+mod pending;
+
+pub use loading::load;
+pub use pending::{abandon, begin, finish, step};

@@ -1,0 +1,6 @@
+pub mod Commanded
+pub mod Declarings
+pub mod Gives
+pub mod Known
+pub mod Openings
+pub mod Told

@@ -1,0 +1,4 @@
+pub mod Costs
+pub mod Damage
+pub mod Gives
+pub mod Told

@@ -1,0 +1,8 @@
+//! A session: the files are opened, and each command is carried out and its reply emitted.
+#![tactic(auto)]
+
+mod declaring;
+mod machine;
+mod session;
+
+pub use session::Session;

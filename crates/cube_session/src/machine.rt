@@ -1,0 +1,120 @@
+//! Commands are carried out over the files, up to their replies, which are not told yet.
+ghost use Rattle.std.specs.Prelude.{◌≡◌, ◌≤◌, ◌+◌, ℕ, List, IsTrue, OnOk, IfOk, IfErr};
+ghost use Rattle.script_lang.specs.declared.command.Command.TheVariants as says;
+ghost use Rattle.plain_machine.specs.Machine.{act};
+ghost use Rattle.plain_machine.specs.World.{World};
+ghost use Rattle.cube_state.specs.Stops.{IsNoDamage, StopCause};
+ghost use Rattle.cube_state.specs.Session.{Between, IsAnswer, IsFit, IsRunning, Stands, state_text};
+ghost use Rattle.cube_slices.specs.Costs.{Costs};
+ghost use Rattle.cube_batches.specs.Costs.{begins};
+ghost use Rattle.cube_session.specs.Gives.{Gives};
+ghost use Rattle.cube_session.specs.Told.{TellsDamage};
+
+use crate::declaring::declare;
+use cube_batches::{abandon, begin, finish, load, step};
+use cube_slices::slice;
+use cube_state::{Answered, State, Stop, plain};
+use page_cache::Pages;
+use plain_machine::BatchSource;
+use script_lang::Command;
+use site_core::Site;
+use std::alloc::Global;
+
+/// Carries out a command. A stop at any moment leaves what was known before it or is known behind it, and so does an error.
+pub fn act<T: Site>(
+    alloc: Global,
+    pages: &mut Pages,
+    state: State,
+    command: Command,
+    site: &mut T,
+) -> Result<Answered, Stop>
+    requires running { IsRunning state }
+    requires fit { IsTrue T.tells → IsFit state (T.disk site.old) }
+
+    ensures answer { IsTrue T.tells → (world : World) → Stands state (T.disk site.old) world
+        → IfOk result (IsAnswer (T.disk site.new) (act world command)) }
+    ensures any_moment { IsTrue T.tells → (world : World) → Stands state (T.disk site.old) world
+        → Between (T.disk site.old) (T.disk site.new) world (act world command).0 }
+    ensures undamaged { IsTrue T.tells → (world : World) → Stands state (T.disk site.old) world
+        → IfErr result IsNoDamage }
+    ensures cost { IsTrue T.tells → (world : World) (text : List ℕ) (most : ℕ) → Stands state (T.disk site.old) world
+        → command ≡ says.Slice text → Costs world text most → T.reads site.new ≤ T.reads site.old + most }
+
+    // Whatever the files hold.
+    ensures damage { IsTrue T.tells → IfErr result (TellsDamage state (T.disk site.old).files command) }
+    ensures answered { IsTrue T.tells → IfOk result (λ done. Gives state (T.disk site.old).files command done.reply.items) }
+    // Where no fact is accepted and no schema declared, nothing is written, but for one write where a batch that is not empty begins.
+    ensures unwritten { IsTrue T.tells → (world : World) → Stands state (T.disk site.old) world
+        → (act world command).0.kept ≡ world.kept
+        → OnOk result (T.writes site.new ≤ T.writes site.old + begins world (act world command).0) }
+    ensures silent { IsTrue T.tells → (world : World) → Stands state (T.disk site.old) world
+        → (act world command).0.kept ≡ world.kept → begins world (act world command).0 ≡ 0
+        → OnOk result (T.writes site.new ≡ T.writes site.old) }
+    ensures running { IfOk result (λ done. IsRunning done.state) }
+    ensures fit { IsTrue T.tells → IfOk result (λ done. IsFit done.state (T.disk site.new)) }
+    ensures told { IsTrue T.tells → (T.disk site.new).told ≡ (T.disk site.old).told }
+    ensures cache { pages.new ≡ pages.old }
+    ensures cause { IfErr result (StopCause (T.disk_faults site.old) (T.disk_faults site.new) (T.told_faults site.old) (T.told_faults site.new)) }
+    ensures disk_faults { OnOk result (T.disk_faults site.new ≡ T.disk_faults site.old) }
+    ensures told_faults { T.told_faults site.new ≡ T.told_faults site.old }
+{
+    match command {
+        Command::Schema(block) => declare(alloc, state, block, site),
+        Command::Load(block) => {
+            // No page is kept over a commit.
+            pages.clear();
+            load(alloc, state, BatchSource::Rows(block), site)
+        }
+        Command::Generate { start, rows } => {
+            pages.clear();
+            load(alloc, state, BatchSource::Generator { start, rows }, site)
+        }
+        Command::Slice(text) => slice(alloc, pages, state, text.as_bytes(), site),
+        Command::Status => status(alloc, state),
+        Command::Begin(block) => begin(alloc, state, block, site),
+        Command::Step(_) => step(alloc, state),
+        Command::Finish => {
+            pages.clear();
+            finish(alloc, state, site)
+        }
+        Command::Abandon => abandon(alloc, state, site),
+        Command::LongLine => plain(alloc, state, "refused long line"),
+        Command::OpenBlock => plain(alloc, state, "refused open block"),
+        Command::Unknown => plain(alloc, state, "refused unknown"),
+    }
+}
+
+/// Tells how many facts there are, and how many are pending.
+fn status(alloc: Global, state: State) -> Result<Answered, Stop>
+    requires { IsRunning state }
+    ensures state { IfOk result (λ done. done.state ≡ state) }
+    ensures reply { IfOk result (λ done. done.reply.items ≡ state_text state) }
+    ensures memory { IfErr result (λ stop. stop ≡ Stop.Memory) }
+{
+    match state {
+        State::Stopped => Err(Stop::Memory),
+        State::Empty => plain(alloc, State::Empty, "no schema"),
+        State::Idle(store) => {
+            let reply = reply_text::facts(alloc, store.forest.body.facts)?;
+            Ok(Answered {
+                state: State::Idle(store),
+                reply,
+            })
+        }
+        State::Hollow(store) => {
+            let reply = reply_text::pending(alloc, store.forest.body.facts, 0)?;
+            Ok(Answered {
+                state: State::Hollow(store),
+                reply,
+            })
+        }
+        State::Pending(refresh) => {
+            let count = refresh.store().forest.body.facts;
+            let reply = reply_text::pending(alloc, count, refresh.facts().saturating_sub(count))?;
+            Ok(Answered {
+                state: State::Pending(refresh),
+                reply,
+            })
+        }
+    }
+}

@@ -1,7 +1,0 @@
-use Rattle.cube_shell.specs.Machine.{declare}
-use Rattle.cube_shell.proofs.Answering.{quiet}
-use Rattle.cube_shell.proofs.declaring.declare.Goals as goal
-
-pub returns-in-Pending-clause-any_moment : goal.returns-in-Pending-clause-any_moment
-returns-in-Pending-clause-any_moment g c = λ t world stands.
-    quiet c.args.state (g.T.Site.disk c.args.site.now) world (declare world c.args.block).0 stands (λ told files. g.met.T.Site.only_now c.args.site.now told files t)

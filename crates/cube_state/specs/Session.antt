@@ -1,0 +1,100 @@
+-- A session that stands for a world, and what a command answers by it.
+use Rattle.std.specs.Prelude.{◌≡◌, ◌⊎◌, ℕ, ◌<◌, List, [], codes, length, None}
+use Rattle.site_core.specs.Disk.{Files, Disk}
+use Rattle.site_core.specs.Moments.{IsStable, LeavesOnly}
+use Rattle.fact_model.specs.declared.fact.Fact.{Fact}
+use Rattle.forest_root.specs.declared.forest.Store.{Store}
+use Rattle.forest_refresh.specs.Begun.{Begun, IsReady, IsRefreshOf, batch_size}
+use Rattle.forest_store.specs.Opened.{IsEmpty, IsOpened}
+use Rattle.forest_store.specs.Stored.{IsStoreOf, IsWhole}
+use Rattle.reply_text.specs.Replies.{line, facts_text, pending_text}
+use Rattle.plain_machine.specs.Keeps.{IsLawful, Keeps}
+use Rattle.plain_machine.specs.Machine.{Answer}
+use Rattle.plain_machine.specs.World.{World, Warehouse, bare, begun_with, idle}
+use Rattle.cube_state.specs.declared.answered.Answered.{Answered}
+use Rattle.cube_state.specs.declared.state.State.{State}
+use Rattle.cube_state.specs.declared.state.State.TheVariants.{Stopped, Empty, Idle, Hollow, Pending}
+
+-- the store is that of the warehouse which the files keep
+pub record Belongs (store : Store) (disk : Disk) (warehouse : Warehouse) : Type 0 where
+  pub lawful : IsLawful warehouse
+  pub schema : store.forest.schema ≡ warehouse.schema
+  pub stored : IsStoreOf store warehouse.facts disk.files
+  -- a stop now leaves what a read gives
+  pub stable : IsStable disk
+
+-- the refresh adds a batch to the warehouse which the files keep
+pub record Attends (r : Begun) (disk : Disk) (warehouse : Warehouse) (batch : List Fact) : Type 0 where
+  pub lawful : IsLawful warehouse
+  pub schema : r.store.forest.schema ≡ warehouse.schema
+  pub adds : IsRefreshOf r warehouse.facts batch disk.files
+  -- an empty batch needs no refresh
+  pub some : 0 < length batch
+  -- a stop now leaves what a read gives
+  pub stable : IsStable disk
+
+-- it has not stopped; where no refresh has begun, slices know all names
+abbrev pub IsRunning : State → Type 0
+IsRunning Stopped = ⊥
+IsRunning Empty = Unit {0}
+IsRunning (Idle store) = IsWhole store
+IsRunning (Hollow store) = IsWhole store
+IsRunning (Pending refresh) = Unit {0}
+
+-- the files are those that it has opened, whatever they hold
+abbrev pub IsFit : State → Disk → Type 0
+IsFit Stopped disk = ⊥
+IsFit Empty disk = IsEmpty disk
+IsFit (Idle store) disk = IsOpened store.forest.body disk
+IsFit (Hollow store) disk = IsOpened store.forest.body disk
+IsFit (Pending refresh) disk = IsReady refresh disk
+
+-- it stands for this world
+abbrev pub Stands : State → Disk → World → Type 0
+Stands Stopped disk world = ⊥
+Stands Empty disk world = (world ≡ bare None) × IsEmpty disk
+Stands (Idle store) disk world = (warehouse : Warehouse) × (world ≡ idle warehouse) × Belongs store disk warehouse
+Stands (Hollow store) disk world = (warehouse : Warehouse) × (world ≡ begun_with warehouse []) × Belongs store disk warehouse
+Stands (Pending refresh) disk world =
+    (warehouse : Warehouse) × (batch : List Fact) × (world ≡ begun_with warehouse batch) × Attends refresh disk warehouse batch
+
+-- how many facts it knows
+abbrev pub state_text : State → List ℕ
+state_text Stopped = []
+state_text Empty = line (codes "no schema")
+state_text (Idle store) = facts_text store.forest.body.facts
+state_text (Hollow store) = pending_text store.forest.body.facts 0
+state_text (Pending refresh) = pending_text refresh.store.forest.body.facts (batch_size refresh)
+
+-- the reply to a step
+abbrev pub step_text : State → List ℕ
+step_text Stopped = []
+step_text Empty = line (codes "refused nothing pending")
+step_text (Idle store) = line (codes "refused nothing pending")
+step_text (Hollow store) = line (codes "stepped")
+step_text (Pending refresh) = line (codes "stepped")
+
+-- the reply where a pending batch is to be dropped
+abbrev pub abandon_text : State → List ℕ
+abandon_text Stopped = []
+abandon_text Empty = line (codes "refused nothing pending")
+abandon_text (Idle store) = line (codes "refused nothing pending")
+abandon_text (Hollow store) = line (codes "abandoned")
+abandon_text (Pending refresh) = line (codes "abandoned")
+
+-- the files keep what this world has accepted, or that one
+abbrev pub KeepsEither : World → World → Files → Type 0
+KeepsEither world next files = Keeps files world.kept ⊎ Keeps files next.kept
+
+-- nothing is told from old to new, and a stop at any moment there leaves files that keep what this world has accepted, or that one
+abbrev pub Between : Disk → Disk → World → World → Type 0
+Between old new world next = LeavesOnly old new (λ told files. (told ≡ old.told) × KeepsEither world next files)
+
+-- the session stands for what is known behind a command, and the reply is the plain machine's
+pub record IsAnswer (disk : Disk) (answer : Answer) (done : Answered) : Type 0 where
+  pub stands : Stands done.state disk answer.0
+  pub reply : done.reply.items ≡ answer.1
+
+-- the reply is this line
+abbrev pub IsLine : List ℕ → List ℕ → Type 0
+IsLine text reply = reply ≡ line text

@@ -1,0 +1,4 @@
+pub mod Keeps
+pub mod Machine
+pub mod Stages
+pub mod World
