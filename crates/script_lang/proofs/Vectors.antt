@@ -4,7 +4,7 @@ use Rattle.script_lang.specs.declared.command.Block.TheVariants.{Whole}
 use Rattle.script_lang.specs.declared.command.Command.TheVariants.{Schema, Load, Begin, Step, Slice, Generate, Unknown}
 use Rattle.script_lang.specs.Script.{commands}
 
-numbers : commands (codes "step 0\nstep 007\nstep 18446744073709551615\ngenerate 1 262145\ngenerate 0 0\n")
+numbers : commands (codes "step 0\nstep 007\r\nstep 18446744073709551615\ngenerate 1 262145\ngenerate 0 0\n")
     ≡ Step 0 ∷ Step 7 ∷ Step 18446744073709551615 ∷ Generate 1 262145 ∷ Generate 0 0 ∷ []
 numbers = refl
 

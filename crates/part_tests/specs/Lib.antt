@@ -1,2 +1,0 @@
-pub mod Sales
-pub mod Years

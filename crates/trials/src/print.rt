@@ -1,0 +1,80 @@
+//! Bytes, statuses and calls as a trial prints them.
+
+use cube_shell::Status;
+use site_mem::Call;
+use std::alloc::AllocError;
+
+// A byte of a text.
+fn push_byte(out: &mut String, byte: u8) -> Result<(), AllocError> {
+    if byte == b'\\' || byte < b' ' || b'~' < byte {
+        return write!(out, "\\x{byte:02x}");
+    }
+    out.push(char::from(byte))
+}
+
+/// Prints the lines of a text, each as an answer. A last line without its line feed ends with `\`.
+pub fn push_lines(out: &mut String, bytes: &[u8]) -> Result<(), AllocError> {
+    let mut is_begun = false;
+    for byte in bytes {
+        if !is_begun {
+            out.push_str("> ")?;
+        }
+        is_begun = *byte != b'\n';
+        if is_begun {
+            push_byte(out, *byte)?;
+        } else {
+            out.push('\n')?;
+        }
+    }
+    if is_begun {
+        out.push_str("\\\n")?;
+    }
+    Ok(())
+}
+
+/// Prints a text in one line, with a bar between its lines.
+pub fn push_joined(out: &mut String, bytes: &[u8]) -> Result<(), AllocError> {
+    for byte in bytes.strip_suffix(b"\n").unwrap_or(bytes) {
+        if *byte == b'\n' {
+            out.push_str(" | ")?;
+        } else {
+            push_byte(out, *byte)?;
+        }
+    }
+    Ok(())
+}
+
+/// Prints how a run ended.
+pub fn push_status(out: &mut String, status: Status) -> Result<(), AllocError> {
+    match status {
+        Status::Done => out.push_str("done"),
+        Status::Usage => out.push_str("usage"),
+        Status::Input => out.push_str("input fault"),
+        Status::Disk => out.push_str("disk fault"),
+        Status::Output => out.push_str("output fault"),
+        Status::Damaged { file, offset } => write!(out, "damaged file {file} at {offset}"),
+        Status::Memory => out.push_str("out of memory"),
+        Status::TooLong => out.push_str("script too long"),
+    }
+}
+
+/// Prints a call with its number.
+pub fn push_call(out: &mut String, number: usize, call: &Call) -> Result<(), AllocError> {
+    write!(out, "> {number} ")?;
+    match *call {
+        Call::Length { file } => writeln!(out, "length {file}"),
+        Call::Read { file, at, len } => writeln!(out, "read {file} at {at} length {len}"),
+        Call::Write { file, at, len } => writeln!(out, "write {file} at {at} length {len}"),
+        Call::Sync => writeln!(out, "sync"),
+        Call::Emit { len } => writeln!(out, "tell {len}"),
+    }
+}
+
+/// Prints a row of bytes that begins at a place.
+pub fn push_row(out: &mut String, place: usize, bytes: &[u8]) -> Result<(), AllocError> {
+    write!(out, "> {place}:")?;
+    for byte in bytes {
+        write!(out, " {byte:02x}")?;
+    }
+    out.push('\n')
+}

@@ -1,0 +1,281 @@
+//! The state of a trial, and its commands.
+
+use crate::block::{push_line, push_text};
+use crate::each::{Kind, each, each_stop};
+use crate::files::{copies, put, set_length, with_file};
+use crate::print::{push_lines, push_status};
+use crate::request::Request;
+use crate::scene::Scene;
+use crate::show::{calls, cost, differing, dump};
+use crate::sweep::{each_byte, each_place, sweep};
+use crate::trouble::Trouble;
+use crate::words::Words;
+use fact_model::{Memory, Text};
+use site_mem::{Call, MemorySite};
+use std::alloc::{AllocError, Global};
+use std::mem;
+
+/// Files under a name.
+#[derive(Drop)]
+struct Kept {
+    name: String,
+    files: [Text; 4],
+}
+
+/// A command that waits for the lines of its block.
+#[derive(Drop)]
+struct Waiting {
+    line: String,
+    block: Vec<u8>,
+    has_block: bool,
+}
+
+/// The number of calls before the last run, and the bytes of its script that it pulled.
+#[derive(Clone, Copy)]
+struct LastRun {
+    calls: usize,
+    pulled: u64,
+}
+
+const NO_RUN: LastRun = LastRun {
+    calls: 0,
+    pulled: 0,
+};
+
+/// The scene, the last run, files under names, and the command that waits.
+#[derive(Drop)]
+pub struct Trial {
+    scene: Scene,
+    last: LastRun,
+    kept: Vec<Kept>,
+    waiting: Waiting,
+}
+
+impl Waiting {
+    fn none(alloc: Global) -> Waiting {
+        Waiting {
+            line: String::new(alloc),
+            block: Vec::new(alloc),
+            has_block: false,
+        }
+    }
+}
+
+// A line that is no command is answered as such.
+fn answered(outcome: Result<(), Trouble>, out: &mut String) -> Result<(), Memory> {
+    match outcome {
+        Ok(()) => Ok(()),
+        Err(Trouble::Unclear) => Ok(out.push_str("> this is no command\n")?),
+        Err(Trouble::Memory) => Err(Memory),
+    }
+}
+
+impl Trial {
+    /// Empty files, an empty script, and a look by `status`.
+    pub fn new(alloc: Global) -> Result<Trial, AllocError> {
+        Ok(Trial {
+            scene: Scene {
+                alloc,
+                site: MemorySite::new(alloc),
+                script: Vec::new(alloc),
+                look: Vec::from_slice(alloc, b"status\n")?,
+            },
+            last: NO_RUN,
+            kept: Vec::new(alloc),
+            waiting: Waiting::none(alloc),
+        })
+    }
+
+    /// Takes a line and prints it again, but for an answer. A line of a block is kept for its command; before any other the command
+    /// that waits is carried out.
+    pub fn line(&mut self, line: &str, out: &mut String) -> Result<(), Memory> {
+        if line.starts_with('>') {
+            return Ok(());
+        }
+        if let Some(text) = line.strip_prefix("  ") {
+            writeln!(out, "{line}")?;
+            self.waiting.has_block = true;
+            return answered(push_line(&mut self.waiting.block, text), out);
+        }
+        self.end(out)?;
+        if !line.starts_with('#') {
+            self.waiting.line.push_str(line)?;
+        }
+        writeln!(out, "{line}")?;
+        Ok(())
+    }
+
+    /// Carries out the command that waits.
+    pub fn end(&mut self, out: &mut String) -> Result<(), Memory> {
+        let command = mem::replace(&mut self.waiting, Waiting::none(self.scene.alloc));
+        answered(self.obey(command, out), out)
+    }
+
+    fn obey(&mut self, command: Waiting, out: &mut String) -> Result<(), Trouble> {
+        let Waiting {
+            line,
+            block,
+            has_block,
+        } = command;
+        let mut words = Words::of(line.as_str());
+        let verb = words.next();
+        match verb {
+            "" => {}
+            "look" => self.scene.look = block,
+            "put" => self.put(words, &block)?,
+            "length" => self.set_length(words)?,
+            "new" | "reopen" | "take" => self.restart(verb, words)?,
+            "keep" => self.keep(words)?,
+            "same" | "calls" | "cost" | "pulled" | "dump" => self.show(verb, words, out)?,
+            _ => {
+                if has_block {
+                    self.scene.script = block;
+                }
+                self.run_by(verb, words, out)?;
+            }
+        }
+        Ok(())
+    }
+
+    fn run_by(&mut self, verb: &str, words: Words<'_>, out: &mut String) -> Result<(), Trouble> {
+        match verb {
+            "script" => Ok(()),
+            "run" => self.run(words, out),
+            "each-byte" | "each-place" => self.look_by(verb, words, out),
+            _ => self.each(verb, words, out),
+        }
+    }
+
+    fn run(&mut self, words: Words<'_>, out: &mut String) -> Result<(), Trouble> {
+        let scene = &mut self.scene;
+        let request = Request::read(scene.alloc, words)?;
+        let site = mem::replace(&mut scene.site, MemorySite::new(scene.alloc));
+        let calls = site.calls().len();
+        let told = site.told().len();
+        let (site, ran) = request.carry_out(scene.alloc, &scene.script, site)?;
+        out.push_str("> ")?;
+        push_status(out, ran.status)?;
+        out.push('\n')?;
+        push_lines(out, site.told().get(told..).unwrap_or(&[]))?;
+        scene.site = site;
+        self.last = LastRun {
+            calls,
+            pulled: ran.pulled,
+        };
+        Ok(())
+    }
+
+    fn each(&self, verb: &str, mut words: Words<'_>, out: &mut String) -> Result<(), Trouble> {
+        let scene = &self.scene;
+        let kind = match verb {
+            "each-fault" => Kind::Fault,
+            "each-pull" => Kind::Pull,
+            "each-piece" => Kind::Piece,
+            "each-stop" => return each_stop(scene, &Request::read(scene.alloc, words)?, out),
+            "sweep" => {
+                let seed = words.number()?;
+                let images = words.number()?;
+                let request = Request::read(scene.alloc, words)?;
+                return sweep(scene, &request, seed, images, out);
+            }
+            _ => return Err(Trouble::Unclear),
+        };
+        each(scene, kind, Request::read(scene.alloc, words)?, out)
+    }
+
+    fn look_by(&self, verb: &str, mut words: Words<'_>, out: &mut String) -> Result<(), Trouble> {
+        let file = words.file()?;
+        let first = words.number()?;
+        if verb == "each-byte" {
+            return each_byte(&self.scene, file, first, out);
+        }
+        each_place(&self.scene, file, first, words.number()?, out)
+    }
+
+    fn begin_with(&mut self, files: [Text; 4]) -> Result<(), Trouble> {
+        self.scene.site = MemorySite::from_files(self.scene.alloc, files)?;
+        self.last = NO_RUN;
+        Ok(())
+    }
+
+    // `new`, `reopen`, `reopen IMAGE` or `take NAME`.
+    fn restart(&mut self, verb: &str, mut words: Words<'_>) -> Result<(), Trouble> {
+        let alloc = self.scene.alloc;
+        let files = match verb {
+            "new" => MemorySite::new(alloc).image(alloc, 0)?,
+            "reopen" => self.scene.site.image(alloc, words.number_or(1)?)?,
+            _ => copies(alloc, self.kept(words.rest())?)?,
+        };
+        self.begin_with(files)
+    }
+
+    fn keep(&mut self, words: Words<'_>) -> Result<(), Trouble> {
+        let alloc = self.scene.alloc;
+        let name = String::from_str(alloc, words.rest())?;
+        let files = self.scene.site.image(alloc, 0)?;
+        self.kept.push(Kept { name, files })?;
+        Ok(())
+    }
+
+    fn kept(&self, name: &str) -> Result<&[Text; 4], Trouble> {
+        for kept in self.kept.iter().rev() {
+            if kept.name.as_str() == name {
+                return Ok(&kept.files);
+            }
+        }
+        Err(Trouble::Unclear)
+    }
+
+    // `put FILE PLACE TEXT`, or a block in the place of the text.
+    fn put(&mut self, mut words: Words<'_>, block: &[u8]) -> Result<(), Trouble> {
+        let Scene { alloc, site, .. } = &self.scene;
+        let file = words.file()?;
+        let place = words.number()?;
+        let mut given = Vec::new(*alloc);
+        push_text(&mut given, words.rest(), 0)?;
+        given.extend_from_slice(block)?;
+        let mut bytes = Vec::from_slice(*alloc, site.file(file))?;
+        put(&mut bytes, place, &given)?;
+        let files = with_file(*alloc, site, file, bytes)?;
+        self.begin_with(files)
+    }
+
+    // `length FILE LENGTH`.
+    fn set_length(&mut self, mut words: Words<'_>) -> Result<(), Trouble> {
+        let Scene { alloc, site, .. } = &self.scene;
+        let file = words.file()?;
+        let mut bytes = Vec::from_slice(*alloc, site.file(file))?;
+        set_length(&mut bytes, words.number()?)?;
+        let files = with_file(*alloc, site, file, bytes)?;
+        self.begin_with(files)
+    }
+
+    fn last_calls(&self) -> &[Call] {
+        self.scene
+            .site
+            .calls()
+            .get(self.last.calls..)
+            .unwrap_or(&[])
+    }
+
+    // `same NAME`, `cost`, `pulled`, `calls` or `dump FILE`, the last two with a range behind them or none.
+    fn show(&self, verb: &str, mut words: Words<'_>, out: &mut String) -> Result<(), Trouble> {
+        let site = &self.scene.site;
+        match verb {
+            "same" => differing(site, self.kept(words.rest())?, out)?,
+            "cost" => cost(self.last_calls(), out)?,
+            "pulled" => writeln!(out, "> {} bytes", self.last.pulled)?,
+            "calls" => calls(
+                self.last_calls(),
+                words.number_or(0)?,
+                words.number_or(u64::MAX)?,
+                out,
+            )?,
+            _ => {
+                let bytes = site.file(words.file()?);
+                dump(bytes, words.number_or(0)?, words.number_or(u64::MAX)?, out)?;
+            }
+        }
+        Ok(())
+    }
+}

@@ -1,0 +1,63 @@
+//! The words of a command, which have one space between them.
+ghost use Rattle.std.specs.Prelude.{◌<◌, IfOk};
+
+use crate::trouble::Trouble;
+
+/// The words that are left of a command.
+#[derive(Clone, Copy)]
+pub struct Words<'a> {
+    rest: &'a str,
+}
+
+impl<'a> Words<'a> {
+    /// The words of a line.
+    pub fn of(line: &'a str) -> Words<'a> {
+        Words { rest: line }
+    }
+
+    /// Takes the next word, which is empty where there is none.
+    pub fn next(&mut self) -> &'a str {
+        let (word, rest) = self.rest.split_once(' ').unwrap_or((self.rest, ""));
+        self.rest = rest;
+        word
+    }
+
+    /// What is left as one text.
+    pub fn rest(&self) -> &'a str {
+        self.rest
+    }
+
+    /// Takes a number.
+    pub fn number(&mut self) -> Result<u64, Trouble> {
+        number(self.next())
+    }
+
+    /// Takes a number, or gives another one where no word is left.
+    pub fn number_or(&mut self, other: u64) -> Result<u64, Trouble> {
+        if self.rest.is_empty() {
+            return Ok(other);
+        }
+        self.number()
+    }
+
+    /// Takes the number of a file.
+    pub fn file(&mut self) -> Result<u32, Trouble>
+        ensures { IfOk result (λ file. file < 4) }
+    {
+        match self.next() {
+            "0" => Ok(0),
+            "1" => Ok(1),
+            "2" => Ok(2),
+            "3" => Ok(3),
+            _ => Err(Trouble::Unclear),
+        }
+    }
+}
+
+/// Reads a number.
+pub fn number(word: &str) -> Result<u64, Trouble> {
+    match word.parse::<u64>() {
+        Ok(number) => Ok(number),
+        Err(_) => Err(Trouble::Unclear),
+    }
+}
