@@ -1,0 +1,87 @@
+//! What the plain list of facts answers, a slice that is written, and a script that is fed in pieces.
+ghost use Rattle.std.specs.Prelude.{◌≡◌, [], ◌∷◌, IfOk};
+ghost use Rattle.fact_model.specs.declared.slice.Column.TheVariants.{Sum, Count};
+
+use cube_schema::Schema;
+use fact_model::{
+    Column, ColumnList, Fact, FactList, ListOf, Memory, Row, Slice, Text, Value, slow_slice,
+};
+use script_lang::{Command, Lines};
+use slice_lang::{read_slice, write_slice};
+use std::alloc::Global;
+use std::process::Abort;
+use std::test::Fail;
+
+/// A sale of so many of a part in a year.
+fn sale(alloc: Global, part: &str, year: u64, count: i128) -> Result<Fact, Memory>
+    ensures { IfOk result (λ fact. fact.measures ≡ count ∷ []) }
+{
+    let mut values = ListOf::new(alloc);
+    values.push(Value::Word(Text::from_bytes(alloc, part.as_bytes())?))?;
+    values.push(Value::Number(year))?;
+    let mut measures = ListOf::new(alloc);
+    measures.push(count)?;
+    Ok(Fact { values, measures })
+}
+
+fn sum_and_count(alloc: Global) -> Result<ColumnList, Memory>
+    ensures { IfOk result (λ columns. columns ≡ Sum 0 ∷ Count ∷ []) }
+{
+    let mut columns = ListOf::new(alloc);
+    columns.push(Column::Sum(0))?;
+    columns.push(Column::Count)?;
+    Ok(columns)
+}
+
+fn row_is(rt: &impl Abort, row: &Row, year: u64, numbers: &[i128]) {
+    assert_eq!(rt; row.key.as_slice(), [Value::Number(year)].as_slice());
+    assert_eq!(rt; row.numbers.as_slice(), numbers);
+}
+
+#[test]
+fn slow_slice_by_year(rt: HostRuntime) -> Result<(), Fail> {
+    let alloc = rt.alloc();
+    let mut facts: FactList = ListOf::new(alloc);
+    facts.push(sale(alloc, "bolt", 1997, 5)?)?;
+    facts.push(sale(alloc, "nut", 1997, -2)?)?;
+    facts.push(sale(alloc, "bolt", 1998, 4)?)?;
+    let mut group = ListOf::new(alloc);
+    group.push(1)?;
+    let slice = Slice {
+        columns: sum_and_count(alloc)?,
+        group,
+        conds: ListOf::new(alloc),
+    };
+    let rows = slow_slice(alloc, &facts, &slice)?;
+    assert_eq!(rt; rows.as_slice().len(), 2);
+    row_is(&rt, &rows.as_slice()[0], 1997, &[3, 2]);
+    row_is(&rt, &rows.as_slice()[1], 1998, &[4, 1]);
+    Ok(())
+}
+
+#[test]
+fn the_slice_of_an_example_is_written(rt: HostRuntime) -> Result<(), Fail> {
+    let alloc = rt.alloc();
+    let schema = Schema::read(
+        alloc,
+        b"attr part text\nattr year number\nmeasure qty\nview year\n",
+    )?;
+    let slice = read_slice(alloc, &schema, b"sum(qty),count by year")?;
+    let text = write_slice(alloc, &schema, &slice)?;
+    assert_eq!(rt; text.as_bytes(), b"sum(qty),count by year".as_slice());
+    Ok(())
+}
+
+#[test]
+fn a_script_is_fed_in_pieces(rt: HostRuntime) -> Result<(), Fail> {
+    let mut lines = Lines::new(rt.alloc());
+    lines.feed(b"sta")?;
+    assert!(rt; lines.next_command()?.is_none());
+    lines.feed(b"tus\nfin")?;
+    assert!(rt; matches!(lines.next_command()?, Some(Command::Status)));
+    assert!(rt; lines.next_command()?.is_none());
+    lines.end();
+    assert!(rt; matches!(lines.next_command()?, Some(Command::Unknown)));
+    assert!(rt; lines.next_command()?.is_none());
+    Ok(())
+}
