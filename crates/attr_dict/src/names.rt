@@ -10,9 +10,15 @@ use std::alloc::Global;
 use std::marker::Model;
 
 /// Distinct texts in order of first appearance. Codes count from 1.
-#[derive(Drop)]
 pub(crate) struct Names {
     set: IndexSet<Text>,
+}
+
+// By hand, so that the proof that the set is let go stands here alone and not in each crate that lets names go.
+impl Drop for Names {
+    fn drop(self) {
+        let Names { set: _set } = self;
+    }
 }
 
 impl Model for Names {

@@ -4,6 +4,3 @@
 mod words;
 
 pub use words::{WordsStop, cache_of};
-
-#[cfg(test)]
-mod tests;
