@@ -3,6 +3,7 @@
 #![tactic(auto)]
 
 mod block;
+mod changed;
 mod each;
 mod endings;
 mod files;

@@ -1,13 +1,14 @@
 //! The state of a trial, and its commands.
 
 use crate::block::{push_line, push_text};
+use crate::changed::{each_byte, each_place};
 use crate::each::{Kind, each, each_stop};
 use crate::files::{copies, put, set_length, with_file};
 use crate::print::{push_lines, push_status};
 use crate::request::Request;
 use crate::scene::Scene;
 use crate::show::{calls, cost, differing, dump};
-use crate::sweep::{each_byte, each_place, sweep};
+use crate::sweep::sweep;
 use crate::trouble::Trouble;
 use crate::words::Words;
 use fact_model::{Memory, Text};
