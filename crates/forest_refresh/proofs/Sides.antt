@@ -20,7 +20,8 @@ use Rattle.forest_root.specs.Body.{max_facts}
 use Rattle.forest_root.specs.declared.body.Body.{Body}
 use Rattle.forest_root.specs.declared.forest.Forest.{Forest}
 use Rattle.forest_root.specs.Forest.{counts_of, place_of, shape_of}
-use Rattle.forest_commit.specs.Commit.{DiffersPast, page_size, slot_of}
+use Rattle.site_core.specs.Disk.{DiffersPast}
+use Rattle.forest_commit.specs.Commit.{page_size, slot_of}
 use Rattle.forest_commit.proofs.Kept.{pages_keep}
 use Rattle.forest_pages.specs.Forest.{forest as forest_bytes, page_count as tree_count, tree_bytes, tree_entries, trees_bytes, views_over}
 use Rattle.forest_pages.proofs.Bytes.{pages-long, trees-append}

@@ -9,7 +9,8 @@ ghost use Rattle.tree_pack.specs.Packing.{AreTreePoints};
 ghost use Rattle.tree_pack.specs.Pages.{count_of};
 ghost use Rattle.tree_scan.specs.Scanning.{page_points};
 ghost use Rattle.forest_root.specs.Body.{max_facts};
-ghost use Rattle.forest_root.specs.Causes.{HasCauseWhere};
+ghost use Rattle.site_core.specs.Causes.{HasCauseWhere};
+ghost use Rattle.site_core.specs.Frames.{LooksOnly};
 ghost use Rattle.forest_root.specs.Forest.{place_of};
 ghost use Rattle.forest_pages.specs.Forest.{tree_entries};
 ghost use Rattle.forest_store.specs.Held.{AreAccepted, IsLive};
@@ -60,11 +61,7 @@ pub(crate) fn merged_tree<T: Site>(
         → OnOk result ((arity : ℕ) → arity < 9 → count_of arity merged.new.items ≤ forest.now.body.facts + most) }
     ensures old_capacity { vec_capacity old.old ≤ vec_capacity old.new }
     ensures capacity { vec_capacity merged.old ≤ vec_capacity merged.new }
-    ensures disk { IsTrue T.tells → Rests (T.disk site.old) (T.disk site.new) }
-    ensures cause { HasCauseWhere RefreshStop.Disk (T.disk_faults site.old) (T.disk_faults site.new) result }
-    ensures told_faults { T.told_faults site.new ≡ T.told_faults site.old }
-    ensures reads { T.reads site.new ≤ T.reads site.old + (place_of forest.now tree).pages }
-    ensures writes { T.writes site.new ≡ T.writes site.old }
+    ensures looks { LooksOnly T.Site (HasCauseWhere RefreshStop.Disk) ((place_of forest.now tree).pages) site.old site.new result }
 {
     tree_points(site, forest, tree, old)?;
     match merge_points(old, delta, merged) {

@@ -1,6 +1,7 @@
 //! The new trees are packed and written on the other side, tree after tree.
 ghost use Rattle.std.specs.Prelude.{◌≡◌, ◌≢◌, ◌<◌, ◌≤◌, ◌+◌, ◌*◌, ◌/◌, ◌^◌, ◌++◌, [], ◌∷◌, ℕ, IsTrue, IfOk, IfErr, OnOk, List, flat_map, length, take, vec_capacity, vec_len};
 ghost use Rattle.site_core.specs.Calls.{Changes};
+ghost use Rattle.site_core.specs.Frames.{Calls};
 ghost use Rattle.site_core.specs.Causes.{HasCause};
 ghost use Rattle.fact_model.specs.declared.fact.Fact as facts;
 ghost use Rattle.page_fmt.specs.Writing.{IsShape};
@@ -11,9 +12,10 @@ ghost use Rattle.tree_pack.specs.Packing.{AreTreePoints, AreTreeViews};
 ghost use Rattle.tree_pack.specs.Pages.{Views, count_of, page_bytes, pages_of};
 ghost use Rattle.tree_scan.specs.Scanning.{page_points};
 ghost use Rattle.forest_root.specs.Body.{max_facts};
-ghost use Rattle.forest_root.specs.Causes.{HasCauseWhere};
+ghost use Rattle.site_core.specs.Causes.{HasCauseWhere};
 ghost use Rattle.forest_root.specs.Forest.{place_of};
-ghost use Rattle.forest_commit.specs.Commit.{DiffersPast, max_pages, page_size, slot_of};
+ghost use Rattle.site_core.specs.Disk.{DiffersPast};
+ghost use Rattle.forest_commit.specs.Commit.{max_pages, page_size, slot_of};
 ghost use Rattle.forest_pages.specs.Forest.{body_counts, forest as forest_bytes, tree_bytes, tree_entries};
 ghost use Rattle.forest_store.specs.Held.{AreAccepted, IsLive};
 ghost use Rattle.forest_store.specs.Sides.{page_count, page_total};
@@ -78,9 +80,7 @@ pub(crate) fn write_trees<T: Site>(
     ensures damaged { IsTrue T.tells → IfErr result (TellsFirstDamage forest.now (T.disk site.old).files deltas.now) }
     ensures place { IfErr result (NamesPageIn forest.now.body forest.now.schema) }
     ensures disk { IsTrue T.tells → Changes (DiffersPast (2 + slot) 0) (T.disk site.old) (T.disk site.new) }
-    ensures cause { HasCauseWhere RefreshStop.Disk (T.disk_faults site.old) (T.disk_faults site.new) result }
-    ensures told_faults { T.told_faults site.new ≡ T.told_faults site.old }
-    ensures reads { T.reads site.new ≤ T.reads site.old + page_total forest.now.body forest.now.schema }
+    ensures calls { Calls T.Site (HasCauseWhere RefreshStop.Disk) (page_total forest.now.body forest.now.schema) site.old site.new result }
 {
     room.rows.clear();
     let mut first = 0;
@@ -147,9 +147,7 @@ fn add_tree<T: Site>(
     ensures capacity { vec_capacity room.old.merged ≤ vec_capacity room.new.merged }
     ensures row_capacity { vec_capacity room.old.rows ≤ vec_capacity room.new.rows }
     ensures disk { IsTrue T.tells → Changes (DiffersPast (2 + slot) (page_size * first)) (T.disk site.old) (T.disk site.new) }
-    ensures cause { HasCauseWhere RefreshStop.Disk (T.disk_faults site.old) (T.disk_faults site.new) result }
-    ensures told_faults { T.told_faults site.new ≡ T.told_faults site.old }
-    ensures reads { T.reads site.new ≤ T.reads site.old + (place_of forest.now tree).pages }
+    ensures calls { Calls T.Site (HasCauseWhere RefreshStop.Disk) ((place_of forest.now tree).pages) site.old site.new result }
     ensures wrote { IfOk result (λ next. T.writes site.new + first ≤ T.writes site.old + next) }
 {
     merged_tree(

@@ -16,7 +16,7 @@ returns-in-Ok-clause-written g c = λ tells accepted batch fine all live delta.
     let points = c.deref-2.ensures.value ∙ c.in_ok-merged_tree.ensures.points tells accepted batch fine all live delta in
     tree-behind c.args.forest.now c.args.tree c.requires.tree c.place.result c.place.ensures (accepted ++ batch) all c.deref-2.result.now points c.args.first _ _
     (λ vs are. c.in-Ok.ensures.written tells vs are
-    ∙ ap (λ (f : Files). take (page_size * c.args.first) (f (2 + c.args.slot)) ++ flat_map (page_bytes c.place.result.shape) (pages_of c.place.result.shape c.args.first vs)) (c.merged_tree.ensures.disk tells).files)
+    ∙ ap (λ (f : Files). take (page_size * c.args.first) (f (2 + c.args.slot)) ++ flat_map (page_bytes c.place.result.shape) (pages_of c.place.result.shape c.args.first vs)) (c.merged_tree.ensures.looks.disk tells).files)
 
 pub returns-in-Ok-clause-writes : goal.returns-in-Ok-clause-writes
 returns-in-Ok-clause-writes g c = λ tells accepted batch fine all live delta.
@@ -24,7 +24,7 @@ returns-in-Ok-clause-writes g c = λ tells accepted batch fine all live delta.
     let points = c.deref-2.ensures.value ∙ c.in_ok-merged_tree.ensures.points tells accepted batch fine all live delta in
     let are = views-are forest c.args.tree c.requires.tree c.place.result c.place.ensures (accepted ++ batch) all c.deref-2.result.now points c.args.first in
     let pages = tree-pages forest c.args.tree c.requires.tree c.place.result c.place.ensures (accepted ++ batch) all c.deref-2.result.now points c.args.first (omega (arith, c.requires.few)) in
-    omega (arith, c.in-Ok.ensures.writes _ are, c.merged_tree.ensures.writes, pages)
+    omega (arith, c.in-Ok.ensures.writes _ are, c.merged_tree.ensures.looks.writes, pages)
 
 pub returns-in-Ok-clause-row : goal.returns-in-Ok-clause-row
 returns-in-Ok-clause-row g c = c.put_row.ensures.items ∙ ap (λ (row : List ℕ). c.args.room.now.rows.items ++ row ∷ []) (c.counts.ensures ∙ ap by_arity c.deref.ensures.value)
@@ -43,4 +43,4 @@ returns-in-Err-clause-writes g c = λ tells accepted batch fine all live delta.
     let points = c.deref-2.ensures.value ∙ c.in_ok-merged_tree.ensures.points tells accepted batch fine all live delta in
     let are = views-are forest c.args.tree c.requires.tree c.place.result c.place.ensures (accepted ++ batch) all c.deref-2.result.now points c.args.first in
     let pages = tree-pages forest c.args.tree c.requires.tree c.place.result c.place.ensures (accepted ++ batch) all c.deref-2.result.now points c.args.first (omega (arith, c.requires.few)) in
-    omega (arith, c.in-Err.ensures.writes _ are, c.merged_tree.ensures.writes, pages)
+    omega (arith, c.in-Err.ensures.writes _ are, c.merged_tree.ensures.looks.writes, pages)

@@ -22,7 +22,7 @@ returns-in_err-write_pages-clause-writes g c = λ views are.
     let so_far = c.loop-page.invariant.written in
     let page = c.next_page.ensures.page c.loop-page-test.true in
     let few = packed-few c.args.shape c.requires.shape views c.args.entries.now are c.args.first (so_far.0 ++ page.0 ∷ []) c.next_page.new.self (c.next_page.ensures.shape ∙ c.loop-page.invariant.shape) (page.2 c.args.first so_far.0 so_far.1) in
-    omega (arith, few, so_far.4, length-append so_far.0 (page.0 ∷ []), c.write_pages.ensures.writes, c.next_page.array_long)
+    omega (arith, few, so_far.4, length-append so_far.0 (page.0 ∷ []), c.write_pages.ensures.calls.writes, c.next_page.array_long)
 
 pub overflow_add-number : goal.overflow_add-number
 overflow_add-number g c =
@@ -47,7 +47,7 @@ loop-page-preserved g c =
         page.2 c.args.first so_far.0 so_far.1,
         omega (arith, so_far.2, length-append so_far.0 (page.0 ∷ [])),
         (λ tells. page-behind c.args.shape c.loop-page.number (c.loop-page.number + 1) _ c.next_page.new.into _ _ so_far.0 page.0 bytes c.next_page.array_long (omega arith) (c.loop-page.invariant.place tells) (c.in_ok-write_pages.ensures.written tells) (so_far.3 tells)),
-        omega (arith, so_far.4, length-append so_far.0 (page.0 ∷ []), c.write_pages.ensures.writes, c.next_page.array_long),
+        omega (arith, so_far.4, length-append so_far.0 (page.0 ∷ []), c.write_pages.ensures.calls.writes, c.next_page.array_long),
       );
       shape = c.next_page.ensures.shape ∙ c.loop-page.invariant.shape;
       place = λ tells. page-reached c.args.shape c.loop-page.number (c.loop-page.number + 1) [] c.next_page.new.into _ _ so_far.0 page.0 bytes c.next_page.array_long (omega arith) (c.loop-page.invariant.place tells) (c.in_ok-write_pages.ensures.written tells);

@@ -37,10 +37,14 @@ add_tree-requires-clause-few g c = omega (arith, c.loop-tree.invariant.low, low 
 pub returns-in_err-first-clause-disk : goal.returns-in_err-first-clause-disk
 returns-in_err-first-clause-disk g c = λ tells. written-on (2 + c.args.slot) 0 (page_size * c.loop-tree.first) _ _ _ (omega arith) (c.loop-tree.invariant.disk tells) (c.add_tree.ensures.disk tells)
 
-pub returns-in_err-first-clause-reads : goal.returns-in_err-first-clause-reads
-returns-in_err-first-clause-reads g c =
-    let at = (goal.at.returns-in_err-first-clause-reads g c).After-as_slice-delta in
-    omega (arith, c.loop-tree.invariant.reads, c.add_tree.ensures.reads, part-total c.args.forest.now c.loop-tree.tree (low g at))
+pub returns-in_err-first-clause-calls : goal.returns-in_err-first-clause-calls
+returns-in_err-first-clause-calls g c =
+    let at = (goal.at.returns-in_err-first-clause-calls g c).After-as_slice-delta in
+    record {
+      cause = search rules;
+      told_faults = search rules;
+      reads = omega (arith, c.loop-tree.invariant.reads, c.add_tree.ensures.calls.reads, part-total c.args.forest.now c.loop-tree.tree (low g at));
+    }
 
 pub returns-in_err-first-clause-undamaged : goal.returns-in_err-first-clause-undamaged
 returns-in_err-first-clause-undamaged g c = λ tells accepted batch fine all live same.
@@ -111,7 +115,7 @@ loop-tree-preserved g c =
       disk = λ tells. written-on (2 + c.args.slot) 0 (page_size * c.loop-tree.first) _ _ _ (omega arith) (inv.disk tells) (c.add_tree.ensures.disk tells);
       faults = search rules;
       told_faults = search rules;
-      reads = omega (arith, inv.reads, c.add_tree.ensures.reads, pages-more forest t (low g at));
+      reads = omega (arith, inv.reads, c.add_tree.ensures.calls.reads, pages-more forest t (low g at));
       writes = omega (arith, inv.writes, c.in_ok-first.ensures.wrote);
       before = omega (arith, inv.before, c.add_tree.ensures.old_capacity);
       merged = omega (arith, inv.merged, c.add_tree.ensures.capacity);

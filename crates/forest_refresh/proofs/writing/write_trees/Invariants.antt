@@ -2,7 +2,8 @@ use Rattle.std.proofs.Common.{◌≡◌, ◌<◌, ◌≤◌, ◌+◌, ◌*◌, �
 use Rattle.std.specs.Prelude.{vec_capacity, vec_len}
 use Rattle.site_core.specs.Calls.{Changes}
 use Rattle.fact_model.specs.declared.fact.Fact.{Fact}
-use Rattle.forest_commit.specs.Commit.{DiffersPast, page_size}
+use Rattle.site_core.specs.Disk.{DiffersPast}
+use Rattle.forest_commit.specs.Commit.{page_size}
 use Rattle.forest_root.specs.Forest.{pages_of_all}
 use Rattle.forest_store.specs.Held.{AreAccepted, IsLive}
 use Rattle.forest_refresh.specs.Trees.{AreAllAdded, IsWholeFor, deltas_of}
