@@ -5,12 +5,12 @@ use Rattle.std.specs.List.{All}
 use Rattle.std.specs.Prelude.{slice_index}
 use Rattle.site_core.specs.Disk.{Files, Disk}
 use Rattle.site_core.specs.Moments.{LeavesOnly, IsStable}
-use Rattle.site_core.proofs.Run.{joined, wider}
+use Rattle.site_core.proofs.Run.{holds_to, joined, stable_holds, wider}
 use Rattle.cube_schema.specs.Agreeing.{Agrees}
 use Rattle.cube_schema.specs.declared.schema.Schema.{Schema}
 use Rattle.fact_model.specs.declared.fact.Fact.{Fact}
 use Rattle.forest_refresh.specs.Back.{IsBack}
-use Rattle.forest_refresh.specs.Begun.{Begun, IsRefreshOf}
+use Rattle.forest_refresh.specs.Begun.{Begun, IsReady, IsRefreshOf}
 use Rattle.forest_refresh.specs.Limits.{TellsLimit}
 use Rattle.forest_refresh.specs.Refreshed as refreshes
 use Rattle.forest_refresh.specs.declared.stop.BeginStop.{BeginStop}
@@ -18,6 +18,7 @@ use Rattle.forest_refresh.specs.declared.stop.BeginStop.TheVariants as begins
 use Rattle.forest_root.specs.declared.forest.Forest.{Forest}
 use Rattle.forest_root.specs.declared.forest.Store.{Store}
 use Rattle.forest_store.specs.Held.{AreAccepted, IsLive, KeepsFacts}
+use Rattle.forest_store.specs.Opened.{IsOpened}
 use Rattle.forest_store.specs.Stored.{IsStoreOf}
 use Rattle.reply_text.specs.Replies.{committed_text, line}
 use Rattle.plain_machine.specs.Stages.{size}
@@ -52,21 +53,21 @@ module _ (store : Store) (old new : Disk) (warehouse : Warehouse) (batch : List 
       (λ told files both. (both.0, inl (record { lawful = is.lawful; kept = subst (λ (s : Schema). KeepsFacts s warehouse.facts files) is.schema both.1 }))) run
 
   -- it has begun
-  pub begin_attends : (r : Begun) → r.store.forest ≡ store.forest → IsRefreshOf r warehouse.facts batch new.files → 0 < length batch → IsStable new
+  pub begin_attends : (r : Begun) → r.store.forest ≡ store.forest → IsRefreshOf r warehouse.facts batch new.files → IsStable new → 0 < length batch → IsReady r new
       → Attends r new warehouse batch
-  begin_attends r same adds some stable = record {
+  begin_attends r same adds stable some ready = record {
     lawful = is.lawful;
     schema = ap (λ (f : Forest). f.schema) same ∙ is.schema;
-    adds = adds;
+    adds = stable_holds (IsRefreshOf r warehouse.facts batch) new stable adds;
     some = some;
-    stable = stable;
+    ready = ready;
   }
 
 -- so it is pending
 module _ (r : Begun) (new : Disk) (warehouse : Warehouse) (batch : List Fact) (is : Attends r new warehouse batch) where
   -- all facts keep the limits
   pub all_fine : AreAccepted warehouse.schema (warehouse.facts ++ batch)
-  all_fine = subst (λ (s : Schema). AreAccepted s (warehouse.facts ++ batch)) is.schema is.adds.all
+  all_fine = subst (λ (s : Schema). AreAccepted s (warehouse.facts ++ batch)) is.schema is.adds.read.all
 
   now_begun : begun_or_refused (idle warehouse) warehouse batch ≡ begun warehouse batch
   now_begun = all_begun warehouse batch is.lawful.schema (idle warehouse) all_fine
@@ -104,12 +105,12 @@ pub back_belongs : (store back : Store) (disk : Disk) (warehouse : Warehouse) �
 back_belongs store back disk warehouse same is = record {
   lawful = is.lawful;
   schema = ap (λ (f : Forest). f.schema) same.forest ∙ is.schema;
-  stored = record {
-    accepted = subst (λ (f : Forest). AreAccepted f.schema warehouse.facts) (sym same.forest) is.stored.accepted;
-    live = subst (λ (f : Forest). IsLive f.schema f.body warehouse.facts disk.files) (sym same.forest) is.stored.live;
-    names = λ a. (λ i. take (slice_index (same.shown i).at a) (same.names a i)) ∙ is.stored.names a;
-  };
-  stable = is.stable;
+  stored = holds_to (IsStoreOf store warehouse.facts) (IsStoreOf back warehouse.facts) disk (λ files stored. record {
+    accepted = subst (λ (f : Forest). AreAccepted f.schema warehouse.facts) (sym same.forest) stored.accepted;
+    live = subst (λ (f : Forest). IsLive f.schema f.body warehouse.facts files) (sym same.forest) stored.live;
+    names = λ a. (λ i. take (slice_index (same.shown i).at a) (same.names a i)) ∙ stored.names a;
+  }) is.stored;
+  opened = subst (λ (f : Forest). IsOpened f.body disk) (sym same.forest) is.opened;
 }
 
 -- a refusal has a limit as its cause
@@ -165,9 +166,9 @@ module _ (r : Begun) (old new : Disk) (warehouse : Warehouse) (batch : List Fact
       by files (inl kept) = inl (record { lawful = is.lawful; kept = kept })
       by files (inr both) = inr (record { lawful = all_lawful; kept = both.1 })
 
-  module _ (now : Store) (schema : now.forest.schema ≡ r.store.forest.schema) (stored : IsStoreOf now (warehouse.facts ++ batch) new.files) (stable : IsStable new) where
+  module _ (now : Store) (schema : now.forest.schema ≡ r.store.forest.schema) (stored : IsStoreOf now (warehouse.facts ++ batch) new.files) (stable : IsStable new) (opened : IsOpened now.forest.body new) where
     committed_belongs : Belongs now new next
-    committed_belongs = record { lawful = all_lawful; schema = schema ∙ is.schema; stored = stored; stable = stable }
+    committed_belongs = record { lawful = all_lawful; schema = schema ∙ is.schema; stored = stable_holds (IsStoreOf now (warehouse.facts ++ batch)) new stable stored; opened = opened }
 
     pub committed_answer : (result : Result Answered Stop) → IfOk result (λ done. done.state ≡ Idle now)
         → IfOk result (λ done. done.reply.items ≡ committed_text now.forest.body.facts) → IfOk result (IsAnswer new (committed warehouse batch))
@@ -191,7 +192,7 @@ abandoned r store disk world (Ok done) same given is state =
     let belongs : Belongs store disk is.0 = record {
       lawful = is.3.lawful;
       schema = ap (λ (f : Forest). f.schema) same ∙ is.3.schema;
-      stored = given is.0.facts is.1 disk.files is.3.adds;
-      stable = is.3.stable;
+      stored = holds_to (IsRefreshOf r is.0.facts is.1) (IsStoreOf store is.0.facts) disk (given is.0.facts is.1) is.3.adds;
+      opened = subst (λ (f : Forest). IsOpened f.body disk) (sym same) is.3.ready.opened;
     } in
     subst (λ (s : State). Stands s disk (abandon world).0) (sym state) (is.0, ap (λ (w : World). (abandon w).0) is.2, belongs)

@@ -6,8 +6,9 @@ ghost use Rattle.forest_store.specs.Stored.{IsWhole};
 ghost use Rattle.reply_text.specs.Replies.{committed_text};
 ghost use Rattle.plain_machine.specs.Machine.{committed};
 ghost use Rattle.plain_machine.specs.World.{Warehouse, idle};
-ghost use Rattle.cube_state.specs.Stops.{IsNoDamage, StopCause};
-ghost use Rattle.cube_state.specs.Session.{Attends, Between, IsAnswer, IsFit, IsRunning};
+ghost use Rattle.cube_state.specs.Frames.{IsQuiet, RunsOn};
+ghost use Rattle.cube_state.specs.Stops.{IsNoDamage};
+ghost use Rattle.cube_state.specs.Session.{Attends, Between, IsAnswer};
 ghost use Rattle.cube_batches.specs.Gives.{IsFinished};
 ghost use Rattle.cube_batches.specs.Told.{TellsRefreshDamage};
 
@@ -30,12 +31,8 @@ pub fn commit<T: Site>(alloc: Global, refresh: Refresh, site: &mut T) -> Result<
     ensures damage { IsTrue T.tells → IfErr result (TellsRefreshDamage refresh (T.disk site.old).files) }
     ensures answered { IsTrue T.tells → IfOk result (λ done. IsFinished refresh (T.disk site.old).files done.reply.items) }
 
-    ensures running { IfOk result (λ done. IsRunning done.state) }
-    ensures fit { IsTrue T.tells → IfOk result (λ done. IsFit done.state (T.disk site.new)) }
-    ensures told { IsTrue T.tells → (T.disk site.new).told ≡ (T.disk site.old).told }
-    ensures cause { IfErr result (StopCause (T.disk_faults site.old) (T.disk_faults site.new) (T.told_faults site.old) (T.told_faults site.new)) }
-    ensures disk_faults { OnOk result (T.disk_faults site.new ≡ T.disk_faults site.old) }
-    ensures told_faults { T.told_faults site.new ≡ T.told_faults site.old }
+    ensures runs { IfOk result (λ done. RunsOn T.Site site.new done.state) }
+    ensures quiet { IsQuiet T.Site site.old site.new result }
 {
     match refresh.finish(site) {
         Ok(store) => acknowledge(alloc, store),

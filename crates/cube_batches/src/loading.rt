@@ -1,17 +1,16 @@
 //! The commands `load` and `generate`.
 ghost use Rattle.std.specs.Prelude.{◌≡◌, IsTrue, OnOk, IfOk, IfErr, Some};
-ghost use Rattle.std.specs.List.{All};
-ghost use Rattle.cube_schema.specs.Agreeing.{Agrees};
 ghost use Rattle.cube_schema.specs.Kinds.{name_at, measure_name_at};
 ghost use Rattle.forest_store.specs.Opened.{IsOpened};
 ghost use Rattle.forest_store.specs.Stored.{IsWhole};
 ghost use Rattle.plain_machine.specs.Machine.{accepted, batch_from, load};
 ghost use Rattle.plain_machine.specs.World.{Warehouse, World, idle};
-ghost use Rattle.cube_state.specs.Stops.{IsNoDamage, StopCause};
-ghost use Rattle.cube_state.specs.Session.{Belongs, Between, IsAnswer, IsFit, IsRunning, Stands};
-ghost use Rattle.cube_batches.specs.Refusals.{begin_stop};
+ghost use Rattle.cube_state.specs.Frames.{IsQuiet, RunsOn};
+ghost use Rattle.cube_state.specs.Stops.{IsNoDamage};
+ghost use Rattle.cube_state.specs.Session.{Belongs, Between, IsAnswer, Stands};
 ghost use Rattle.cube_batches.specs.Gives.{GivesBatch, GivesSource, LoadGives};
-ghost use Rattle.cube_batches.specs.Refusals.{refusal_text};
+ghost use Rattle.cube_batches.specs.Refusals.{begin_stop, refusal_text};
+ghost use Rattle.cube_batches.specs.Reading.{IsRows};
 ghost use Rattle.cube_batches.specs.Told.{LoadTells, TellsBatchDamage, TellsSourceDamage};
 
 use crate::batch::{Read, read_source};
@@ -33,8 +32,7 @@ pub fn load<T: Site>(
     source: BatchSource,
     site: &mut T,
 ) -> Result<Answered, Stop>
-    requires running { IsRunning state }
-    requires fit { IsTrue T.tells → IsFit state (T.disk site.old) }
+    requires runs { RunsOn T.Site site.old state }
 
     ensures answer { IsTrue T.tells → (world : World) → Stands state (T.disk site.old) world
         → IfOk result (IsAnswer (T.disk site.new) (load world source)) }
@@ -47,15 +45,10 @@ pub fn load<T: Site>(
     ensures unwritten { IsTrue T.tells → (world : World) → Stands state (T.disk site.old) world
         → (load world source).0.kept ≡ world.kept → OnOk result (T.writes site.new ≡ T.writes site.old) }
 
-    ensures running { IfOk result (λ done. IsRunning done.state) }
-    ensures fit { IsTrue T.tells → IfOk result (λ done. IsFit done.state (T.disk site.new)) }
-    ensures told { IsTrue T.tells → (T.disk site.new).told ≡ (T.disk site.old).told }
-    ensures cause { IfErr result (StopCause (T.disk_faults site.old) (T.disk_faults site.new) (T.told_faults site.old) (T.told_faults site.new)) }
-    ensures disk_faults { OnOk result (T.disk_faults site.new ≡ T.disk_faults site.old) }
-    ensures told_faults { T.told_faults site.new ≡ T.told_faults site.old }
+    ensures runs { IfOk result (λ done. RunsOn T.Site site.new done.state) }
+    ensures quiet { IsQuiet T.Site site.old site.new result }
 {
     match state {
-        State::Stopped => Err(Stop::Memory),
         State::Empty => plain(alloc, State::Empty, "refused no schema"),
         State::Idle(store) => load_source(alloc, store, source, site),
         State::Hollow(store) => plain(alloc, State::Hollow(store), "refused pending"),
@@ -85,12 +78,8 @@ fn load_source<T: Site>(
     ensures unwritten { IsTrue T.tells → (warehouse : Warehouse) → Belongs store (T.disk site.old) warehouse
         → (load (idle warehouse) source).0.kept ≡ Some warehouse → OnOk result (T.writes site.new ≡ T.writes site.old) }
 
-    ensures running { IfOk result (λ done. IsRunning done.state) }
-    ensures fit { IsTrue T.tells → IfOk result (λ done. IsFit done.state (T.disk site.new)) }
-    ensures told { IsTrue T.tells → (T.disk site.new).told ≡ (T.disk site.old).told }
-    ensures cause { IfErr result (StopCause (T.disk_faults site.old) (T.disk_faults site.new) (T.told_faults site.old) (T.told_faults site.new)) }
-    ensures disk_faults { OnOk result (T.disk_faults site.new ≡ T.disk_faults site.old) }
-    ensures told_faults { T.told_faults site.new ≡ T.told_faults site.old }
+    ensures runs { IfOk result (λ done. RunsOn T.Site site.new done.state) }
+    ensures quiet { IsQuiet T.Site site.old site.new result }
 {
     match read_source(alloc, &store.forest.schema, source)? {
         Read::Batch(batch) => take_in(alloc, store, batch, site),
@@ -108,7 +97,7 @@ fn take_in<T: Site>(
     batch: FactList,
     site: &mut T,
 ) -> Result<Answered, Stop>
-    requires agree { All (Agrees store.forest.schema) batch }
+    requires batch { IsRows store.forest.schema batch }
     requires whole { IsWhole store }
     requires fit { IsTrue T.tells → IsOpened store.forest.body (T.disk site.old) }
 
@@ -123,12 +112,8 @@ fn take_in<T: Site>(
     ensures unwritten { IsTrue T.tells → (warehouse : Warehouse) → Belongs store (T.disk site.old) warehouse
         → (accepted (idle warehouse) warehouse batch).0.kept ≡ Some warehouse → OnOk result (T.writes site.new ≡ T.writes site.old) }
 
-    ensures running { IfOk result (λ done. IsRunning done.state) }
-    ensures fit { IsTrue T.tells → IfOk result (λ done. IsFit done.state (T.disk site.new)) }
-    ensures told { IsTrue T.tells → (T.disk site.new).told ≡ (T.disk site.old).told }
-    ensures cause { IfErr result (StopCause (T.disk_faults site.old) (T.disk_faults site.new) (T.told_faults site.old) (T.told_faults site.new)) }
-    ensures disk_faults { OnOk result (T.disk_faults site.new ≡ T.disk_faults site.old) }
-    ensures told_faults { T.told_faults site.new ≡ T.told_faults site.old }
+    ensures runs { IfOk result (λ done. RunsOn T.Site site.new done.state) }
+    ensures quiet { IsQuiet T.Site site.old site.new result }
 {
     if batch.as_slice().is_empty() {
         return acknowledge(alloc, store);

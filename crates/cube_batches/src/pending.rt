@@ -1,15 +1,15 @@
 //! The commands `begin`, `step`, `finish` and `abandon`, over a batch that is pending.
 ghost use Rattle.std.specs.Prelude.{◌≡◌, ◌≤◌, ◌+◌, IsTrue, OnOk, IfOk, IfErr, Ok};
-ghost use Rattle.std.specs.List.{All};
-ghost use Rattle.cube_schema.specs.Agreeing.{Agrees};
 ghost use Rattle.forest_store.specs.Opened.{IsOpened};
 ghost use Rattle.forest_store.specs.Stored.{IsWhole};
 ghost use Rattle.plain_machine.specs.Machine.{abandon, begin, begun_or_refused, block_read, finish};
 ghost use Rattle.plain_machine.specs.World.{Warehouse, World, idle};
-ghost use Rattle.cube_state.specs.Stops.{IsNoDamage, StopCause};
-ghost use Rattle.cube_state.specs.Session.{Belongs, Between, IsAnswer, IsFit, IsRunning, Stands, abandon_text, step_text};
+ghost use Rattle.cube_state.specs.Frames.{IsQuiet, RunsOn};
+ghost use Rattle.cube_state.specs.Stops.{IsNoDamage};
+ghost use Rattle.cube_state.specs.Session.{Belongs, Between, IsAnswer, IsRunning, Stands, abandon_text, step_text};
 ghost use Rattle.cube_batches.specs.Costs.{begins};
 ghost use Rattle.cube_batches.specs.Gives.{BeginGives, FinishGives, GivesBegun};
+ghost use Rattle.cube_batches.specs.Reading.{IsRows};
 ghost use Rattle.cube_batches.specs.Told.{FinishTells};
 
 use crate::batch::{Read, read_block};
@@ -31,8 +31,7 @@ pub fn begin<T: Site>(
     block: Block,
     site: &mut T,
 ) -> Result<Answered, Stop>
-    requires running { IsRunning state }
-    requires fit { IsTrue T.tells → IsFit state (T.disk site.old) }
+    requires runs { RunsOn T.Site site.old state }
 
     ensures answer { IsTrue T.tells → (world : World) → Stands state (T.disk site.old) world
         → IfOk result (IsAnswer (T.disk site.new) (begin world block)) }
@@ -44,15 +43,10 @@ pub fn begin<T: Site>(
         → OnOk result (T.writes site.new ≤ T.writes site.old + begins world (begin world block).0) }
     ensures silent { IsTrue T.tells → (world : World) → Stands state (T.disk site.old) world
         → begins world (begin world block).0 ≡ 0 → OnOk result (T.writes site.new ≡ T.writes site.old) }
-    ensures running { IfOk result (λ done. IsRunning done.state) }
-    ensures fit { IsTrue T.tells → IfOk result (λ done. IsFit done.state (T.disk site.new)) }
-    ensures told { IsTrue T.tells → (T.disk site.new).told ≡ (T.disk site.old).told }
-    ensures cause { IfErr result (StopCause (T.disk_faults site.old) (T.disk_faults site.new) (T.told_faults site.old) (T.told_faults site.new)) }
-    ensures disk_faults { OnOk result (T.disk_faults site.new ≡ T.disk_faults site.old) }
-    ensures told_faults { T.told_faults site.new ≡ T.told_faults site.old }
+    ensures runs { IfOk result (λ done. RunsOn T.Site site.new done.state) }
+    ensures quiet { IsQuiet T.Site site.old site.new result }
 {
     match state {
-        State::Stopped => Err(Stop::Memory),
         State::Empty => plain(alloc, State::Empty, "refused no schema"),
         State::Idle(store) => begin_block(alloc, store, block, site),
         State::Hollow(store) => plain(alloc, State::Hollow(store), "refused pending"),
@@ -80,12 +74,8 @@ fn begin_block<T: Site>(
         → OnOk result (T.writes site.new ≤ T.writes site.old + begins (idle warehouse) (begin (idle warehouse) block).0) }
     ensures silent { IsTrue T.tells → (warehouse : Warehouse) → Belongs store (T.disk site.old) warehouse
         → begins (idle warehouse) (begin (idle warehouse) block).0 ≡ 0 → OnOk result (T.writes site.new ≡ T.writes site.old) }
-    ensures running { IfOk result (λ done. IsRunning done.state) }
-    ensures fit { IsTrue T.tells → IfOk result (λ done. IsFit done.state (T.disk site.new)) }
-    ensures told { IsTrue T.tells → (T.disk site.new).told ≡ (T.disk site.old).told }
-    ensures cause { IfErr result (StopCause (T.disk_faults site.old) (T.disk_faults site.new) (T.told_faults site.old) (T.told_faults site.new)) }
-    ensures disk_faults { OnOk result (T.disk_faults site.new ≡ T.disk_faults site.old) }
-    ensures told_faults { T.told_faults site.new ≡ T.told_faults site.old }
+    ensures runs { IfOk result (λ done. RunsOn T.Site site.new done.state) }
+    ensures quiet { IsQuiet T.Site site.old site.new result }
 {
     match read_block(alloc, &store.forest.schema, block)? {
         Read::Batch(batch) => begin_batch(alloc, store, batch, site),
@@ -103,7 +93,7 @@ fn begin_batch<T: Site>(
     batch: FactList,
     site: &mut T,
 ) -> Result<Answered, Stop>
-    requires agree { All (Agrees store.forest.schema) batch }
+    requires batch { IsRows store.forest.schema batch }
     requires whole { IsWhole store }
     requires fit { IsTrue T.tells → IsOpened store.forest.body (T.disk site.old) }
 
@@ -118,12 +108,8 @@ fn begin_batch<T: Site>(
     ensures silent { IsTrue T.tells → (warehouse : Warehouse) → Belongs store (T.disk site.old) warehouse
         → begins (idle warehouse) (begun_or_refused (idle warehouse) warehouse batch).0 ≡ 0
         → OnOk result (T.writes site.new ≡ T.writes site.old) }
-    ensures running { IfOk result (λ done. IsRunning done.state) }
-    ensures fit { IsTrue T.tells → IfOk result (λ done. IsFit done.state (T.disk site.new)) }
-    ensures told { IsTrue T.tells → (T.disk site.new).told ≡ (T.disk site.old).told }
-    ensures cause { IfErr result (StopCause (T.disk_faults site.old) (T.disk_faults site.new) (T.told_faults site.old) (T.told_faults site.new)) }
-    ensures disk_faults { OnOk result (T.disk_faults site.new ≡ T.disk_faults site.old) }
-    ensures told_faults { T.told_faults site.new ≡ T.told_faults site.old }
+    ensures runs { IfOk result (λ done. RunsOn T.Site site.new done.state) }
+    ensures quiet { IsQuiet T.Site site.old site.new result }
 {
     if batch.as_slice().is_empty() {
         return plain(alloc, State::Hollow(store), "begun");
@@ -143,7 +129,6 @@ pub fn step(alloc: Global, state: State) -> Result<Answered, Stop>
     ensures memory { IfErr result (λ stop. stop ≡ Stop.Memory) }
 {
     match state {
-        State::Stopped => Err(Stop::Memory),
         State::Empty => plain(alloc, State::Empty, "refused nothing pending"),
         State::Idle(store) => plain(alloc, State::Idle(store), "refused nothing pending"),
         State::Hollow(store) => plain(alloc, State::Hollow(store), "stepped"),
@@ -154,8 +139,7 @@ pub fn step(alloc: Global, state: State) -> Result<Answered, Stop>
 /// Commits the pending batch and acknowledges it, or refuses where there is none. A stop at any moment leaves the files with the facts of the
 /// batch or without them, and so does an error, which ends the session: a file failed, a page is not sound, or memory ran out.
 pub fn finish<T: Site>(alloc: Global, state: State, site: &mut T) -> Result<Answered, Stop>
-    requires running { IsRunning state }
-    requires fit { IsTrue T.tells → IsFit state (T.disk site.old) }
+    requires runs { RunsOn T.Site site.old state }
 
     ensures answer { IsTrue T.tells → (world : World) → Stands state (T.disk site.old) world
         → IfOk result (IsAnswer (T.disk site.new) (finish world)) }
@@ -168,15 +152,10 @@ pub fn finish<T: Site>(alloc: Global, state: State, site: &mut T) -> Result<Answ
     ensures unwritten { IsTrue T.tells → (world : World) → Stands state (T.disk site.old) world
         → (finish world).0.kept ≡ world.kept → OnOk result (T.writes site.new ≡ T.writes site.old) }
 
-    ensures running { IfOk result (λ done. IsRunning done.state) }
-    ensures fit { IsTrue T.tells → IfOk result (λ done. IsFit done.state (T.disk site.new)) }
-    ensures told { IsTrue T.tells → (T.disk site.new).told ≡ (T.disk site.old).told }
-    ensures cause { IfErr result (StopCause (T.disk_faults site.old) (T.disk_faults site.new) (T.told_faults site.old) (T.told_faults site.new)) }
-    ensures disk_faults { OnOk result (T.disk_faults site.new ≡ T.disk_faults site.old) }
-    ensures told_faults { T.told_faults site.new ≡ T.told_faults site.old }
+    ensures runs { IfOk result (λ done. RunsOn T.Site site.new done.state) }
+    ensures quiet { IsQuiet T.Site site.old site.new result }
 {
     match state {
-        State::Stopped => Err(Stop::Memory),
         State::Empty => plain(alloc, State::Empty, "refused nothing pending"),
         State::Idle(store) => plain(alloc, State::Idle(store), "refused nothing pending"),
         State::Hollow(store) => acknowledge(alloc, store),
@@ -186,18 +165,15 @@ pub fn finish<T: Site>(alloc: Global, state: State, site: &mut T) -> Result<Answ
 
 /// Drops the pending batch, without a call on a file, or refuses where there is none. An error is want of memory.
 pub fn abandon<T: Site>(alloc: Global, state: State, _site: &T) -> Result<Answered, Stop>
-    requires running { IsRunning state }
-    requires fit { IsTrue T.tells → IsFit state (T.disk _site.now) }
+    requires runs { RunsOn T.Site _site.now state }
 
     ensures stands { IsTrue T.tells → (world : World) → Stands state (T.disk _site.now) world
         → IfOk result (λ done. Stands done.state (T.disk _site.now) (abandon world).0) }
     ensures reply { IfOk result (λ done. done.reply.items ≡ abandon_text state) }
-    ensures running { IfOk result (λ done. IsRunning done.state) }
-    ensures fit { IsTrue T.tells → IfOk result (λ done. IsFit done.state (T.disk _site.now)) }
+    ensures runs { IfOk result (λ done. RunsOn T.Site _site.now done.state) }
     ensures memory { IfErr result (λ stop. stop ≡ Stop.Memory) }
 {
     match state {
-        State::Stopped => Err(Stop::Memory),
         State::Empty => plain(alloc, State::Empty, "refused nothing pending"),
         State::Idle(store) => plain(alloc, State::Idle(store), "refused nothing pending"),
         State::Hollow(store) => plain(alloc, State::Idle(store), "abandoned"),

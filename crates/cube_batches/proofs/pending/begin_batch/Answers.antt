@@ -31,7 +31,7 @@ returns-in-Ok-clause-answer g c = λ t warehouse is.
     let slice = c.as_slice.ensures in
     let some : 0 < length c.args.batch = grind (arith, nat_tests, ap length slice) in
     let attends = begin_attends c.args.store old new warehouse c.args.batch is c.in-Ok.refresh c.in-Ok.ensures.forest
-    (c.in-Ok.ensures.begun t warehouse.facts is.stored) some (c.in-Ok.ensures.ready t).opened.stable in
+    (c.in-Ok.ensures.begun t warehouse.facts is.stored.read) (c.in-Ok.ensures.stable t) some (c.in-Ok.ensures.ready t) in
     begun_answer c.in-Ok.refresh new warehouse c.args.batch attends c.plain-in-Ok.result c.plain-in-Ok.ensures.state c.plain-in-Ok.ensures.reply
 
 pub returns-in-Ok-clause-any_moment : goal.returns-in-Ok-clause-any_moment
@@ -45,8 +45,8 @@ returns-in-Ok-clause-unwritten g c = λ t warehouse is.
     let slice = c.as_slice.ensures in
     let some : 0 < length c.args.batch = grind (arith, nat_tests, ap length slice) in
     let attends = begin_attends c.args.store old new warehouse c.args.batch is c.in-Ok.refresh c.in-Ok.ensures.forest
-    (c.in-Ok.ensures.begun t warehouse.facts is.stored) some (c.in-Ok.ensures.ready t).opened.stable in
-    begun_writes c.in-Ok.refresh new warehouse c.args.batch attends c.plain-in-Ok.result _ _ c.begin.ensures.writes
+    (c.in-Ok.ensures.begun t warehouse.facts is.stored.read) (c.in-Ok.ensures.stable t) some (c.in-Ok.ensures.ready t) in
+    begun_writes c.in-Ok.refresh new warehouse c.args.batch attends c.plain-in-Ok.result _ _ c.begin.ensures.calls.writes
 
 pub returns-in-Ok-clause-silent : goal.returns-in-Ok-clause-silent
 returns-in-Ok-clause-silent g c = λ t warehouse is none.
@@ -55,7 +55,7 @@ returns-in-Ok-clause-silent g c = λ t warehouse is none.
     let slice = c.as_slice.ensures in
     let some : 0 < length c.args.batch = grind (arith, nat_tests, ap length slice) in
     let attends = begin_attends c.args.store old new warehouse c.args.batch is c.in-Ok.refresh c.in-Ok.ensures.forest
-    (c.in-Ok.ensures.begun t warehouse.facts is.stored) some (c.in-Ok.ensures.ready t).opened.stable in
+    (c.in-Ok.ensures.begun t warehouse.facts is.stored.read) (c.in-Ok.ensures.stable t) some (c.in-Ok.ensures.ready t) in
     absurd (does_begin c.in-Ok.refresh new warehouse c.args.batch attends none)
 
 pub returns-in-Err-clause-silent : goal.returns-in-Err-clause-silent
@@ -65,8 +65,8 @@ returns-in-Err-clause-silent g c = λ t warehouse is none.
 
 pub returns-in-Err-clause-answer : goal.returns-in-Err-clause-answer
 returns-in-Err-clause-answer g c = λ t warehouse is.
-    refused_answer c.args.store c.in-Err.fault.store (g.T.Site.disk c.args.site.now) (g.T.Site.disk c.begin.new.site) warehouse c.args.batch c.in-Err.fault.why is c.requires.agree
-    (c.in-Err.ensures.limit warehouse.facts (g.T.Site.disk c.args.site.now).files is.stored) c.in-Err.ensures.back (λ apart. ap g.T.Site.disk (c.in-Err.ensures.untouched apart))
+    refused_answer c.args.store c.in-Err.fault.store (g.T.Site.disk c.args.site.now) (g.T.Site.disk c.begin.new.site) warehouse c.args.batch c.in-Err.fault.why is c.requires.batch.agree
+    (c.in-Err.ensures.limit warehouse.facts (g.T.Site.disk c.args.site.now).files is.stored.read) c.in-Err.ensures.back (λ apart. ap g.T.Site.disk (c.in-Err.ensures.untouched apart))
     (begun warehouse c.args.batch) c.refuse.result c.refuse.ensures.state c.refuse.ensures.reply
 
 pub returns-in-Err-clause-any_moment : goal.returns-in-Err-clause-any_moment
