@@ -10,7 +10,7 @@ ghost use Rattle.plain_machine.specs.Keeps.{Keeps};
 ghost use Rattle.plain_machine.specs.World.{Kept, bare};
 ghost use Rattle.cube_shell.specs.Damage.{EndsAt, EndsForBreak};
 ghost use Rattle.cube_shell.specs.Ends.{EndCause, StatusCause, Stayed, IsDoneOrMemory, IsUndamaged, IsUsageOrMemory, faults};
-ghost use Rattle.cube_shell.specs.Headline.{AfterRun, CutOff, Finished, HasOpened, Headline, LeftOff, Settled};
+ghost use Rattle.cube_shell.specs.Headline.{AfterRun, CutOff, Finished, HasOpened, Headline, LeftOff, Opened};
 ghost use Rattle.cube_shell.specs.Pulls.{Gave, GaveAtMost};
 ghost use Rattle.cube_shell.specs.Replied.{HasReplied};
 
@@ -51,6 +51,7 @@ pub fn run<S: Source, T: Site>(
         → EndsForBreak (T.disk site.old).files result }
     ensures replied { IsTrue S.tells → IsTrue T.tells → result ≡ Status.Done
         → HasReplied (commands (S.left source.old)) (T.disk site.old).told (T.disk site.new).told }
+    ensures read { IsTrue S.tells → result ≡ Status.Done → S.left source.new ≡ [] }
     ensures usage { result ≡ Status.Usage → ¬ (AreValid (map string_bytes words.now)) }
     ensures faulty { ¬ (AreValid (map string_bytes words.now)) → IsUsageOrMemory result }
     ensures unread { ¬ (AreValid (map string_bytes words.now)) → source.new ≡ source.old }
@@ -101,6 +102,7 @@ pub fn run_within<S: Source, T: Site>(
         → EndsForBreak (T.disk site.old).files result }
     ensures replied { IsTrue S.tells → IsTrue T.tells → result ≡ Status.Done
         → HasReplied (commands (S.left source.old)) (T.disk site.old).told (T.disk site.new).told }
+    ensures read { IsTrue S.tells → result ≡ Status.Done → S.left source.new ≡ [] }
     ensures usage { result ≡ Status.Usage → ¬ (AreValid (map string_bytes words.now)) }
     ensures faulty { ¬ (AreValid (map string_bytes words.now)) → IsUsageOrMemory result }
     ensures unread { ¬ (AreValid (map string_bytes words.now)) → source.new ≡ source.old }
@@ -135,10 +137,10 @@ fn attempt<S: Source, T: Site>(
         → OnOk result (Finished (T.disk site.new) (bare kept) (commands (S.left source.old)) (T.disk site.old).told) }
     ensures any_moment { IsTrue S.tells → IsTrue T.tells → (kept : Kept) → Keeps (T.disk site.old).files kept
         → LeavesOnly (T.disk site.old) (T.disk site.new) (AfterRun (bare kept) (commands (S.left source.old)) (T.disk site.old)) }
-    ensures settled { IsTrue S.tells → IsTrue T.tells → (kept : Kept) → Keeps (T.disk site.old).files kept
-        → OnOk result (Settled (T.disk site.new) (bare kept) (commands (S.left source.old)) (T.disk site.old).told)
+    ensures opened { IsTrue S.tells → IsTrue T.tells → (kept : Kept) → Keeps (T.disk site.old).files kept
+        → OnOk result (Opened (T.disk site.old) (T.disk site.new) (bare kept) (commands (S.left source.old)))
         × IfErr result (λ status. HasOpened (S.left source.old) (S.left source.new) status
-        → Settled (T.disk site.new) (bare kept) (commands (S.left source.old)) (T.disk site.old).told) }
+        → Opened (T.disk site.old) (T.disk site.new) (bare kept) (commands (S.left source.old))) }
     ensures undamaged { IsTrue T.tells → (kept : Kept) → Keeps (T.disk site.old).files kept
         → IfErr result IsUndamaged }
     ensures broken { IsTrue T.tells → AreValid (map string_bytes words.now) → (place : Place) → BreaksAt (T.disk site.old).files place

@@ -16,8 +16,7 @@ loop-lines-init g c =
     let disk = g.T.Site.disk c.args.site.now in
     let left = g.S.Source.left c.args.source.now in
     record {
-      running = c.requires.running;
-      fit = c.requires.fit;
+      runs = c.requires.runs;
       over = ap (λ (r : Reading). r.over) c.new-lines.ensures;
       read = ap (λ (r : Reading). r.rest) c.new-lines.ensures;
       start = λ none. c.new-lines.ensures;
@@ -59,8 +58,7 @@ returns-then-count-eq0-clause-any_moment g c = λ s t world stands.
 
 pub loop-lines-preserved : goal.loop-lines-preserved
 loop-lines-preserved g c = record {
-  running = c.in_ok-take_piece.ensures.running;
-  fit = λ t. c.in_ok-take_piece.ensures.fit t;
+  runs = c.in_ok-take_piece.ensures.runs;
   over = c.take_piece.ensures.goes_on;
   read = c.in_ok-take_piece.ensures.read;
   start = λ none. absurd (omega (arith, none, c.if-count-eq0.false));
@@ -100,8 +98,8 @@ loop-lines-preserved g c = record {
       (c.take_piece.ensures.any_moment t o.now (g.S.Source.left c.pull.new.source) o.stands);
   ends = c.in_ok-count.ensures.end.some (omega (arith, c.if-count-eq0.false)) ∙ c.loop-lines.invariant.ends;
   faults = c.in_ok-count.ensures.cause.ok ∙ c.loop-lines.invariant.faults;
-  disk_faults = c.in_ok-take_piece.ensures.disk_faults ∙ c.loop-lines.invariant.disk_faults;
-  told_faults = c.in_ok-take_piece.ensures.told_faults ∙ c.loop-lines.invariant.told_faults;
+  disk_faults = c.in_ok-take_piece.ensures.stops.disk_faults ∙ c.loop-lines.invariant.disk_faults;
+  told_faults = c.in_ok-take_piece.ensures.stops.told_faults ∙ c.loop-lines.invariant.told_faults;
 }
 
 pub returns-in_err-take_piece-clause-any_moment : goal.returns-in_err-take_piece-clause-any_moment

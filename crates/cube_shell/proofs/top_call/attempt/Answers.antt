@@ -1,11 +1,13 @@
 use Rattle.std.proofs.Common.{◌≡◌, ℕ, List, OnOk, ap, subst, Err}
+use Rattle.site_core.specs.Calls.{Stays}
+use Rattle.site_core.proofs.Run.{Settles-ok}
 use Rattle.script_lang.specs.Script.{commands}
 use Rattle.plain_machine.specs.World.{bare}
 use Rattle.cube_shell.specs.Damage.{EndsAt, EndsForBreak}
 use Rattle.cube_shell.specs.Ends.{IsUndamaged, IsUsageOrMemory}
 use Rattle.cube_shell.specs.declared.status.Status.TheVariants.{Usage}
 use Rattle.cube_shell.specs.Replied.{HasReplied}
-use Rattle.cube_shell.proofs.Going.{opened_moments, settled_behind, unopened_moments}
+use Rattle.cube_shell.proofs.Going.{opened_behind, opened_moments, opening_moments, unopened_moments}
 use Rattle.cube_shell.proofs.Statuses.{broken_as, either_way, ended_by_words, named, none_told_as, not_ended_so, unopened, unread_words}
 use Rattle.cube_shell.proofs.top_call.attempt.Goals as goal
 
@@ -24,19 +26,24 @@ returns-clause-untold g c = λ t valid place breaks. absurd (c.in_ok-session.ens
 
 pub returns-clause-any_moment : goal.returns-clause-any_moment
 returns-clause-any_moment g c = λ s t kept keeps.
-    opened_moments (g.T.Site.disk c.args.site.now) (g.T.Site.disk c.start.new.site) (g.T.Site.disk c.serve.new.site) (bare kept) (commands (g.S.Source.left c.args.source.now)) (c.in_ok-session.ensures.disk t)
-    (λ told files. g.met.T.Site.only_now c.args.site.now told files t) (c.serve.ensures.any_moment s t (bare kept) (c.in_ok-session.ensures.opened t kept keeps))
+    opened_moments (g.T.Site.disk c.args.site.now) (g.T.Site.disk c.start.new.site) (g.T.Site.disk c.serve.new.site) (bare kept) (commands (g.S.Source.left c.args.source.now))
+    (Settles-ok Stays _ _ _ (c.in_ok-session.ensures.disk t)) (λ told files. g.met.T.Site.only_now c.args.site.now told files t) (c.serve.ensures.any_moment s t (bare kept) (c.in_ok-session.ensures.opened t kept keeps))
 
-pub returns-clause-settled : goal.returns-clause-settled
-returns-clause-settled g c = λ s t kept keeps.
+pub returns-clause-opened : goal.returns-clause-opened
+returns-clause-opened g c = λ s t kept keeps.
     let run = c.serve.ensures.any_moment s t (bare kept) (c.in_ok-session.ensures.opened t kept keeps) in
     either_way _ _ _
-    (settled_behind (g.T.Site.disk c.args.site.now) (g.T.Site.disk c.start.new.site) (g.T.Site.disk c.serve.new.site) (bare kept)
-    (commands (g.S.Source.left c.args.source.now)) (c.in_ok-session.ensures.disk t) run
-    (λ files. g.met.T.Site.counts_now c.serve.new.site (g.T.Site.disk c.start.new.site).clock files t run.later))
+    (opened_behind (g.T.Site.disk c.args.site.now) (g.T.Site.disk c.start.new.site) (g.T.Site.disk c.serve.new.site) (bare kept)
+    (commands (g.S.Source.left c.args.source.now)) (Settles-ok Stays _ _ _ (c.in_ok-session.ensures.disk t)) (λ told files. g.met.T.Site.only_now c.args.site.now told files t) run
+    (λ files. g.met.T.Site.counts_now c.serve.new.site (g.T.Site.disk c.start.new.site).clock files t run.clock.later))
 
-pub returns-in_err-session-clause-settled : goal.returns-in_err-session-clause-settled
-returns-in_err-session-clause-settled g c = λ s t kept keeps.
+pub returns-in_err-session-clause-any_moment : goal.returns-in_err-session-clause-any_moment
+returns-in_err-session-clause-any_moment g c = λ s t kept keeps.
+    opening_moments (g.T.Site.disk c.args.site.now) (g.T.Site.disk c.start.new.site) (bare kept) (commands (g.S.Source.left c.args.source.now))
+    (λ told files. g.met.T.Site.only_now c.args.site.now told files t) (c.start.ensures.disk t).time
+
+pub returns-in_err-session-clause-opened : goal.returns-in_err-session-clause-opened
+returns-in_err-session-clause-opened g c = λ s t kept keeps.
     unopened _ _ _ c.in_err-session.field-0.0 c.from_residual-in_err-session.ensures.1
     (λ same. c.in_err-session.ensures.no_output (ap Err same))
 
@@ -58,8 +65,8 @@ pub returns-in_err-cache-clause-any_moment : goal.returns-in_err-cache-clause-an
 returns-in_err-cache-clause-any_moment g c = λ s t kept keeps.
     unopened_moments (g.T.Site.disk c.args.site.now) (bare kept) (commands (g.S.Source.left c.args.source.now)) (λ told files. g.met.T.Site.only_now c.args.site.now told files t)
 
-pub returns-in_err-cache-clause-settled : goal.returns-in_err-cache-clause-settled
-returns-in_err-cache-clause-settled g c = λ s t kept keeps. unread_words _ _ _ c.in_err-cache.field-0.0 c.from_residual.ensures.1
+pub returns-in_err-cache-clause-opened : goal.returns-in_err-cache-clause-opened
+returns-in_err-cache-clause-opened g c = λ s t kept keeps. unread_words _ _ _ c.in_err-cache.field-0.0 c.from_residual.ensures.1
 
 pub returns-in_err-cache-clause-undamaged : goal.returns-in_err-cache-clause-undamaged
 returns-in_err-cache-clause-undamaged g c = λ t kept keeps. (ended_by_words IsUndamaged _ c.in_err-cache.field-0.0 c.from_residual.ensures.1 (λ is. tt) tt).0
