@@ -9,7 +9,7 @@ use Rattle.plain_machine.specs.World.{World}
 use Rattle.plain_machine.specs.Keeps.{Keeps}
 use Rattle.plain_machine.specs.Stages.{replies_from, replies, final, AfterStop}
 use Rattle.cube_shell.specs.declared.status.Status.{Status}
-use Rattle.cube_shell.specs.declared.status.Status.TheVariants.{Done}
+use Rattle.cube_shell.specs.declared.status.Status.TheVariants.{Done, Input, TooLong}
 use Rattle.cube_shell.specs.Ends.{IsPastOpening}
 
 -- a stop leaves of a run what it leaves of its commands, or nothing told and what a stop at the start might have left
@@ -63,3 +63,8 @@ pub record CutOff (now : Disk) (world : World) (script left before : List ℕ) :
   pub given : List ℕ
   pub cut : script ≡ given ++ left
   pub finished : Finished now world (whole given) before
+
+-- a run that ended short of its script: past its limit, or where its source failed
+pub record StopsShort (IsEnd : Status → Type 0) (now : Disk) (world : World) (script left : List ℕ) (limit : ℕ) (before : List ℕ) : Type 0 where
+  pub left_off : IsEnd TooLong → LeftOff now world script limit before
+  pub cut_off : IsEnd Input → CutOff now world script left before

@@ -1,5 +1,5 @@
 //! The commands of a script, carried out one after the other while its pieces come.
-ghost use Rattle.std.specs.Prelude.{◌≡◌, ◌≤◌, ◌+◌, ◌^◌, ◌↔◌, ◌++◌, ℕ, List, [], false, IsTrue, OnOk, IfErr, IsErrOf, take, vec_len};
+ghost use Rattle.std.specs.Prelude.{◌≡◌, ◌≤◌, ◌+◌, ◌^◌, ◌++◌, ℕ, List, [], false, IsTrue, OnOk, IfErr, IsErrOf, take, vec_len};
 ghost use Rattle.site_core.specs.Moments.{LeavesOnly};
 ghost use Rattle.script_lang.specs.Reading.{nothing_read, ready, to_come, whole_with};
 ghost use Rattle.script_lang.specs.Script.{commands};
@@ -8,9 +8,9 @@ ghost use Rattle.plain_machine.specs.World.{World};
 ghost use Rattle.cube_state.specs.Frames.{StopsFor};
 ghost use Rattle.cube_state.specs.Stops.{IsNoDamage};
 ghost use Rattle.cube_session.specs.Session.{Runs, StandsFor};
-ghost use Rattle.cube_shell.specs.Ends.{EndCause, Stayed, IsUndamaged, faults};
-ghost use Rattle.cube_shell.specs.Headline.{CutOff, Finished, LeftOff};
-ghost use Rattle.cube_shell.specs.Pulls.{Gave, GaveAtMost};
+ghost use Rattle.cube_shell.specs.Ends.{EndsFor, IsUndamaged, faults};
+ghost use Rattle.cube_shell.specs.Headline.{Finished, StopsShort};
+ghost use Rattle.cube_shell.specs.Pulls.{Gave, KeepsLimit};
 ghost use Rattle.cube_shell.specs.Replied.{AreLeft, HasReplied};
 ghost use Rattle.cube_shell.specs.Onward.{Onward};
 
@@ -44,20 +44,13 @@ pub fn serve<S: Source, T: Site>(
         → OnOk result (HasReplied (commands (S.left source.old)) (T.disk site.old).told (T.disk site.new).told) }
     ensures unpulled { IsTrue S.tells → Gave (S.left source.old) (S.left source.new) 0 → IfErr result IsUndamaged }
     ensures read { IsTrue S.tells → OnOk result (S.left source.new ≡ []) }
-    ensures too_long { IsTrue S.tells
-        → (IsErrOf result Status.TooLong ↔ Gave (S.left source.old) (S.left source.new) (limit + 1)) }
-    ensures left_off { IsTrue S.tells → IsTrue T.tells → (world : World) → StandsFor session.old.state (T.disk site.old) world
-        → IsErrOf result Status.TooLong → LeftOff (T.disk site.new) world (S.left source.old) limit (T.disk site.old).told }
-    ensures cut_off { IsTrue S.tells → IsTrue T.tells → (world : World) → StandsFor session.old.state (T.disk site.old) world
-        → IsErrOf result Status.Input
-        → CutOff (T.disk site.new) world (S.left source.old) (S.left source.new) (T.disk site.old).told }
-    ensures bounded { IsTrue S.tells → GaveAtMost (S.left source.old) (S.left source.new) (limit + 1) }
+    ensures limit { IsTrue S.tells → KeepsLimit (λ status. IsErrOf result status) limit (S.left source.old) (S.left source.new) }
+    ensures short { IsTrue S.tells → IsTrue T.tells → (world : World) → StandsFor session.old.state (T.disk site.old) world
+        → StopsShort (λ status. IsErrOf result status) (T.disk site.new) world (S.left source.old) (S.left source.new) limit (T.disk site.old).told }
     ensures asked { S.ends source.new ≤ S.ends source.old + 1 }
     ensures no_usage { IsErrOf result Status.Usage → ⊥ }
-    ensures cause { IfErr result (EndCause (faults (S.faults source.old) (T.disk_faults site.old) (T.told_faults site.old))
-        (faults (S.faults source.new) (T.disk_faults site.new) (T.told_faults site.new))) }
-    ensures faults { OnOk result (Stayed (faults (S.faults source.old) (T.disk_faults site.old) (T.told_faults site.old))
-        (faults (S.faults source.new) (T.disk_faults site.new) (T.told_faults site.new))) }
+    ensures cause { EndsFor (faults (S.faults source.old) (T.disk_faults site.old) (T.told_faults site.old))
+        (faults (S.faults source.new) (T.disk_faults site.new) (T.told_faults site.new)) result }
 {
     let mut lines = Lines::new(alloc);
     let mut taken = 0;

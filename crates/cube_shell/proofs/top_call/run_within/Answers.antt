@@ -33,23 +33,23 @@ returns-in-Err-clause-headline g c = λ s t kept keeps.
           (commands (g.S.Source.left c.args.source.now)) run
           (g.met.T.Site.counts_now c.attempt.new.site (g.T.Site.disk c.args.site.now).clock (g.T.Site.disk c.attempt.new.site).files t run.clock.later
           (g.met.T.Site.read_now c.attempt.new.site t));
-      whole = λ is. absurd (not_done _ _ _ c.in-Err.ensures.cause is);
-      read = λ is. absurd (not_done _ _ _ c.in-Err.ensures.cause is);
+      whole = λ is. absurd (not_done _ _ _ c.in-Err.ensures.cause.0 is);
+      read = λ is. absurd (not_done _ _ _ c.in-Err.ensures.cause.0 is);
       any_stop = run;
       opened = (c.in-Err.ensures.opened s t kept keeps).1;
     }
 
 pub returns-in-Ok-clause-broken : goal.returns-in-Ok-clause-broken
-returns-in-Ok-clause-broken g c = λ t valid place breaks. absurd (c.in-Ok.ensures.broken t valid place breaks).1
+returns-in-Ok-clause-broken g c = λ t valid place breaks. absurd (c.in-Ok.ensures.broken t valid place breaks).end
 
 pub returns-in-Err-clause-broken : goal.returns-in-Err-clause-broken
-returns-in-Err-clause-broken g c = λ t valid place breaks. (c.in-Err.ensures.broken t valid place breaks).0
+returns-in-Err-clause-broken g c = λ t valid place breaks. c.in-Err.ensures.broken t valid place breaks
 
 pub returns-in-Ok-clause-replied : goal.returns-in-Ok-clause-replied
 returns-in-Ok-clause-replied g c = λ s t is. c.in-Ok.ensures.replied s t
 
 pub returns-in-Err-clause-replied : goal.returns-in-Err-clause-replied
-returns-in-Err-clause-replied g c = λ s t is. absurd (not_done _ _ _ c.in-Err.ensures.cause is)
+returns-in-Err-clause-replied g c = λ s t is. absurd (not_done _ _ _ c.in-Err.ensures.cause.0 is)
 
 pub returns-in-Err-clause-read : goal.returns-in-Err-clause-read
-returns-in-Err-clause-read g c = λ s is. absurd (not_done _ _ _ c.in-Err.ensures.cause is)
+returns-in-Err-clause-read g c = λ s is. absurd (not_done _ _ _ c.in-Err.ensures.cause.0 is)
