@@ -21,6 +21,7 @@ use Rattle.forest_store.specs.Stored.{IsStoreOf, IsWhole}
 use Rattle.forest_store.proofs.Shown.{named_shown}
 use Rattle.forest_store.proofs.Standing.{live_now}
 use Rattle.forest_refresh.specs.declared.stop.RefreshStop.{RefreshStop}
+use Rattle.forest_refresh.specs.Additions.{IsAddition}
 use Rattle.forest_refresh.specs.Begun.{Begun, IsBegun, IsNext, IsRefreshOf, batch_size}
 use Rattle.forest_refresh.specs.Next.{HasNumbers}
 use Rattle.forest_refresh.specs.Refreshed.{KeepsEither}
@@ -31,6 +32,10 @@ use Rattle.forest_refresh.proofs.Ready.{body_with, more_names}
 -- the body of the next generation, with its numbers of points
 abbrev pub with_counts : Body → List ℕ → Body
 with_counts next counts = record next { counts = counts }
+
+-- its batch is added to the facts that the files keep
+pub addition_of : (r : Begun) (facts batch : List Fact) (files : Files) → IsRefreshOf r facts batch files → IsAddition r.store.forest files r.deltas facts batch
+addition_of r facts batch files is = record { accepted = is.accepted; all = is.all; live = is.live; points = is.deltas }
 
 module _ (r : Begun) (begun : IsBegun r) where
   -- no more facts than there may be

@@ -10,7 +10,7 @@ pub write_pages-requires-clause-few : goal.write_pages-requires-clause-few
 write_pages-requires-clause-few g c =
     let so_far = c.loop-page.invariant.written in
     let few = tree-few c.args.shape c.requires.shape c.args.entries.now c.requires.points c.args.first so_far.0 c.loop-page.packer c.loop-page.invariant.shape so_far.1 in
-    omega (arith, few, so_far.2, c.requires.few)
+    omega (arith, few, so_far.2, c.requires.first.few)
 
 pub returns-in_err-write_pages-clause-disk : goal.returns-in_err-write_pages-clause-disk
 returns-in_err-write_pages-clause-disk g c = λ tells.
@@ -28,7 +28,7 @@ pub overflow_add-number : goal.overflow_add-number
 overflow_add-number g c =
     let so_far = c.loop-page.invariant.written in
     let few = tree-few c.args.shape c.requires.shape c.args.entries.now c.requires.points c.args.first so_far.0 c.loop-page.packer c.loop-page.invariant.shape so_far.1 in
-    omega (arith, few, so_far.2, c.requires.few)
+    omega (arith, few, so_far.2, c.requires.first.few)
 
 pub loop-page-smaller : goal.loop-page-smaller
 loop-page-smaller g c =
@@ -71,11 +71,16 @@ returns-clause-number g c = λ views are.
     let all : so_far.0 ≡ pages_of c.args.shape c.args.first views = packed-all c.args.shape c.requires.shape views c.args.entries.now are c.args.first so_far.0 c.loop-page.packer c.loop-page.invariant.shape so_far.1 done in
     omega (arith, so_far.2, ap length all)
 
-pub returns-clause-few : goal.returns-clause-few
-returns-clause-few g c =
+pub returns-clause-next : goal.returns-clause-next
+returns-clause-next g c =
     let so_far = c.loop-page.invariant.written in
     let few = tree-few c.args.shape c.requires.shape c.args.entries.now c.requires.points c.args.first so_far.0 c.loop-page.packer c.loop-page.invariant.shape so_far.1 in
-    (omega (arith, so_far.2), omega (arith, few, so_far.2))
+    record {
+      behind = omega (arith, so_far.2);
+      few = omega (arith, few, so_far.2);
+      place = c.loop-page.invariant.place;
+      wrote = omega (arith, so_far.2, so_far.4);
+    }
 
 pub returns-clause-writes : goal.returns-clause-writes
 returns-clause-writes g c = λ views are.

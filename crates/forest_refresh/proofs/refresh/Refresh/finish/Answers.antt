@@ -5,7 +5,7 @@ use Rattle.forest_refresh.specs.declared.refresh.Refresh.TheInside.{Inside}
 use Rattle.forest_refresh.specs.Begun.{Begun, IsRefreshOf, batch_size}
 use Rattle.forest_refresh.specs.Refreshed.{IsNoDamage}
 use Rattle.forest_refresh.specs.Trees.{AreAllWhole, TellsFirstDamage}
-use Rattle.forest_refresh.proofs.Finishes.{body_of_all, damage_by, either_by, few_facts, next_with, on_side, still_live, store_of, then_committed, while_written}
+use Rattle.forest_refresh.proofs.Finishes.{addition_of, body_of_all, damage_by, either_by, few_facts, next_with, on_side, still_live, store_of, then_committed, while_written}
 use Rattle.forest_refresh.proofs.Ready.{err_if, err_then, more_names}
 use Rattle.forest_refresh.proofs.refresh.Refresh.finish.Goals as goal
 
@@ -19,7 +19,7 @@ pub returns-in_err-counts-clause-undamaged : goal.returns-in_err-counts-clause-u
 returns-in_err-counts-clause-undamaged g c = λ t accepted batch was.
     let is = subst (λ (r : Begun). IsRefreshOf r accepted batch (g.T.Site.disk c.args.site.now).files) (sym c.self.view_is) was in
     err_then c.from_residual.result _ IsNoDamage (err_if c.from_residual.result _ c.from_residual.ensures.1)
-    (λ stop same. subst IsNoDamage (sym same) (c.in_err-counts.ensures.undamaged t accepted batch is.accepted is.all is.live is.deltas))
+    (λ stop same. subst IsNoDamage (sym same) (c.in_err-counts.ensures.undamaged t accepted batch (addition_of (seen c.self.inside) accepted batch _ is)))
 
 pub returns-in_err-counts-clause-any_moment : goal.returns-in_err-counts-clause-any_moment
 returns-in_err-counts-clause-any_moment g c = λ t accepted batch was.
@@ -35,7 +35,7 @@ returns-in_err-counts-clause-writes g c = λ t accepted batch was.
     let is = subst (λ (r : Begun). IsRefreshOf r accepted batch (g.T.Site.disk c.args.site.now).files) (sym c.self.view_is) was in
     omega (
       arith,
-      c.write_trees.ensures.writes t accepted batch is.accepted is.all is.live is.deltas,
+      c.write_trees.ensures.writes t accepted batch (addition_of (seen c.self.inside) accepted batch _ is),
       ap (λ (r : Begun). page_count r.store.forest.schema (accepted ++ batch)) c.self.view_is,
     )
 
@@ -62,9 +62,9 @@ returns-in-Ok-clause-finished g c = λ t accepted batch was.
     let live = still_live r begun accepted batch old mid both c.slot.result c.slot.ensures (c.write_trees.ensures.disk t) in
     store_of r accepted batch old.files new.files c.in-Ok.store is c.in-Ok.ensures.schema c.in-Ok.ensures.names c.in-Ok.ensures.whole
     (c.in-Ok.ensures.committed t accepted (accepted ++ batch) live.0 live.1
-    (body_of_all r begun accepted batch old.files is c.in_ok-counts.counts (c.in_ok-counts.ensures.counts t accepted batch is.accepted is.all is.live is.deltas))
+    (body_of_all r begun accepted batch old.files is c.in_ok-counts.counts (c.in_ok-counts.ensures.written t accepted batch (addition_of r accepted batch _ is)).counts)
     (more_names schema accepted batch r.entries is.entries)
-    (on_side schema (accepted ++ batch) c.slot.result _ mid.files c.slot.ensures (c.in_ok-counts.ensures.written t accepted batch is.accepted is.all is.live is.deltas)))
+    (on_side schema (accepted ++ batch) c.slot.result _ mid.files c.slot.ensures (c.in_ok-counts.ensures.written t accepted batch (addition_of r accepted batch _ is)).bytes))
 
 pub returns-in-Ok-clause-joined : goal.returns-in-Ok-clause-joined
 returns-in-Ok-clause-joined g c = λ t.
@@ -85,16 +85,16 @@ returns-in-Ok-clause-any_moment g c = λ t accepted batch was.
     either_by r c.args.self c.self.view_is accepted (accepted ++ batch) old new
     (then_committed r begun accepted batch old mid both c.slot.result c.slot.ensures run new (λ told files. g.met.T.Site.only_now c.args.site.now told files t)
     (c.commit.ensures.any_moment t accepted (accepted ++ batch) live.0 live.1 is.all
-    (body_of_all r begun accepted batch old.files is c.in_ok-counts.counts (c.in_ok-counts.ensures.counts t accepted batch is.accepted is.all is.live is.deltas))
+    (body_of_all r begun accepted batch old.files is c.in_ok-counts.counts (c.in_ok-counts.ensures.written t accepted batch (addition_of r accepted batch _ is)).counts)
     (more_names schema accepted batch r.entries is.entries)
-    (on_side schema (accepted ++ batch) c.slot.result _ mid.files c.slot.ensures (c.in_ok-counts.ensures.written t accepted batch is.accepted is.all is.live is.deltas))))
+    (on_side schema (accepted ++ batch) c.slot.result _ mid.files c.slot.ensures (c.in_ok-counts.ensures.written t accepted batch (addition_of r accepted batch _ is)).bytes)))
 
 pub returns-in-Ok-clause-writes : goal.returns-in-Ok-clause-writes
 returns-in-Ok-clause-writes g c = λ t accepted batch was.
     let is = subst (λ (r : Begun). IsRefreshOf r accepted batch (g.T.Site.disk c.args.site.now).files) (sym c.self.view_is) was in
     omega (
       arith,
-      c.write_trees.ensures.writes t accepted batch is.accepted is.all is.live is.deltas,
+      c.write_trees.ensures.writes t accepted batch (addition_of (seen c.self.inside) accepted batch _ is),
       c.commit.ensures.calls.writes,
       ap (λ (r : Begun). page_count r.store.forest.schema (accepted ++ batch)) c.self.view_is,
     )
@@ -114,16 +114,16 @@ returns-clause-any_moment g c = λ t accepted batch was.
     either_by r c.args.self c.self.view_is accepted (accepted ++ batch) old new
     (then_committed r begun accepted batch old mid both c.slot.result c.slot.ensures run new (λ told files. g.met.T.Site.only_now c.args.site.now told files t)
     (c.commit.ensures.any_moment t accepted (accepted ++ batch) live.0 live.1 is.all
-    (body_of_all r begun accepted batch old.files is c.in_ok-counts.counts (c.in_ok-counts.ensures.counts t accepted batch is.accepted is.all is.live is.deltas))
+    (body_of_all r begun accepted batch old.files is c.in_ok-counts.counts (c.in_ok-counts.ensures.written t accepted batch (addition_of r accepted batch _ is)).counts)
     (more_names schema accepted batch r.entries is.entries)
-    (on_side schema (accepted ++ batch) c.slot.result _ mid.files c.slot.ensures (c.in_ok-counts.ensures.written t accepted batch is.accepted is.all is.live is.deltas))))
+    (on_side schema (accepted ++ batch) c.slot.result _ mid.files c.slot.ensures (c.in_ok-counts.ensures.written t accepted batch (addition_of r accepted batch _ is)).bytes)))
 
 pub returns-clause-writes : goal.returns-clause-writes
 returns-clause-writes g c = λ t accepted batch was.
     let is = subst (λ (r : Begun). IsRefreshOf r accepted batch (g.T.Site.disk c.args.site.now).files) (sym c.self.view_is) was in
     omega (
       arith,
-      c.write_trees.ensures.writes t accepted batch is.accepted is.all is.live is.deltas,
+      c.write_trees.ensures.writes t accepted batch (addition_of (seen c.self.inside) accepted batch _ is),
       c.commit.ensures.calls.writes,
       ap (λ (r : Begun). page_count r.store.forest.schema (accepted ++ batch)) c.self.view_is,
     )
