@@ -1,10 +1,11 @@
 -- What a batch that is taken in makes of the plain machine's world.
-use Rattle.std.proofs.Common.{◌≡◌, ◌<◌, ◌≤◌, ◌+◌, ◌++◌, ℕ, List, [], ◌∷◌, length, inl, inr, Some, None, Result, Ok, Err, IfOk, OnOk, codes, refl, sym, ◌∙◌, ap, subst, arith, length-append, take}
+use Rattle.std.proofs.Common.{◌≡◌, IsTrue, ◌<◌, ◌++◌, ℕ, List, [], length, inl, inr, Some, Result, Ok, Err, IfOk, refl, sym, ◌∙◌, ap, subst, take}
 use Rattle.std.proofs.lemmas.List.Elements.{All-append}
 use Rattle.std.specs.List.{All}
 use Rattle.std.specs.Prelude.{slice_index}
 use Rattle.site_core.specs.Disk.{Files, Disk}
 use Rattle.site_core.specs.Moments.{LeavesOnly, IsStable}
+use Rattle.site_core.specs.declared.site.Site.{Ghosts}
 use Rattle.site_core.proofs.Run.{holds_to, joined, stable_holds, wider}
 use Rattle.cube_schema.specs.Agreeing.{Agrees}
 use Rattle.cube_schema.specs.declared.schema.Schema.{Schema}
@@ -19,22 +20,24 @@ use Rattle.forest_root.specs.declared.forest.Forest.{Forest}
 use Rattle.forest_root.specs.declared.forest.Store.{Store}
 use Rattle.forest_store.specs.Held.{AreAccepted, IsLive, KeepsFacts}
 use Rattle.forest_store.specs.Opened.{IsOpened}
-use Rattle.forest_store.specs.Stored.{IsStoreOf}
-use Rattle.reply_text.specs.Replies.{committed_text, line}
-use Rattle.plain_machine.specs.Stages.{size}
+use Rattle.forest_store.specs.Stored.{IsStoreOf, IsWhole}
+use Rattle.reply_text.specs.Replies.{committed_text}
 use Rattle.plain_machine.specs.Keeps.{IsLawful}
-use Rattle.plain_machine.specs.Machine.{Answer, abandon, accepted, begun, begun_or_refused, committed, refusal_of, unless}
-use Rattle.plain_machine.specs.World.{Warehouse, World, idle}
+use Rattle.plain_machine.specs.declared.batch_source.BatchSource.{BatchSource}
+use Rattle.plain_machine.specs.Machine.{Answer, abandon, batch_from, committed, finish, load, refusal_of, unless}
+use Rattle.plain_machine.specs.World.{Warehouse, World, begun_with, idle}
 use Rattle.cube_state.specs.declared.answered.Answered.{Answered}
 use Rattle.cube_state.specs.declared.state.State.{State}
-use Rattle.cube_state.specs.declared.state.State.TheVariants.{Idle, Pending}
+use Rattle.cube_state.specs.declared.state.State.TheVariants.{Hollow, Idle, Pending}
 use Rattle.cube_state.specs.declared.stop.Stop.{Stop}
+use Rattle.cube_state.specs.Frames.{RunsOn}
 use Rattle.cube_state.specs.Session.{Attends, Belongs, Between, IsAnswer, KeepsEither, Stands}
-use Rattle.cube_state.proofs.Answering.{answers, answers_as}
-use Rattle.cube_batches.specs.Costs.{begins_over}
-use Rattle.cube_batches.specs.Costs as costs
+use Rattle.cube_state.proofs.Answering.{answers, between_as}
 use Rattle.cube_batches.specs.Refusals.{refusal_text}
-use Rattle.cube_batches.proofs.Limits.{all_accepted, all_begun, one_refused}
+use Rattle.cube_batches.specs.Taking.{IsPending, IsTaken}
+use Rattle.cube_batches.specs.declared.taking.Taken.TheVariants.{Refused}
+use Rattle.cube_batches.proofs.BatchReads.{answer_pending, answer_read}
+use Rattle.cube_batches.proofs.Limits.{empty_fits, none_refused, one_refused}
 
 -- ---- one run behind another
 
@@ -42,6 +45,11 @@ pub between_then : (old mid new : Disk) (world next : World) → mid.told ≡ ol
 between_then old mid new world next quiet first second =
     joined old mid new (λ told files. (told ≡ old.told) × KeepsEither world next files) first
     (wider mid new _ _ (λ told files both. (both.0 ∙ quiet, both.1)) second)
+
+-- what the warehouse's world keeps is what this one keeps
+pub moments_as : (old new : Disk) (world : World) (warehouse : Warehouse) (next : World) → world ≡ idle warehouse → Between old new (idle warehouse) next
+    → Between old new world next
+moments_as old new world warehouse next same run = subst (λ (w : World). Between old new w next) (sym same) run
 
 -- ---- a batch that is to begin
 
@@ -63,42 +71,32 @@ module _ (store : Store) (old new : Disk) (warehouse : Warehouse) (batch : List 
     ready = ready;
   }
 
--- so it is pending
-module _ (r : Begun) (new : Disk) (warehouse : Warehouse) (batch : List Fact) (is : Attends r new warehouse batch) where
-  -- all facts keep the limits
-  pub all_fine : AreAccepted warehouse.schema (warehouse.facts ++ batch)
-  all_fine = subst (λ (s : Schema). AreAccepted s (warehouse.facts ++ batch)) is.schema is.adds.read.all
+-- so it is pending, and all facts keep the limits
+pub all_fine : (r : Begun) (new : Disk) (warehouse : Warehouse) (batch : List Fact) → Attends r new warehouse batch → AreAccepted warehouse.schema (warehouse.facts ++ batch)
+all_fine r new warehouse batch is = subst (λ (s : Schema). AreAccepted s (warehouse.facts ++ batch)) is.schema is.adds.read.all
 
-  now_begun : begun_or_refused (idle warehouse) warehouse batch ≡ begun warehouse batch
-  now_begun = all_begun warehouse batch is.lawful.schema (idle warehouse) all_fine
+pub begun_pending : (r : Begun) (new : Disk) (warehouse : Warehouse) (source : BatchSource) (batch : List Fact) → Attends r new warehouse batch
+    → batch_from warehouse.schema source ≡ Ok batch → IsPending new (idle warehouse) source (Pending r)
+begun_pending r new warehouse source batch is read = record {
+  warehouse = warehouse;
+  batch = batch;
+  idle = refl;
+  read = read;
+  fits = none_refused warehouse batch is.lawful.schema (all_fine r new warehouse batch is);
+  stands = (warehouse, batch, refl, is);
+}
 
-  pub now_accepted : accepted (idle warehouse) warehouse batch ≡ committed warehouse batch
-  now_accepted = all_accepted warehouse batch is.lawful.schema (idle warehouse) all_fine
-
-  pub begun_answer : (result : Result Answered Stop) → IfOk result (λ done. done.state ≡ Pending r) → IfOk result (λ done. done.reply.items ≡ line (codes "begun"))
-      → IfOk result (IsAnswer new (begun_or_refused (idle warehouse) warehouse batch))
-  begun_answer result state reply =
-      answers_as result new (begun warehouse batch) _ (sym now_begun) (answers result (Pending r) _ new (begun warehouse batch) state reply (warehouse, batch, refl, is) refl)
-
-  one_begins : (facts : List Fact) → 0 < length facts → begins_over None (Some facts) ≡ 1
-  one_begins [] some = absurd (omega (arith, some))
-  one_begins (x ∷ xs) some = refl
-
-  -- so it begins
-  pub does_begin : costs.begins (idle warehouse) (begun_or_refused (idle warehouse) warehouse batch).0 ≡ 0 → ⊥
-  does_begin none =
-      let one : costs.begins (idle warehouse) (begun_or_refused (idle warehouse) warehouse batch).0 ≡ 1 =
-      ap (λ (a : Answer). costs.begins (idle warehouse) a.0) now_begun ∙ one_begins batch is.some in
-      omega (arith, none, one)
-
-  -- which one write tells
-  pub begun_writes : (result : Result Answered Stop) (old now : ℕ) → now ≤ old + 1
-      → OnOk result (now ≤ old + costs.begins (idle warehouse) (begun_or_refused (idle warehouse) warehouse batch).0)
-  begun_writes (Err stop) old now few = tt
-  begun_writes (Ok done) old now few =
-      let one : costs.begins (idle warehouse) (begun_or_refused (idle warehouse) warehouse batch).0 ≡ 1 =
-      ap (λ (a : Answer). costs.begins (idle warehouse) a.0) now_begun ∙ one_begins batch is.some in
-      omega (arith, few, one)
+-- so is an empty one
+pub empty_pending : (store : Store) (disk : Disk) (warehouse : Warehouse) (source : BatchSource) (batch : List Fact) → Belongs store disk warehouse
+    → batch_from warehouse.schema source ≡ Ok batch → batch ≡ [] → IsPending disk (idle warehouse) source (Hollow store)
+empty_pending store disk warehouse source batch is read none = record {
+  warehouse = warehouse;
+  batch = batch;
+  idle = refl;
+  read = read;
+  fits = empty_fits warehouse batch is.lawful.schema is.lawful.accepted none;
+  stands = (warehouse, ap (begun_with warehouse) none, is);
+}
 
 -- the store is handed back
 pub back_belongs : (store back : Store) (disk : Disk) (warehouse : Warehouse) → IsBack store back → Belongs store disk warehouse → Belongs back disk warehouse
@@ -117,11 +115,16 @@ back_belongs store back disk warehouse same is = record {
 pub no_fault : (schema : Schema) (why : BeginStop) (text : List ℕ) → refusal_text schema why ≡ Some text → why ≡ begins.Disk → ⊥
 no_fault schema why text refused is = let none : refusal_text schema begins.Disk ≡ Some text = subst (λ (w : BeginStop). refusal_text schema w ≡ Some text) is refused in absurd (cc)
 
--- a batch that is refused has made no call
-pub refused_silent : (schema : Schema) (why : BeginStop) (result : Result Answered Stop) (old new : ℕ) → IfOk result (λ done. refusal_text schema why ≡ Some done.reply.items)
-    → ((why ≡ begins.Disk → ⊥) → new ≡ old) → OnOk result (new ≡ old)
-refused_silent schema why (Ok done) old new text same = same (no_fault schema why done.reply.items text)
-refused_silent schema why (Err stop) old new text same = tt
+-- a batch that is refused has made no call, and the session goes on
+pub refused_runs : {S : Type 0} (T : Ghosts S) (old new : S) (store back : Store) (why : BeginStop) (done : Answered) → IsWhole store
+    → (IsTrue T.tells → IsOpened store.forest.body (T.disk old)) → IsBack store back → ((why ≡ begins.Disk → ⊥) → new ≡ old) → done.state ≡ Idle back
+    → refusal_text back.forest.schema why ≡ Some done.reply.items → RunsOn T new done.state
+refused_runs {S = S} T old new store back why done whole opened same unchanged state reply =
+    let here : new ≡ old = unchanged (no_fault back.forest.schema why done.reply.items reply) in
+    subst (RunsOn T new) (sym state) (record {
+      running = λ a. (λ i. slice_index (same.shown i).at a) ∙ (whole a ∙ sym (ap length (same.names a)));
+      fit = λ t. subst (λ (f : Forest). IsOpened f.body (T.disk new)) (sym same.forest) (subst (λ (s : S). IsOpened store.forest.body (T.disk s)) (sym here) (opened t));
+    })
 
 module _ (store back : Store) (old new : Disk) (warehouse : Warehouse) (batch : List Fact) (why : BeginStop) (is : Belongs store old warehouse)
     (each : All (Agrees store.forest.schema) batch) (limit : TellsLimit store.forest.schema (warehouse.facts ++ batch) why)
@@ -135,16 +138,14 @@ module _ (store back : Store) (old new : Disk) (warehouse : Warehouse) (batch : 
       (subst (λ (s : Schema). TellsLimit s (warehouse.facts ++ batch) why) is.schema limit)
       (subst (λ (s : Schema). refusal_text s why ≡ Some text) (ap (λ (f : Forest). f.schema) same.forest ∙ is.schema) refused)
 
-  -- where a limit is passed the plain machine refuses so, whatever else it would answer
-  pub refused_answer : (answer : Answer) (result : Result Answered Stop) → IfOk result (λ done. done.state ≡ Idle back)
-      → IfOk result (λ done. refusal_text back.forest.schema why ≡ Some done.reply.items)
-      → IfOk result (IsAnswer new (unless (idle warehouse) answer (refusal_of warehouse.schema (warehouse.facts ++ batch))))
-  refused_answer answer (Err stop) state reply = tt
-  refused_answer answer (Ok done) state reply =
+  -- where a limit is passed the plain machine refuses so, whatever would follow
+  pub refused_taken : (source : BatchSource) (done : Answered) → batch_from warehouse.schema source ≡ Ok batch → done.state ≡ Idle back
+      → refusal_text back.forest.schema why ≡ Some done.reply.items → IsTaken new (idle warehouse) source (Refused done)
+  refused_taken source done read state reply = λ next.
       let belongs = back_belongs store back new warehouse same (subst (λ (d : Disk). Belongs store d warehouse) (sym (unchanged (no_fault back.forest.schema why done.reply.items reply))) is) in
-      answers_as (Ok done) new (idle warehouse, done.reply.items) _
-      (ap (unless (idle warehouse) answer) (sym (by_limit done.reply.items reply)))
-      (answers (Ok done) (Idle back) done.reply.items new (idle warehouse, done.reply.items) state refl (warehouse, refl, belongs) refl)
+      subst (λ (a : Answer). IsAnswer new a done)
+      (sym (answer_read warehouse source batch next read ∙ ap (unless (idle warehouse) (next warehouse batch)) (by_limit done.reply.items reply)))
+      (record { stands = subst (λ (s : State). Stands s new (idle warehouse)) (sym state) (warehouse, refl, belongs); reply = refl })
 
 -- ---- a batch that has begun is committed
 
@@ -176,11 +177,16 @@ module _ (r : Begun) (old new : Disk) (warehouse : Warehouse) (batch : List Fact
         answers result (Idle now) (committed_text now.forest.body.facts) new (committed warehouse batch) state reply (next, refl, committed_belongs)
         (ap committed_text stored.live.at.body_is.facts)
 
-  -- what is known grows
-  pub committed_grows : (committed warehouse batch).0.kept ≡ Some warehouse → ⊥
-  committed_grows stays =
-      let sizes : length (warehouse.facts ++ batch) + 1 ≡ length warehouse.facts + 1 = ap size stays in
-      omega (arith, is.some, sizes, length-append warehouse.facts batch)
+-- a batch that is pending is committed at once, which is a load
+module _ (mid new : Disk) (world : World) (source : BatchSource) (state : State) (is : IsPending mid world source state) where
+  abbrev pending : World
+  pending = begun_with is.warehouse is.batch
+
+  same_answer : finish pending ≡ load world source
+  same_answer = sym (answer_pending mid world source state is committed)
+
+  pub load_moments : Between mid new (begun_with is.warehouse is.batch) (finish (begun_with is.warehouse is.batch)).0 → Between mid new world (load world source).0
+  load_moments run = moments_as mid new world is.warehouse (load world source).0 is.idle (between_as mid new (idle is.warehouse) (finish pending) (load world source) same_answer run)
 
 -- ---- a batch that has begun is dropped
 

@@ -1,24 +1,23 @@
 //! The commands `begin`, `step`, `finish` and `abandon`, over a batch that is pending.
-ghost use Rattle.std.specs.Prelude.{◌≡◌, ◌≤◌, ◌+◌, IsTrue, OnOk, IfOk, IfErr, Ok};
-ghost use Rattle.forest_store.specs.Opened.{IsOpened};
+ghost use Rattle.std.specs.Prelude.{◌≡◌, ◌≤◌, ◌+◌, IsTrue, List, OnOk, IfOk, IfErr};
+ghost use Rattle.fact_model.specs.declared.fact.Fact as facts;
+ghost use Rattle.forest_refresh.specs.Begun.{IsReady};
 ghost use Rattle.forest_store.specs.Stored.{IsWhole};
-ghost use Rattle.plain_machine.specs.Machine.{abandon, begin, begun_or_refused, block_read, finish};
+ghost use Rattle.reply_text.specs.Replies.{committed_text};
+ghost use Rattle.plain_machine.specs.Machine.{abandon, begin, committed, finish};
 ghost use Rattle.plain_machine.specs.World.{Warehouse, World, idle};
 ghost use Rattle.cube_state.specs.Frames.{IsQuiet, RunsOn};
 ghost use Rattle.cube_state.specs.Stops.{IsNoDamage};
-ghost use Rattle.cube_state.specs.Session.{Belongs, Between, IsAnswer, IsRunning, Stands, abandon_text, step_text};
+ghost use Rattle.cube_state.specs.Session.{Attends, Between, IsAnswer, IsRunning, Stands, abandon_text, step_text};
 ghost use Rattle.cube_batches.specs.Costs.{begins};
-ghost use Rattle.cube_batches.specs.Gives.{BeginGives, FinishGives, GivesBegun};
-ghost use Rattle.cube_batches.specs.Reading.{IsRows};
-ghost use Rattle.cube_batches.specs.Told.{FinishTells};
+ghost use Rattle.cube_batches.specs.Gives.{BeginGives, FinishGives, IsFinished};
+ghost use Rattle.cube_batches.specs.Told.{FinishTells, TellsRefreshDamage};
 
-use crate::batch::{Read, read_block};
-use crate::committing::{acknowledge, commit};
-use crate::loading::refuse;
+use crate::taking::{Taken, take_in};
 use cube_state::{Answered, State, Stop, plain};
-use fact_model::FactList;
 use forest_refresh::Refresh;
 use forest_root::Store;
+use plain_machine::BatchSource;
 use script_lang::Block;
 use site_core::Site;
 use std::alloc::Global;
@@ -46,77 +45,9 @@ pub fn begin<T: Site>(
     ensures runs { IfOk result (λ done. RunsOn T.Site site.new done.state) }
     ensures quiet { IsQuiet T.Site site.old site.new result }
 {
-    match state {
-        State::Empty => plain(alloc, State::Empty, "refused no schema"),
-        State::Idle(store) => begin_block(alloc, store, block, site),
-        State::Hollow(store) => plain(alloc, State::Hollow(store), "refused pending"),
-        State::Pending(refresh) => plain(alloc, State::Pending(refresh), "refused pending"),
-    }
-}
-
-/// Makes the facts of a block pending by the schema, or refuses them.
-fn begin_block<T: Site>(
-    alloc: Global,
-    store: Store,
-    block: Block,
-    site: &mut T,
-) -> Result<Answered, Stop>
-    requires whole { IsWhole store }
-    requires fit { IsTrue T.tells → IsOpened store.forest.body (T.disk site.old) }
-
-    ensures answer { IsTrue T.tells → (warehouse : Warehouse) → Belongs store (T.disk site.old) warehouse
-        → IfOk result (IsAnswer (T.disk site.new) (begin (idle warehouse) block)) }
-    ensures any_moment { IsTrue T.tells → (warehouse : Warehouse) → Belongs store (T.disk site.old) warehouse
-        → Between (T.disk site.old) (T.disk site.new) (idle warehouse) (begin (idle warehouse) block).0 }
-    ensures damage { IfErr result IsNoDamage }
-    ensures answered { IfOk result (λ done. GivesBegun store (block_read store.forest.schema block) done.reply.items) }
-    ensures unwritten { IsTrue T.tells → (warehouse : Warehouse) → Belongs store (T.disk site.old) warehouse
-        → OnOk result (T.writes site.new ≤ T.writes site.old + begins (idle warehouse) (begin (idle warehouse) block).0) }
-    ensures silent { IsTrue T.tells → (warehouse : Warehouse) → Belongs store (T.disk site.old) warehouse
-        → begins (idle warehouse) (begin (idle warehouse) block).0 ≡ 0 → OnOk result (T.writes site.new ≡ T.writes site.old) }
-    ensures runs { IfOk result (λ done. RunsOn T.Site site.new done.state) }
-    ensures quiet { IsQuiet T.Site site.old site.new result }
-{
-    match read_block(alloc, &store.forest.schema, block)? {
-        Read::Batch(batch) => begin_batch(alloc, store, batch, site),
-        Read::Refused(reply) => Ok(Answered {
-            state: State::Idle(store),
-            reply,
-        }),
-    }
-}
-
-/// Makes a batch pending, or refuses it by the first limit that it would pass. An empty batch is pending without a call on a file.
-fn begin_batch<T: Site>(
-    alloc: Global,
-    store: Store,
-    batch: FactList,
-    site: &mut T,
-) -> Result<Answered, Stop>
-    requires batch { IsRows store.forest.schema batch }
-    requires whole { IsWhole store }
-    requires fit { IsTrue T.tells → IsOpened store.forest.body (T.disk site.old) }
-
-    ensures answer { IsTrue T.tells → (warehouse : Warehouse) → Belongs store (T.disk site.old) warehouse
-        → IfOk result (IsAnswer (T.disk site.new) (begun_or_refused (idle warehouse) warehouse batch)) }
-    ensures any_moment { IsTrue T.tells → (warehouse : Warehouse) → Belongs store (T.disk site.old) warehouse
-        → Between (T.disk site.old) (T.disk site.new) (idle warehouse) (begun_or_refused (idle warehouse) warehouse batch).0 }
-    ensures damage { IfErr result IsNoDamage }
-    ensures answered { IfOk result (λ done. GivesBegun store (Ok batch) done.reply.items) }
-    ensures unwritten { IsTrue T.tells → (warehouse : Warehouse) → Belongs store (T.disk site.old) warehouse
-        → OnOk result (T.writes site.new ≤ T.writes site.old + begins (idle warehouse) (begun_or_refused (idle warehouse) warehouse batch).0) }
-    ensures silent { IsTrue T.tells → (warehouse : Warehouse) → Belongs store (T.disk site.old) warehouse
-        → begins (idle warehouse) (begun_or_refused (idle warehouse) warehouse batch).0 ≡ 0
-        → OnOk result (T.writes site.new ≡ T.writes site.old) }
-    ensures runs { IfOk result (λ done. RunsOn T.Site site.new done.state) }
-    ensures quiet { IsQuiet T.Site site.old site.new result }
-{
-    if batch.as_slice().is_empty() {
-        return plain(alloc, State::Hollow(store), "begun");
-    }
-    match Refresh::begin(alloc, site, store, batch) {
-        Ok(refresh) => plain(alloc, State::Pending(refresh), "begun"),
-        Err(fault) => refuse(alloc, fault),
+    match take_in(alloc, state, BatchSource::Rows(block), site)? {
+        Taken::Refused(done) => Ok(done),
+        Taken::Begun(state) => plain(alloc, state, "begun"),
     }
 }
 
@@ -161,6 +92,41 @@ pub fn finish<T: Site>(alloc: Global, state: State, site: &mut T) -> Result<Answ
         State::Hollow(store) => acknowledge(alloc, store),
         State::Pending(refresh) => commit(alloc, refresh, site),
     }
+}
+
+/// Commits the batch of a refresh, and acknowledges it.
+fn commit<T: Site>(alloc: Global, refresh: Refresh, site: &mut T) -> Result<Answered, Stop>
+    requires fit { IsTrue T.tells → IsReady refresh (T.disk site.old) }
+
+    ensures answer { IsTrue T.tells → (warehouse : Warehouse) (batch : List facts.Fact) → Attends refresh (T.disk site.old) warehouse batch
+        → IfOk result (IsAnswer (T.disk site.new) (committed warehouse batch)) }
+    ensures any_moment { IsTrue T.tells → (warehouse : Warehouse) (batch : List facts.Fact) → Attends refresh (T.disk site.old) warehouse batch
+        → Between (T.disk site.old) (T.disk site.new) (idle warehouse) (committed warehouse batch).0 }
+    ensures undamaged { IsTrue T.tells → (warehouse : Warehouse) (batch : List facts.Fact) → Attends refresh (T.disk site.old) warehouse batch
+        → IfErr result IsNoDamage }
+    ensures damage { IsTrue T.tells → IfErr result (TellsRefreshDamage refresh (T.disk site.old).files) }
+    ensures answered { IsTrue T.tells → IfOk result (λ done. IsFinished refresh (T.disk site.old).files done.reply.items) }
+
+    ensures runs { IfOk result (λ done. RunsOn T.Site site.new done.state) }
+    ensures quiet { IsQuiet T.Site site.old site.new result }
+{
+    match refresh.finish(site) {
+        Ok(store) => acknowledge(alloc, store),
+        Err(stop) => Err(Stop::from(stop)),
+    }
+}
+
+/// Acknowledges a batch that was taken in.
+fn acknowledge(alloc: Global, store: Store) -> Result<Answered, Stop>
+    ensures state { IfOk result (λ done. done.state ≡ State.Idle store) }
+    ensures reply { IfOk result (λ done. done.reply.items ≡ committed_text store.forest.body.facts) }
+    ensures memory { IfErr result (λ stop. stop ≡ Stop.Memory) }
+{
+    let reply = reply_text::committed(alloc, store.forest.body.facts)?;
+    Ok(Answered {
+        state: State::Idle(store),
+        reply,
+    })
 }
 
 /// Drops the pending batch, without a call on a file, or refuses where there is none. An error is want of memory.

@@ -1,5 +1,5 @@
 use Rattle.cube_batches.proofs.Takings.{commit_moments, committed_answer}
-use Rattle.cube_batches.proofs.committing.commit.Goals as goal
+use Rattle.cube_batches.proofs.pending.commit.Goals as goal
 
 pub returns-in-Ok-clause-answer : goal.returns-in-Ok-clause-answer
 returns-in-Ok-clause-answer g c = λ t warehouse batch is.
