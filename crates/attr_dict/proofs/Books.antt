@@ -1,8 +1,11 @@
 -- The names that a schema begins with.
-use Rattle.std.proofs.Common.{◌≡◌, ℕ, zero, suc, true, ◌<◌, ◌≤◌, List, [], ◌∷◌, length, get_or, map, refl, sym, subst, ◌∙◌, ⊎_elim, arith}
+use Rattle.std.proofs.Common.{◌≡◌, ℕ, zero, suc, true, ◌<◌, ◌≤◌, List, [], ◌∷◌, length, get_or, map, refl, sym, ap, subst, ◌∙◌, ⊎_elim, arith}
 use Rattle.std.specs.Prelude.{nat_lt, nat_le}
+use Rattle.std.specs.List.{All, IsDistinct}
+use Rattle.std.specs.Str.{bytes_eq}
 use Rattle.std.proofs.lemmas.Bool.{and_parts, leb-true, cases_lt}
 use Rattle.std.proofs.lemmas.List.{length-map, get_or-map, get_or_past}
+use Rattle.std.proofs.lemmas.List.Elements.{All-nil}
 use Rattle.cube_schema.specs.declared.Attr.{Attr}
 use Rattle.cube_schema.specs.declared.Kind.{Kind}
 use Rattle.cube_schema.specs.declared.Kind.TheVariants as kind
@@ -13,16 +16,18 @@ use Rattle.cube_schema.specs.Lawful.{IsSchema}
 use Rattle.cube_schema.proofs.Tests.{all-at}
 use Rattle.view_points.specs.Codes.{Text}
 use Rattle.view_points.specs.Agree.{name_limit}
-use Rattle.attr_dict.specs.Book.{IsBook, none_yet, no_names}
+use Rattle.attr_dict.specs.Book.{IsBook, IsShort, none_yet, no_names}
+use Rattle.attr_dict.proofs.Columns.{distinct-none}
 
 kind-range : (k : Kind) → is_in_range k ≡ true → max_of k ≤ name_limit
 kind-range (kind.Word max) h = leb-true max 16777215 (and_parts (nat_le 1 max) (nat_le max 16777215) h).1
 kind-range kind.Number h = omega arith
 
-nothing-at : (attrs : List Attr) (a : ℕ) → length (get_or (map (λ (attr : Attr). none_yet) attrs) a []) ≡ 0
-nothing-at [] a = refl
-nothing-at (attr ∷ attrs) zero = refl
-nothing-at (attr ∷ attrs) (suc a) = nothing-at attrs a
+-- at first no attribute has a name
+pub unnamed : (attrs : List Attr) (a : ℕ) → get_or (map (λ (attr : Attr). none_yet) attrs) a [] ≡ []
+unnamed [] a = refl
+unnamed (attr ∷ attrs) zero = refl
+unnamed (attr ∷ attrs) (suc a) = unnamed attrs a
 
 pub book-new : (s : Schema) → IsSchema s → IsBook (no_names s)
 book-new s lawful =
@@ -40,7 +45,9 @@ book-new s lawful =
           (kind-range (get_or s.attrs a no_attr).kind (all-at (λ (attr : Attr). is_in_range attr.kind) s.attrs a no_attr lawful.ranges lt)))
           (λ (le : length s.attrs ≤ a). subst (λ (k : Kind). max_of k ≤ name_limit) (sym (get_or_past kinds a kind.Number (omega arith))) (omega arith))
           (cases_lt a (length s.attrs));
-      within = λ a. (let none = nothing-at s.attrs a in omega arith);
+      within = λ a. (let none = ap length (unnamed s.attrs a) in omega arith);
+      distinct = λ a. subst (IsDistinct bytes_eq) (sym (unnamed s.attrs a)) distinct-none;
+      short = λ a. subst (All IsShort) (sym (unnamed s.attrs a)) (All-nil IsShort);
     }
 
 pub book-made : (s : Schema) (kinds : List Kind) (names : List (List Text)) → kinds ≡ (no_names s).kinds → names ≡ (no_names s).names → IsSchema s → IsBook (record { kinds = kinds; names = names })

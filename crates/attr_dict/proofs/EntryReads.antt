@@ -1,6 +1,7 @@
 -- Bytes that are entries which can enter are read as them.
 use Rattle.std.proofs.Common.{◌≡◌, ℕ, ◌<◌, true, List, [], ◌∷◌, ◌++◌, Result, Ok, Err, length, refl, sym, ap, subst, ◌∙◌, arith, append_assoc, append-nil}
 use Rattle.std.specs.Prelude.{OnOk, IfErr}
+use Rattle.std.specs.List.{All}
 use Rattle.std.proofs.lemmas.Bool.{and_parts, true≢false}
 use Rattle.cube_schema.specs.declared.Kind.{Kind}
 use Rattle.view_points.specs.Codes.{Text}
@@ -10,7 +11,7 @@ use Rattle.attr_dict.specs.Entering.{can_enter, entered, all_enter, after_entrie
 use Rattle.attr_dict.specs.Stops.{HasCause}
 use Rattle.attr_dict.specs.declared.read.NamesStop.{NamesStop}
 use Rattle.attr_dict.specs.declared.read.NamesStop.TheVariants as stops
-use Rattle.attr_dict.proofs.Rooms.{book-after}
+use Rattle.attr_dict.proofs.Rooms.{book-after, short-read}
 use Rattle.attr_dict.proofs.EntryTexts.{front-same}
 
 abbrev Entry : Type 0
@@ -46,13 +47,13 @@ stop-only b bytes es (stops.Damaged place) are enter cause =
 stop-only b bytes es stops.Memory are enter cause = refl
 
 -- ---- as the code has them, with the kinds lent
-abbrev booked : List Kind → List (List Text) → Book
+abbrev pub booked : List Kind → List (List Text) → Book
 booked kinds names = record { kinds = kinds; names = names }
 
-pub book-read : (kinds slice : List Kind) (names new : List (List Text)) (bytes : List ℕ) → slice ≡ kinds → IsBook (booked kinds names) → ((rest : List ℕ) × HasRead (booked slice names) (booked slice new) bytes rest) → IsBook (booked kinds new)
-book-read kinds slice names new bytes same book read =
+pub book-read : (kinds slice : List Kind) (names new : List (List Text)) (bytes : List ℕ) → slice ≡ kinds → IsBook (booked kinds names) → All (λ b. b < 256) bytes → ((rest : List ℕ) × HasRead (booked slice names) (booked slice new) bytes rest) → IsBook (booked kinds new)
+book-read kinds slice names new bytes same book small read =
     let at = subst (λ (ks : List Kind). HasRead (booked ks names) (booked ks new) bytes read.0) same read.1 in
-    subst IsBook (sym at.book) (book-after (booked kinds names) at.es book at.enter)
+    subst IsBook (sym at.book) (book-after (booked kinds names) at.es book at.enter (short-read at.es read.0 (subst (All (λ b. b < 256)) at.are small)))
 
 pub only-read : (r : Result (Unit {0}) NamesStop) (kinds slice : List Kind) (names new : List (List Text)) (b : Book) (bytes : List ℕ) → slice ≡ kinds → booked kinds names ≡ b → OnOk r (HasRead (booked slice names) (booked slice new) bytes [])
     → (es : List Entry) → bytes ≡ entries_text es → OnOk r (booked kinds new ≡ after_entries b es)

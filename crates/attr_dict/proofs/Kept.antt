@@ -6,7 +6,8 @@ use Rattle.std.specs.Str.{bytes_eq}
 use Rattle.std.specs.Cmp.Lexicographic.{bytes_decides}
 use Rattle.std.proofs.lemmas.Bool.Decides.{nat_tests}
 use Rattle.std.proofs.lemmas.Bool.{cases_Bool, and_from, or_from, cases_eq, cases_lt, eq-eqb, ne_eqb, lt-ltb, ltb-true, ltb-false, false_from_ne_true, true≢false}
-use Rattle.std.proofs.lemmas.List.{get_or_past, get_or-set_same, get_or-set_other, length-append, length-map, length-set, take_at}
+use Rattle.std.proofs.lemmas.List.{get_or_past, get_or-set_same, get_or-set_other, length-append, length-map, length-set, length-take, take_at}
+use Rattle.std.proofs.lemmas.List.Elements.{All-take}
 use Rattle.std.proofs.lemmas.Slice.Zip.{AllZip-long}
 use Rattle.fact_model.specs.declared.fact.Value.{Value}
 use Rattle.fact_model.specs.declared.fact.Value.TheVariants.{Word, Number}
@@ -18,17 +19,21 @@ use Rattle.cube_schema.specs.declared.Kind.TheVariants as kind
 use Rattle.cube_schema.specs.declared.Schema.{Schema}
 use Rattle.cube_schema.specs.Kinds.{max_of}
 use Rattle.cube_schema.specs.Agreeing.{IsOfKind, Agrees as AgreesWith}
+use Rattle.cube_schema.specs.Lawful.{IsSchema}
 use Rattle.view_points.specs.Codes.{Text, admitted, text_in, texts_at, names_of, same_entry, named, names, for_attr}
 use Rattle.view_points.specs.Points.{coord}
 use Rattle.view_points.specs.Agree.{IsWithin, number_limit}
 use Rattle.view_points.proofs.Codes.{admitted-more, names-append}
-use Rattle.view_points.proofs.Names.{names-more, names-for, names-distinct}
+use Rattle.view_points.proofs.Names.{distinct-admitted, names-more, names-for, names-distinct}
 use Rattle.view_points.proofs.Members.{every-right}
 use Rattle.view_points.proofs.Ranges.{coord-below}
-use Rattle.attr_dict.specs.Book.{Book, IsBook, kind_at, names_at, none_yet, no_names}
+use Rattle.attr_dict.specs.Book.{Book, IsBook, IsShort, kind_at, names_at, none_yet, no_names}
 use Rattle.attr_dict.specs.Admitting.{Agrees, HasSmallCodes, names_with, first_full, entries_text, fresh, Lists}
 use Rattle.attr_dict.specs.Entering.{can_enter, entered, all_enter, after_entries}
+use Rattle.attr_dict.proofs.Books.{book-new, unnamed}
+use Rattle.attr_dict.proofs.Columns.{distinct-take, own-short, short-admitted, texts-short}
 use Rattle.attr_dict.proofs.Onwards.{text-append, admitted-fresh}
+use Rattle.attr_dict.proofs.Rooms.{book-after}
 
 abbrev Entry : Type 0
 Entry = ℕ × Text
@@ -74,7 +79,7 @@ module _ (kinds : List Kind) (all : ℕ → List Text) (room : (a : ℕ) → len
         ⊎_elim (λ (lt : a < length kinds). omega arith) (λ (le : length kinds ≤ a). absurd (let none = ap max_of (get_or_past kinds a kind.Number le) in omega arith)) (cases_lt a (length kinds)),
       )
 
-  entries-enter : (old : List (List Text)) (es : List Entry) → length old ≡ length kinds → ((a : ℕ) → get_or old a [] ++ for_attr a es ≡ all a)
+  pub entries-enter : (old : List (List Text)) (es : List Entry) → length old ≡ length kinds → ((a : ℕ) → get_or old a [] ++ for_attr a es ≡ all a)
       → (all_enter (booked kinds old) es ≡ true) × ((a : ℕ) → names_at (after_entries (booked kinds old) es) a ≡ all a)
   entries-enter old [] same are = (refl, λ a. sym (append-nil (get_or old a [])) ∙ are a)
   entries-enter old (e ∷ es) same are =
@@ -82,11 +87,6 @@ module _ (kinds : List Kind) (all : ℕ → List Text) (room : (a : ℕ) → len
       let new = slice_set old e.0 (get_or old e.0 [] ++ e.1 ∷ []) in
       let rest = entries-enter new es (length-set old e.0 (get_or old e.0 [] ++ e.1 ∷ []) ∙ same) (λ a. entered-names old e es a next.1 ∙ are a) in
       (and_from (can_enter (booked kinds old) e) (all_enter (booked kinds new) es) next.0 rest.0, rest.1)
-
-unnamed : (attrs : List Attr) (a : ℕ) → get_or (map (λ (attr : Attr). none_yet) attrs) a [] ≡ []
-unnamed [] a = refl
-unnamed (attr ∷ attrs) zero = refl
-unnamed (attr ∷ attrs) (suc a) = unnamed attrs a
 
 -- past the attributes there are no names
 pub names-past : (facts : List Fact) (n a : ℕ) → ((k : ℕ) (d : Fact) → k < length facts → length (get_or facts k d).values ≡ n) → n ≤ a → names_of facts a ≡ []
@@ -219,10 +219,11 @@ agrees-kinds s x agrees =
 pub all-agree : (s : Schema) (facts : List Fact) → All (AgreesWith s) facts → All (Agrees (map (λ (attr : Attr). attr.kind) s.attrs)) facts
 all-agree s facts agree = λ k d lt. agrees-kinds s _ (agree k d lt)
 
--- the names after admitting make a book again
-book-taken : (b : Book) (names : List (List Text)) → IsBook b → length names ≡ length b.names
-    → ((a : ℕ) → a < length b.kinds → length (get_or names a []) ≤ max_of (get_or b.kinds a kind.Number)) → IsBook (record { kinds = b.kinds; names = names })
-book-taken b names book same within = record {
+-- the names after admitting facts that agree make a book again, where they are within their room
+pub book-taken : (b : Book) (names : List (List Text)) (facts : List Fact) → IsBook b → length names ≡ length b.names
+    → ((a : ℕ) → a < length b.kinds → length (get_or names a []) ≤ max_of (get_or b.kinds a kind.Number))
+    → ((a : ℕ) → get_or names a [] ≡ names_with b facts a) → All (Agrees b.kinds) facts → IsBook (booked b.kinds names)
+book-taken b names facts book same within are agree = record {
   same = same ∙ book.same;
   few = book.few;
   ranges = book.ranges;
@@ -230,10 +231,28 @@ book-taken b names book same within = record {
     | inl low ↦ within a (grind (arith, nat_tests))
     | inr past ↦ omega (arith, ap length (get_or_past names a [] (grind (arith, nat_tests, same, book.same))))
   ];
+  distinct = λ a. subst (IsDistinct bytes_eq) (sym (are a)) (distinct-admitted (names_at b a) (texts_at a facts) (book.distinct a));
+  short = λ a. subst (All IsShort) (sym (are a)) (short-admitted (names_at b a) (texts_at a facts) (book.short a) (texts-short b.kinds facts a agree));
 }
 
 -- and the coordinates that it gives to facts that agree have 32 bits
-pub taken-narrow : (b : Book) (names : List (List Text)) (facts : List Fact) → IsBook b → length names ≡ length b.names
-    → ((a : ℕ) → a < length b.kinds → length (get_or names a []) ≤ max_of (get_or b.kinds a kind.Number)) → All (Agrees b.kinds) facts
+pub taken-narrow : (b : Book) (names : List (List Text)) (facts : List Fact) → IsBook (booked b.kinds names) → All (Agrees b.kinds) facts
     → All (HasSmallCodes (λ a. get_or names a [])) facts
-taken-narrow b names facts book same within agree = λ i d low. λ a. codes-narrow (record { kinds = b.kinds; names = names }) (get_or facts i d) (book-taken b names book same within) (agree i d low) a
+taken-narrow b names facts book agree = λ i d low. λ a. codes-narrow (booked b.kinds names) (get_or facts i d) book (agree i d low) a
+
+-- names that are cut make a book again
+pub book-cut : (kinds : List Kind) (names cut : List (List Text)) (counts : List ℕ) → IsBook (booked kinds names) → length cut ≡ length names → ((a : ℕ) → get_or cut a [] ≡ take (get_or counts a 0) (get_or names a []))
+    → IsBook (booked kinds cut)
+book-cut kinds names cut counts book same are = record {
+  same = same ∙ book.same;
+  few = book.few;
+  ranges = book.ranges;
+  within = λ a. (let whole = book.within a in let less = length-take (get_or counts a 0) (get_or names a []) in let size = ap length (are a) in omega arith);
+  distinct = λ a. subst (IsDistinct bytes_eq) (sym (are a)) (distinct-take (get_or counts a 0) (get_or names a []) (book.distinct a));
+  short = λ a. subst (All IsShort) (sym (are a)) (All-take IsShort (get_or counts a 0) (get_or names a []) (book.short a));
+}
+
+-- the names of accepted facts make a book
+pub book-own : (s : Schema) (facts : List Fact) → IsSchema s → All (Agrees (no_names s).kinds) facts → ((a : ℕ) → a < length s.attrs → length (names_of facts a) ≤ max_of (kind_at (no_names s) a))
+    → IsBook (after_entries (no_names s) (names facts))
+book-own s facts lawful agree few = book-after (no_names s) (names facts) (book-new s lawful) (names-enter s facts agree few) (own-short (no_names s).kinds facts agree)

@@ -1,4 +1,6 @@
 pub mod Places
+pub mod Columns
+pub mod Backs
 pub mod Books
 pub mod Coords
 pub mod Fulls
@@ -10,3 +12,4 @@ pub mod EntryReads
 pub mod Rooms
 pub mod Damages
 pub mod Kept
+pub mod Lens

@@ -1,5 +1,6 @@
 -- The names of a schema's attributes, the codes of values and the values of codes.
 use Rattle.std.specs.Prelude.{◌≡◌, ℕ, suc, ◌≤◌, true, false, List, [], length, get_or, map, nat_le, option_map, slice_index, take, Option, Some, None, if◌then◌else◌}
+use Rattle.std.specs.List.{All, IsDistinct}
 use Rattle.std.specs.Str.{bytes_eq}
 use Rattle.fact_model.specs.declared.fact.Value.{Value}
 use Rattle.fact_model.specs.declared.fact.Value.TheVariants.{Word, Number}
@@ -23,12 +24,18 @@ kind_at b a = get_or b.kinds a kind.Number
 abbrev pub names_at : Book → ℕ → List Text
 names_at b a = get_or b.names a []
 
--- what always holds: 16 attributes at most, and names within each attribute's `max`
+-- a text has at most 255 bytes
+abbrev pub IsShort : Text → Type 0
+IsShort t = length t ≤ 255
+
+-- what always holds: 16 attributes at most, names within each attribute's `max`, none of an attribute twice, and each of 255 bytes at most
 pub record IsBook (b : Book) : Type 0 where
   pub same : length b.names ≡ length b.kinds
   pub few : length b.kinds ≤ 16
   pub ranges : (a : ℕ) → max_of (kind_at b a) ≤ name_limit
   pub within : (a : ℕ) → length (names_at b a) ≤ max_of (kind_at b a)
+  pub distinct : (a : ℕ) → IsDistinct bytes_eq (names_at b a)
+  pub short : (a : ℕ) → All IsShort (names_at b a)
 
 -- the first names of each attribute, as many as these numbers say
 abbrev pub shown_names : Book → List ℕ → ℕ → List Text

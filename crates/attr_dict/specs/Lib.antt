@@ -3,6 +3,7 @@ pub mod Book
 pub mod Coding
 pub mod Entering
 pub mod Full
+pub mod Room
 pub mod Shown
 pub mod Sizes
 pub mod Stops

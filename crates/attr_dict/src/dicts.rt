@@ -1,5 +1,5 @@
 //! The names of all attributes.
-ghost use Rattle.std.specs.Prelude.{◌≡◌, ◌<◌, ◌≤◌, ℕ, List, [], IfOk, IfErr, OnOk, OnErr, All, None, true, length, option_map, map, slice_index, take};
+ghost use Rattle.std.specs.Prelude.{◌≡◌, ◌<◌, ◌≤◌, ◌+◌, ℕ, List, [], IfOk, IfErr, IfSome, OnOk, OnErr, All, None, true, length, option_map, map, slice_index, take};
 ghost use Rattle.cube_schema.specs.declared.Attr.{Attr};
 ghost use Rattle.cube_schema.specs.Lawful.{IsSchema};
 ghost use Rattle.std.specs.List.{zip};
@@ -11,6 +11,7 @@ ghost use Rattle.attr_dict.specs.Admitting.{Agrees, HasSmallCodes, names_with, f
 ghost use Rattle.attr_dict.specs.Full.{IsFull};
 ghost use Rattle.attr_dict.specs.Entering.{HasRead, all_enter, after_entries};
 ghost use Rattle.attr_dict.specs.Stops.{HasCause};
+ghost use Rattle.attr_dict.specs.Room.{entries_len, entries_limit};
 ghost use Rattle.attr_dict.specs.Shown.{shown};
 ghost use Rattle.attr_dict.specs.Book.{no_names, none_yet, names_at, kind_at, code_at, code_for, shown_names, value_of};
 
@@ -75,7 +76,8 @@ impl Dicts {
     pub fn code_of(&self, attr: u32, value: &Value) -> Option<u64>
         requires declared { attr < length self.now.kinds }
         requires within { IsWithin number_limit value.now }
-        ensures { result ≡ code_at self.now attr value.now }
+        ensures code { result ≡ code_at self.now attr value.now }
+        ensures back { IfSome result (λ code. value_of self.now attr code ≡ Some value.now) }
     {
         match (self.kinds[attr as usize], value) {
             (Kind::Word { .. }, Value::Word(text)) => self.names[attr as usize].code_of(text),
@@ -102,7 +104,8 @@ impl Dicts {
     /// The value of a coordinate. It is none exactly where no value has it.
     pub fn value_of(&self, attr: u32, code: u64) -> Option<ValueRef<'_>>
         requires { attr < length self.now.kinds }
-        ensures { option_map shown result ≡ value_of self.now attr code }
+        ensures value { option_map shown result ≡ value_of self.now attr code }
+        ensures back { IfSome (option_map shown result) (λ value. code_at self.now attr value ≡ Some code) }
     {
         if code == 0 {
             return None;
@@ -150,6 +153,8 @@ impl Dicts {
         ensures viewed { (view : View) → All (λ a. a < length self.old.kinds) view → IfOk result (λ admitted. All (CodedBy (names_at self.new) view) (zip admitted.coded facts.now)) }
         ensures placed { (view : View) → All (λ a. a < length self.old.kinds) view → IfOk result (λ admitted. All (λ (coordinates : List ℕ). All (λ a. 1 ≤ slice_index coordinates a) view) admitted.coded) }
         ensures entries { (seen : List (ℕ × Text)) → Lists self.old seen → IfOk result (λ admitted. admitted.names ≡ entries_text (fresh same_entry seen (named facts.now))) }
+        ensures len { IfOk result (λ admitted. entries_len self.new ≡ entries_len self.old + length admitted.names) }
+        ensures limit { entries_len self.new ≤ entries_limit }
 
         ensures none { OnOk result (first_full self.old facts.now ≡ None) }
         ensures full { IfErr result (IsFull self.old facts.now) }
@@ -176,6 +181,7 @@ impl Dicts {
     pub fn read_names(&mut self, bytes: &[u8]) -> Result<(), NamesStop>
         ensures kinds { self.new.kinds ≡ self.old.kinds }
         ensures read { OnOk result (HasRead self.old self.new bytes.now []) }
+        ensures len { OnOk result (entries_len self.new ≡ entries_len self.old + length bytes.now) }
         ensures damaged { IfErr result (HasCause self.old bytes.now) }
         // Entries that can enter are read as such.
         ensures only { (es : List (ℕ × Text)) → bytes.now ≡ entries_text es → all_enter self.old es ≡ true → IfErr result (λ stop. stop ≡ NamesStop.Memory) }

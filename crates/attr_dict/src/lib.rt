@@ -12,6 +12,7 @@ mod take;
 
 pub use admit::DictRefusal;
 pub use coding::Admitted;
+pub use cube_point::Coded;
 pub use dicts::{Dicts, ValueRef};
 pub use lengths::Lengths;
 pub use read::NamesStop;

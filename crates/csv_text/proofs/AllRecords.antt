@@ -1,11 +1,14 @@
--- Records that were read in turn are those of `records`.
-use Rattle.std.proofs.Common.{◌≡◌, ◌≤◌, ◌<◌, ◌+◌, ℕ, zero, suc, true, false, List, [], ◌∷◌, Some, length, refl, sym, ap, arith, inl, inr}
+-- The records of a block, read one after the other.
+use Rattle.std.proofs.Common.{◌≡◌, ◌≤◌, ◌<◌, ℕ, zero, suc, Bor, Bool, true, false, List, [], ◌∷◌, Option, Some, None, length, refl, sym, ap, ◌∙◌, arith, inl, inr, add-one}
 use Rattle.std.specs.Prelude.{unwrap_or}
 use Rattle.std.proofs.lemmas.Bool.{cases_Bool}
 use Rattle.csv.specs.Machine.{Read, step, is_end, ends_at_end, next_record, fields_after, field_after}
-use Rattle.csv.specs.Reading.{AreRecords, Reached, default_config, records, records_from}
+use Rattle.csv.specs.Reading.{Reached, ReadRecord, default_config, is_flexible, reader_state, records, records_from, took_first}
+use Rattle.csv.specs.declared.reader.Reader.{Reader}
 use Rattle.csv.specs.declared.parser.State.{State}
 use Rattle.csv.specs.declared.parser.State.TheVariants as st
+use Rattle.csv.proofs.ReadFacts.{rows-end, rows-more}
+use Rattle.csv_text.specs.Reader.{IsBlockReader, IsNext, left_by, records_left, unread_by}
 
 -- a byte that ends a record leaves the reader between two records
 ended : (s : State) (c : ℕ) → is_end (step default_config s c).1 ≡ true → ends_at_end (step default_config s c).0 ≡ false
@@ -38,42 +41,82 @@ goes s f p (c ∷ xs) q h = elim (cases_Bool (is_end (step default_config s c).1
       (ih.0, omega (arith, ih.1), λ _. omega (arith, ih.1))
 ]
 
--- records in turn are the first of `records_from`
-pub are_all : (n : ℕ) (s : State) (xs : List ℕ) (rows : List (List (List ℕ))) → length rows ≤ n → AreRecords default_config s xs rows → records_from default_config n s xs ≡ rows
-unfolding Reached records_from
-are_all zero s xs [] le h = refl
-are_all (suc n) s xs [] le (s2, ys, (es, ex), e) = rw (es, ex, e) refl
-are_all zero s xs (r ∷ rows) le h = absurd (omega arith)
-are_all (suc n) s xs (r ∷ rows) le (s2, ys, (p, next, same, rest), e) =
-    rw (next, same) (ap (λ l. p.0 ∷ l) (are_all n p.1 p.2 rows (omega arith) (s2, ys, rest, e)))
+-- a record takes a byte at least
+some_bytes : (s : State) (xs : List ℕ) (p : Read) → ends_at_end s ≡ false → next_record default_config s [] [] xs ≡ Some p → 0 < length xs
+unfolding next_record
+some_bytes s [] p between is = let none = rw between at is in cc none
+some_bytes s (c ∷ xs) p between is = omega arith
 
--- there are no more records than bytes
-pub no_more : (s : State) (xs : List ℕ) (rows : List (List (List ℕ))) (s2 : State) (ys : List ℕ) → ends_at_end s ≡ false → Reached default_config s xs rows s2 ys → length rows ≤ length xs
-unfolding Reached next_record
-no_more s xs [] s2 ys b h = omega arith
-no_more s [] (r ∷ rows) s2 ys b (p, next, same, rest) = let e = rw b at next in cc e
-no_more s (c ∷ xs) (r ∷ rows) s2 ys b (p, next, same, rest) =
-    let g = goes s [] [] (c ∷ xs) p next in
-    let ih = no_more p.1 p.2 rows s2 ys g.0 rest in
-    let lt = g.2 (omega arith) in
-    omega (arith, ih, lt)
+-- more turns than bytes read the same records
+enough : (n m : ℕ) (s : State) (xs : List ℕ) → ends_at_end s ≡ false → length xs < n → length xs < m → records_from default_config n s xs ≡ records_from default_config m s xs
+unfolding records_from
+enough zero m s xs between low high = absurd (omega arith)
+enough (suc n) zero s xs between low high = absurd (omega arith)
+enough (suc n) (suc m) s xs between low high = by (λ t ys. enough n m t ys) (next_record default_config s [] [] xs) refl
+  where
+    by : ((t : State) (ys : List ℕ) → ends_at_end t ≡ false → length ys < n → length ys < m → records_from default_config n t ys ≡ records_from default_config m t ys) → (found : Option Read)
+        → next_record default_config s [] [] xs ≡ found → records_from default_config (suc n) s xs ≡ records_from default_config (suc m) s xs
+    by more None is = rw is refl
+    by more (Some p) is =
+        let next = goes s [] [] xs p is in
+        let fewer = next.2 (some_bytes s xs p between is) in
+        rw is (ap (λ l. p.0 ∷ l) (more p.1 p.2 next.0 (omega arith) (omega arith)))
 
--- the records that were read are all of them
-pub are_records : (xs : List ℕ) (rows : List (List (List ℕ))) → AreRecords default_config st.StartRecord xs rows → rows ≡ records default_config xs
-are_records xs rows h =
-    let few = no_more st.StartRecord xs rows h.0 h.1 refl h.2 in
-    sym (are_all (length xs + 1) st.StartRecord xs rows (omega (arith, few)) h)
+-- ---- the records left
 
--- records in turn are some of them
-at_least : (n : ℕ) (s : State) (xs : List ℕ) (rows : List (List (List ℕ))) (s2 : State) (ys : List ℕ) → length rows ≤ n → Reached default_config s xs rows s2 ys → length rows ≤ length (records_from default_config n s xs)
-unfolding Reached records_from
-at_least n s xs [] s2 ys le h = omega arith
-at_least zero s xs (r ∷ rows) s2 ys le h = absurd (omega arith)
-at_least (suc n) s xs (r ∷ rows) s2 ys le (p, next, same, rest) =
-    let ih = at_least n p.1 p.2 rows s2 ys (omega arith) rest in
-    rw next (omega (arith, ih))
+pub next_left : (s : State) (xs : List ℕ) (p : Read) → ends_at_end s ≡ false → next_record default_config s [] [] xs ≡ Some p → records_left s (Some xs) ≡ p.0 ∷ records_left p.1 (Some p.2)
+unfolding records_left records_from
+next_left s xs p between is =
+    let next = goes s [] [] xs p is in
+    let fewer = next.2 (some_bytes s xs p between is) in
+    rw is (ap (λ l. p.0 ∷ l) (enough (length xs) (suc (length p.2)) p.1 p.2 next.0 (omega arith) (omega arith)))
 
-pub there_are : (xs : List ℕ) (rows : List (List (List ℕ))) (s2 : State) (ys : List ℕ) → Reached default_config st.StartRecord xs rows s2 ys → length rows ≤ length (records default_config xs)
-there_are xs rows s2 ys h =
-    let few = no_more st.StartRecord xs rows s2 ys refl h in
-    at_least (length xs + 1) st.StartRecord xs rows s2 ys (omega (arith, few)) h
+none_left : (s : State) (xs : List ℕ) → next_record default_config s [] [] xs ≡ None → records_left s (Some xs) ≡ []
+unfolding records_left records_from
+none_left s xs is = rw is refl
+
+-- at the start they are all
+pub all_left : (xs : List ℕ) → records_left st.StartRecord (Some xs) ≡ records default_config xs
+unfolding records_left
+all_left xs = ap (λ n. records_from default_config n st.StartRecord xs) (sym (add-one (length xs)))
+
+-- ---- a read
+
+abbrev pub known : Bor (List ℕ) → Option (List ℕ)
+known s = Some s.now
+
+module _ (old new : Reader (Bor (List ℕ))) (fields : List (List ℕ)) (is : IsBlockReader old) where
+  -- the read that took a record
+  record Took : Type 0 where
+    next : Read
+    found : next_record default_config (reader_state old) [] [] is.bytes ≡ Some next
+    same : fields ≡ next.0
+    state : next.1 ≡ reader_state new
+    unread : unread_by new ≡ Some next.2
+
+  took : ReadRecord known old new true fields → Took
+  unfolding Reached
+  took read =
+      let more = rows-more known old new fields default_config (reader_state old) is.bytes is.bytes [] is.config is.known (refl, refl) read in
+      let step = more.2 in
+      record { next = step.0; found = step.1; same = step.2; state = step.3.0; unread = more.1 ∙ ap Some (sym step.3.1) }
+
+  pub read_next : (found : Bool) → ReadRecord known old new found fields → IsNext (left_by old) (left_by new) fields found
+  read_next true read =
+      let t = took read in
+      ap (records_left (reader_state old)) is.known ∙ next_left (reader_state old) is.bytes t.next is.between t.found
+      ∙ (λ i. sym t.same i ∷ records_left (t.state i) (sym t.unread i))
+  read_next false read = ap (records_left (reader_state old)) is.known ∙ none_left (reader_state old) is.bytes (rows-end known old new fields default_config is.bytes is.config is.known read)
+
+  pub reads_on : ReadRecord known old new true fields → took_first new ≡ true → is_flexible new ≡ is_flexible old → IsBlockReader new
+  reads_on read first flexible =
+      let t = took read in
+      record {
+        config = read.2 ∙ is.config;
+        trim = read.3 ∙ is.trim;
+        flexible = flexible ∙ is.flexible;
+        ready = inl first;
+        bytes = t.next.2;
+        known = t.unread;
+        between = ap ends_at_end (sym t.state) ∙ (goes (reader_state old) [] [] is.bytes t.next t.found).0;
+      }

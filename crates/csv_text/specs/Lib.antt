@@ -1,3 +1,4 @@
 pub mod Between
+pub mod Reader
 pub mod Records
 pub mod Rows

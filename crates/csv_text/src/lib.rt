@@ -4,5 +4,5 @@
 mod records;
 mod rows;
 
-pub use records::records_within;
+pub use records::{block_reader, read_record};
 pub use rows::RowWriter;

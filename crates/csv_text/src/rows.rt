@@ -1,8 +1,8 @@
 //! Rows as text.
-ghost use Rattle.std.specs.Prelude.{◌≡◌, ◌++◌, [], IfOk, OnOk, OnErr, map};
+ghost use Rattle.std.specs.Prelude.{◌≡◌, ◌++◌, [], false, true, IfOk, OnOk, OnErr, map};
 ghost use Rattle.std.specs.Fmt.{signed_decimal};
 ghost use Rattle.csv.specs.Records.{fields_of};
-ghost use Rattle.csv.specs.Writing.{default_writer, row_text};
+ghost use Rattle.csv.specs.Writing.{default_writer, fields_written, has_written, row_text, with_flexible, writer_setup};
 ghost use Rattle.csv_text.specs.Between.{IsBetween, text_of};
 ghost use Rattle.csv_text.specs.Rows.{nothing_written, with_field, with_fields, with_end, with_rows, value_text, row_fields};
 
@@ -40,9 +40,7 @@ impl RowWriter {
     {
         RowWriter {
             alloc,
-            writer: WriterBuilder::new()
-                .flexible(true)
-                .from_writer(Vec::new(alloc)),
+            writer: new_writer(alloc),
             row: ByteRecord::new(alloc),
         }
     }
@@ -55,7 +53,7 @@ impl RowWriter {
         match self.row.push_field(field) {
             Ok(()) => Ok(()),
             Err(_) => {
-                *self = RowWriter::new(self.alloc);
+                start_anew(self.alloc, &mut self.writer, &mut self.row);
                 Err(Memory)
             }
         }
@@ -88,7 +86,7 @@ impl RowWriter {
         match write_record(&mut self.writer, &mut self.row) {
             Ok(()) => Ok(()),
             Err(Memory) => {
-                *self = RowWriter::new(self.alloc);
+                start_anew(self.alloc, &mut self.writer, &mut self.row);
                 Err(Memory)
             }
         }
@@ -161,4 +159,29 @@ fn write_record(writer: &mut Writer<Vec<u8>>, row: &mut ByteRecord) -> Result<()
     }
     row.clear();
     Ok(())
+}
+
+/// A writer of rows that may have different numbers of fields.
+fn new_writer(alloc: Global) -> Writer<Vec<u8>>
+    ensures setup { writer_setup result ≡ with_flexible default_writer true }
+    ensures fields { fields_written result ≡ 0 }
+    ensures wrote { has_written result ≡ false }
+    ensures text { text_of result ≡ [] }
+{
+    WriterBuilder::new()
+        .flexible(true)
+        .from_writer(Vec::new(alloc))
+}
+
+/// Drops all that was written. A function pays at its entry for the room of its locals, and this one has a new writer: so it stands apart,
+/// and no row pays for it.
+#[cold]
+#[inline(never)]
+fn start_anew(alloc: Global, writer: &mut Writer<Vec<u8>>, row: &mut ByteRecord)
+    ensures between { IsBetween writer.new row.new }
+    ensures text { text_of writer.new ≡ [] }
+    ensures fields { fields_of row.new ≡ [] }
+{
+    *writer = new_writer(alloc);
+    *row = ByteRecord::new(alloc);
 }

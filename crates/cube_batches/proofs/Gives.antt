@@ -1,6 +1,7 @@
--- What the commands of a batch reply: a batch is refused, begins, or begins and is committed at once.
-use Rattle.std.proofs.Common.{◌≡◌, ◌≢◌, ◌<◌, ℕ, inl, inr, List, [], ◌∷◌, length, Some, Result, Ok, Err, IfOk, codes, sym, subst, arith}
+-- What the commands of a batch reply: a batch is refused, or begins, or begins and is committed at once.
+use Rattle.std.proofs.Common.{◌≡◌, ◌<◌, IsTrue, ℕ, inr, List, [], ◌∷◌, length, Some, Result, Ok, Err, IfOk, refl, sym, subst, arith}
 use Rattle.site_core.specs.Disk.{Files}
+use Rattle.site_core.specs.declared.site.Site.{Ghosts}
 use Rattle.attr_dict.specs.Admitting.{names_with}
 use Rattle.fact_model.specs.declared.fact.Fact.{Fact}
 use Rattle.forest_refresh.specs.Back.{IsBack}
@@ -9,63 +10,78 @@ use Rattle.forest_refresh.specs.Trees.{AreAllWhole, deltas_by}
 use Rattle.forest_refresh.specs.declared.stop.BeginStop.{BeginStop}
 use Rattle.forest_root.specs.declared.forest.Forest.{Forest}
 use Rattle.forest_root.specs.declared.forest.Store.{Store}
-use Rattle.reply_text.specs.Replies.{committed_text, line}
+use Rattle.plain_machine.specs.declared.batch_source.BatchSource.{BatchSource}
+use Rattle.plain_machine.specs.Machine.{batch_from}
 use Rattle.cube_state.specs.declared.answered.Answered.{Answered}
+use Rattle.cube_state.specs.declared.state.State.{State}
+use Rattle.cube_state.specs.declared.state.State.TheVariants.{Empty, Hollow, Idle, Pending}
 use Rattle.cube_state.specs.declared.stop.Stop.{Stop}
-use Rattle.cube_batches.specs.Gives.{GivesBatch, GivesBegun, IsFinished, IsRefused, IsTakenIn}
+use Rattle.cube_batches.specs.Gives.{FinishGives, GivesBatch, GivesSource, IsFinished, LoadGives}
+use Rattle.cube_batches.specs.declared.batch.Read.{Read}
+use Rattle.cube_batches.specs.declared.batch.Read.TheVariants.{Batch}
+use Rattle.cube_batches.specs.Reading.{IsRead}
 use Rattle.cube_batches.specs.Refusals.{refusal_text}
+use Rattle.cube_batches.specs.Taking.{HasBegun, Takes, TakesBatch, TakesRead, TouchesFor, WritesRoot}
+use Rattle.cube_batches.specs.declared.taking.Taken.{Taken}
+use Rattle.cube_batches.specs.declared.taking.Taken.TheVariants.{Refused, Begun as Began}
+use Rattle.cube_batches.proofs.BatchReads.{batch_read}
 use Rattle.cube_batches.proofs.Told.{same_whole}
 
--- an empty one is acknowledged
-pub none_gives : (store : Store) (files : Files) (batch : List Fact) (result : Result Answered Stop) → batch ≡ []
-    → IfOk result (λ done. done.reply.items ≡ committed_text store.forest.body.facts) → IfOk result (λ done. GivesBatch store files batch done.reply.items)
-none_gives store files batch result none said =
-    subst (λ (b : List Fact). IfOk result (λ done. GivesBatch store files b done.reply.items)) (sym none) said
+-- what becomes of the batch that was read or made
+pub read_takes : (store : Store) (read : Result (List Fact) (List ℕ)) (given : Read) (batch : List Fact) (taken : Taken) → IsRead read given → given ≡ Batch batch
+    → TakesBatch store batch taken → TakesRead store read taken
+read_takes store read given batch taken is same takes =
+    subst (λ (r : Result (List Fact) (List ℕ)). TakesRead store r taken) (sym (batch_read read given batch is same)) takes
 
--- a limit is named by the store that is handed back
-pub refused_as : (store back : Store) (why : BeginStop) (result : Result Answered Stop) → IsBack store back
-    → IfOk result (λ done. refusal_text back.forest.schema why ≡ Some done.reply.items) → IfOk result (λ done. IsRefused store done.reply.items)
-refused_as store back why (Ok done) same said =
-    (why, subst (λ (f : Forest). refusal_text f.schema why ≡ Some done.reply.items) same.forest said)
-refused_as store back why (Err stop) same said = tt
-
--- so it is refused
-pub refused_gives : (store : Store) (files : Files) (batch : List Fact) (result : Result Answered Stop) → 0 < length batch
-    → IfOk result (λ done. IsRefused store done.reply.items) → IfOk result (λ done. GivesBatch store files batch done.reply.items)
-refused_gives store files [] result some is = absurd (omega (arith, some))
-refused_gives store files (x ∷ xs) (Ok done) some is = inl is
-refused_gives store files (x ∷ xs) (Err stop) some is = tt
-
-pub refused_begins : (store : Store) (batch : List Fact) (result : Result Answered Stop) → IfOk result (λ done. IsRefused store done.reply.items)
-    → IfOk result (λ done. GivesBegun store (Ok batch) done.reply.items)
-refused_begins store batch (Ok done) is = inl is
-refused_begins store batch (Err stop) is = tt
+-- it is refused: a limit is named by the store that is handed back
+pub refused_takes : (store back : Store) (batch : List Fact) (why : BeginStop) (done : Answered) → 0 < length batch → IsBack store back
+    → refusal_text back.forest.schema why ≡ Some done.reply.items → TakesBatch store batch (Refused done)
+refused_takes store back [] why done some same said = absurd (omega (arith, some))
+refused_takes store back (x ∷ xs) why done some same said = (why, subst (λ (f : Forest). refusal_text f.schema why ≡ Some done.reply.items) same.forest said)
 
 -- it begins
-pub begun_gives : (store : Store) (batch : List Fact) (result : Result Answered Stop) → IfOk result (λ done. done.reply.items ≡ line (codes "begun"))
-    → IfOk result (λ done. GivesBegun store (Ok batch) done.reply.items)
-begun_gives store batch (Ok done) is = inr is
-begun_gives store batch (Err stop) is = tt
+pub begun_takes : (store : Store) (batch : List Fact) (r : Begun) → 0 < length batch → r.store.forest ≡ store.forest
+    → r.deltas ≡ deltas_by (names_with store.dicts batch) store.forest.schema batch → TakesBatch store batch (Began (Pending r))
+begun_takes store [] r some forest points = absurd (omega (arith, some))
+begun_takes store (x ∷ xs) r some forest points = record { refresh = r; is = refl; forest = forest; points = points }
 
--- another is taken in
-some_gives : (store : Store) (files : Files) (batch : List Fact) (reply : List ℕ) → 0 < length batch → IsTakenIn store files batch reply
-    → GivesBatch store files batch reply
-some_gives store files [] reply some is = absurd (omega (arith, some))
-some_gives store files (x ∷ xs) reply some is = inr is
+-- ---- the reply to one that is committed at once: where the root file alone differs the trees are the same
 
--- it begins, which changes the root file alone, and is committed
-module _ (r : Begun) (store : Store) (old new : Files) (batch : List Fact) (forest : r.store.forest ≡ store.forest)
-    (points : r.deltas ≡ deltas_by (names_with store.dicts batch) store.forest.schema batch)
-    (others : (file : ℕ) → file ≢ 0 → new file ≡ old file) where
-  taken_whole : AreAllWhole r.store.forest new r.deltas
-      → AreAllWhole store.forest old (deltas_by (names_with store.dicts batch) store.forest.schema batch)
-  taken_whole whole =
-      subst (λ d. AreAllWhole store.forest old d) points
-      (subst (λ (f : Forest). AreAllWhole f old r.deltas) forest (λ t low. same_whole r old new others t (whole t low)))
+module _ {S : Type 0} (T : Ghosts S) (old mid : S) (tells : IsTrue T.tells) where
+  abbrev before : Files
+  before = (T.disk old).files
 
-  pub taken_gives : (result : Result Answered Stop) → 0 < length batch → IfOk result (λ done. IsFinished r new done.reply.items)
-      → IfOk result (λ done. GivesBatch store old batch done.reply.items)
-  taken_gives (Err stop) some is = tt
-  taken_gives (Ok done) some is =
-      some_gives store old batch done.reply.items some
-      (record { whole = taken_whole is.whole; count = r.next.facts; said = is.said })
+  abbrev between : Files
+  between = (T.disk mid).files
+
+  taken_whole : (store : Store) (batch : List Fact) (state : State) (is : HasBegun store batch state) → TouchesFor T old mid state
+      → AreAllWhole is.refresh.store.forest between is.refresh.deltas
+      → AreAllWhole store.forest before (deltas_by (names_with store.dicts batch) store.forest.schema batch)
+  taken_whole store batch state is touches whole =
+      let root : WritesRoot T old mid = subst (TouchesFor T old mid) is.is touches in
+      subst (λ d. AreAllWhole store.forest before d) is.points
+      (subst (λ (f : Forest). AreAllWhole f before is.refresh.deltas) is.forest (λ t low. same_whole is.refresh before between (root.others tells) t (whole t low)))
+
+  committed_batch : (store : Store) (batch : List Fact) (state : State) (reply : List ℕ) → TakesBatch store batch (Began state) → TouchesFor T old mid state
+      → FinishGives state between reply → GivesBatch store before batch reply
+  committed_batch store [] state reply is touches said = subst (λ (s : State). FinishGives s between reply) is said
+  committed_batch store (x ∷ xs) state reply is touches said =
+      let ends : IsFinished is.refresh between reply = subst (λ (s : State). FinishGives s between reply) is.is said in
+      inr (record { whole = taken_whole store (x ∷ xs) state is touches ends.whole; count = is.refresh.next.facts; said = ends.said })
+
+  committed_read : (store : Store) (read : Result (List Fact) (List ℕ)) (state : State) (reply : List ℕ) → TakesRead store read (Began state) → TouchesFor T old mid state
+      → FinishGives state between reply → GivesSource store before read reply
+  committed_read store (Err text) state reply is touches said = absurd is
+  committed_read store (Ok batch) state reply is touches said = committed_batch store batch state reply is touches said
+
+  committed_reply : (was : State) (source : BatchSource) (state : State) (reply : List ℕ) → Takes was source (Began state) → TouchesFor T old mid state
+      → FinishGives state between reply → LoadGives was before source reply
+  committed_reply Empty source state reply is touches said = absurd is
+  committed_reply (Idle store) source state reply is touches said = committed_read store (batch_from store.forest.schema source) state reply is touches said
+  committed_reply (Hollow store) source state reply is touches said = absurd is
+  committed_reply (Pending refresh) source state reply is touches said = absurd is
+
+  pub load_gives : (was : State) (source : BatchSource) (state : State) (result : Result Answered Stop) → Takes was source (Began state) → TouchesFor T old mid state
+      → IfOk result (λ done. FinishGives state (T.disk mid).files done.reply.items) → IfOk result (λ done. LoadGives was (T.disk old).files source done.reply.items)
+  load_gives was source state (Ok done) is touches said = committed_reply was source state done.reply.items is touches said
+  load_gives was source state (Err stop) is touches said = tt

@@ -20,9 +20,8 @@ use Rattle.forest_refresh.specs.declared.stop.BeginStop.TheVariants as begins
 use Rattle.forest_refresh.specs.Limits.{TellsLimit}
 use Rattle.forest_store.specs.Held.{AreAccepted, HasNames}
 use Rattle.forest_store.proofs.Schemas.{few_measures}
-use Rattle.reply_text.specs.Replies.{committed_text}
-use Rattle.plain_machine.specs.Machine.{accepted, begun, begun_or_refused, committed, fact_limit, first_full, first_heavy, full_refusal, heavy_refusal, refusal_of, unless}
-use Rattle.plain_machine.specs.World.{Warehouse, World, idle}
+use Rattle.plain_machine.specs.Machine.{fact_limit, first_full, first_heavy, full_refusal, heavy_refusal, refusal_of}
+use Rattle.plain_machine.specs.World.{Warehouse}
 use Rattle.cube_batches.specs.Refusals.{refusal_text}
 
 -- ---- the first attribute with too many names
@@ -102,14 +101,6 @@ module _ (warehouse : Warehouse) (batch : List Fact) (lawful : IsSchema warehous
       past_named a fine.named
       ∙ ap heavy_refusal (none_heavy 0 schema.measures all (λ m below. fine.masses m (omega (arith, below, few_measures schema lawful))))
 
-  -- so it is accepted
-  pub all_accepted : (world : World) → AreAccepted warehouse.schema (warehouse.facts ++ batch) → accepted world warehouse batch ≡ committed warehouse batch
-  all_accepted world fine = ap (unless world (committed warehouse batch)) (none_refused fine)
-
-  -- or made pending
-  pub all_begun : (world : World) → AreAccepted warehouse.schema (warehouse.facts ++ batch) → begun_or_refused world warehouse batch ≡ begun warehouse batch
-  all_begun world fine = ap (unless world (begun warehouse batch)) (none_refused fine)
-
   -- a full attribute is declared
   full_declared : All (Agrees warehouse.schema) all → (a : ℕ) → max_at warehouse.schema a < length (names_of all a) → a < length warehouse.schema.attrs
   full_declared each a full = elim (cases_Bool (nat_lt a (length warehouse.schema.attrs))) [
@@ -152,19 +143,9 @@ module _ (warehouse : Warehouse) (batch : List Fact) (lawful : IsSchema warehous
   one_refused each begins.Memory text is same = absurd (cc)
   one_refused each begins.Disk text is same = absurd (cc)
 
--- an empty batch is accepted or made pending, and changes no fact
-module _ (warehouse : Warehouse) (batch : List Fact) (lawful : IsSchema warehouse.schema) (fine : AreAccepted warehouse.schema warehouse.facts) (none : batch ≡ []) where
-  same_facts : warehouse.facts ++ batch ≡ warehouse.facts
-  same_facts = ap (λ (l : List Fact). warehouse.facts ++ l) none ∙ append-nil warehouse.facts
-
-  still_fine : AreAccepted warehouse.schema (warehouse.facts ++ batch)
-  still_fine = subst (AreAccepted warehouse.schema) (sym same_facts) fine
-
-  pub none_committed : committed warehouse batch ≡ (idle warehouse, committed_text (length warehouse.facts))
-  none_committed = ap (λ (l : List Fact). (idle (record { schema = warehouse.schema; facts = l }), committed_text (length l))) same_facts
-
-  pub none_accepted : (world : World) → accepted world warehouse batch ≡ (idle warehouse, committed_text (length warehouse.facts))
-  none_accepted world = all_accepted warehouse batch lawful world still_fine ∙ none_committed
-
-  pub none_begun : (world : World) → begun_or_refused world warehouse batch ≡ begun warehouse []
-  none_begun world = all_begun warehouse batch lawful world still_fine ∙ ap (begun warehouse) none
+-- nor is an empty one, which changes no fact
+pub empty_fits : (warehouse : Warehouse) (batch : List Fact) → IsSchema warehouse.schema → AreAccepted warehouse.schema warehouse.facts → batch ≡ []
+    → refusal_of warehouse.schema (warehouse.facts ++ batch) ≡ None
+empty_fits warehouse batch lawful fine none =
+    let same : warehouse.facts ++ batch ≡ warehouse.facts = ap (λ (l : List Fact). warehouse.facts ++ l) none ∙ append-nil warehouse.facts in
+    none_refused warehouse batch lawful (subst (AreAccepted warehouse.schema) (sym same) fine)

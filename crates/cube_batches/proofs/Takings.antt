@@ -1,16 +1,17 @@
 -- What a batch that is taken in makes of the plain machine's world.
-use Rattle.std.proofs.Common.{◌≡◌, ◌<◌, ◌≤◌, ◌+◌, ◌++◌, ℕ, List, [], ◌∷◌, length, inl, inr, Some, None, Result, Ok, Err, IfOk, OnOk, codes, refl, sym, ◌∙◌, ap, subst, arith, length-append, take}
+use Rattle.std.proofs.Common.{◌≡◌, IsTrue, ◌<◌, ◌++◌, ℕ, List, [], length, inl, inr, Some, Result, Ok, Err, IfOk, refl, sym, ◌∙◌, ap, subst, take}
 use Rattle.std.proofs.lemmas.List.Elements.{All-append}
 use Rattle.std.specs.List.{All}
 use Rattle.std.specs.Prelude.{slice_index}
 use Rattle.site_core.specs.Disk.{Files, Disk}
 use Rattle.site_core.specs.Moments.{LeavesOnly, IsStable}
-use Rattle.site_core.proofs.Run.{joined, wider}
+use Rattle.site_core.specs.declared.site.Site.{Ghosts}
+use Rattle.site_core.proofs.Run.{holds_to, joined, stable_holds, wider}
 use Rattle.cube_schema.specs.Agreeing.{Agrees}
 use Rattle.cube_schema.specs.declared.schema.Schema.{Schema}
 use Rattle.fact_model.specs.declared.fact.Fact.{Fact}
 use Rattle.forest_refresh.specs.Back.{IsBack}
-use Rattle.forest_refresh.specs.Begun.{Begun, IsRefreshOf}
+use Rattle.forest_refresh.specs.Begun.{Begun, IsReady, IsRefreshOf}
 use Rattle.forest_refresh.specs.Limits.{TellsLimit}
 use Rattle.forest_refresh.specs.Refreshed as refreshes
 use Rattle.forest_refresh.specs.declared.stop.BeginStop.{BeginStop}
@@ -18,22 +19,25 @@ use Rattle.forest_refresh.specs.declared.stop.BeginStop.TheVariants as begins
 use Rattle.forest_root.specs.declared.forest.Forest.{Forest}
 use Rattle.forest_root.specs.declared.forest.Store.{Store}
 use Rattle.forest_store.specs.Held.{AreAccepted, IsLive, KeepsFacts}
-use Rattle.forest_store.specs.Stored.{IsStoreOf}
-use Rattle.reply_text.specs.Replies.{committed_text, line}
-use Rattle.plain_machine.specs.Stages.{size}
+use Rattle.forest_store.specs.Opened.{IsOpened}
+use Rattle.forest_store.specs.Stored.{IsStoreOf, IsWhole}
+use Rattle.reply_text.specs.Replies.{committed_text}
 use Rattle.plain_machine.specs.Keeps.{IsLawful}
-use Rattle.plain_machine.specs.Machine.{Answer, abandon, accepted, begun, begun_or_refused, committed, refusal_of, unless}
-use Rattle.plain_machine.specs.World.{Warehouse, World, idle}
+use Rattle.plain_machine.specs.declared.batch_source.BatchSource.{BatchSource}
+use Rattle.plain_machine.specs.Machine.{Answer, abandon, batch_from, committed, finish, load, refusal_of, unless}
+use Rattle.plain_machine.specs.World.{Warehouse, World, begun_with, idle}
 use Rattle.cube_state.specs.declared.answered.Answered.{Answered}
 use Rattle.cube_state.specs.declared.state.State.{State}
-use Rattle.cube_state.specs.declared.state.State.TheVariants.{Idle, Pending}
+use Rattle.cube_state.specs.declared.state.State.TheVariants.{Hollow, Idle, Pending}
 use Rattle.cube_state.specs.declared.stop.Stop.{Stop}
+use Rattle.cube_state.specs.Frames.{RunsOn}
 use Rattle.cube_state.specs.Session.{Attends, Belongs, Between, IsAnswer, KeepsEither, Stands}
-use Rattle.cube_state.proofs.Answering.{answers, answers_as}
-use Rattle.cube_batches.specs.Costs.{begins_over}
-use Rattle.cube_batches.specs.Costs as costs
+use Rattle.cube_state.proofs.Answering.{answers, between_as}
 use Rattle.cube_batches.specs.Refusals.{refusal_text}
-use Rattle.cube_batches.proofs.Limits.{all_accepted, all_begun, one_refused}
+use Rattle.cube_batches.specs.Taking.{IsPending, IsTaken}
+use Rattle.cube_batches.specs.declared.taking.Taken.TheVariants.{Refused}
+use Rattle.cube_batches.proofs.BatchReads.{answer_pending, answer_read}
+use Rattle.cube_batches.proofs.Limits.{empty_fits, none_refused, one_refused}
 
 -- ---- one run behind another
 
@@ -41,6 +45,11 @@ pub between_then : (old mid new : Disk) (world next : World) → mid.told ≡ ol
 between_then old mid new world next quiet first second =
     joined old mid new (λ told files. (told ≡ old.told) × KeepsEither world next files) first
     (wider mid new _ _ (λ told files both. (both.0 ∙ quiet, both.1)) second)
+
+-- what the warehouse's world keeps is what this one keeps
+pub moments_as : (old new : Disk) (world : World) (warehouse : Warehouse) (next : World) → world ≡ idle warehouse → Between old new (idle warehouse) next
+    → Between old new world next
+moments_as old new world warehouse next same run = subst (λ (w : World). Between old new w next) (sym same) run
 
 -- ---- a batch that is to begin
 
@@ -52,75 +61,70 @@ module _ (store : Store) (old new : Disk) (warehouse : Warehouse) (batch : List 
       (λ told files both. (both.0, inl (record { lawful = is.lawful; kept = subst (λ (s : Schema). KeepsFacts s warehouse.facts files) is.schema both.1 }))) run
 
   -- it has begun
-  pub begin_attends : (r : Begun) → r.store.forest ≡ store.forest → IsRefreshOf r warehouse.facts batch new.files → 0 < length batch → IsStable new
+  pub begin_attends : (r : Begun) → r.store.forest ≡ store.forest → IsRefreshOf r warehouse.facts batch new.files → IsStable new → 0 < length batch → IsReady r new
       → Attends r new warehouse batch
-  begin_attends r same adds some stable = record {
+  begin_attends r same adds stable some ready = record {
     lawful = is.lawful;
     schema = ap (λ (f : Forest). f.schema) same ∙ is.schema;
-    adds = adds;
+    adds = stable_holds (IsRefreshOf r warehouse.facts batch) new stable adds;
     some = some;
-    stable = stable;
+    ready = ready;
   }
 
--- so it is pending
-module _ (r : Begun) (new : Disk) (warehouse : Warehouse) (batch : List Fact) (is : Attends r new warehouse batch) where
-  -- all facts keep the limits
-  pub all_fine : AreAccepted warehouse.schema (warehouse.facts ++ batch)
-  all_fine = subst (λ (s : Schema). AreAccepted s (warehouse.facts ++ batch)) is.schema is.adds.all
+-- so it is pending, and all facts keep the limits
+pub all_fine : (r : Begun) (new : Disk) (warehouse : Warehouse) (batch : List Fact) → Attends r new warehouse batch → AreAccepted warehouse.schema (warehouse.facts ++ batch)
+all_fine r new warehouse batch is = subst (λ (s : Schema). AreAccepted s (warehouse.facts ++ batch)) is.schema is.adds.read.all
 
-  now_begun : begun_or_refused (idle warehouse) warehouse batch ≡ begun warehouse batch
-  now_begun = all_begun warehouse batch is.lawful.schema (idle warehouse) all_fine
+pub begun_pending : (r : Begun) (new : Disk) (warehouse : Warehouse) (source : BatchSource) (batch : List Fact) → Attends r new warehouse batch
+    → batch_from warehouse.schema source ≡ Ok batch → IsPending new (idle warehouse) source (Pending r)
+begun_pending r new warehouse source batch is read = record {
+  warehouse = warehouse;
+  batch = batch;
+  idle = refl;
+  read = read;
+  fits = none_refused warehouse batch is.lawful.schema (all_fine r new warehouse batch is);
+  stands = (warehouse, batch, refl, is);
+}
 
-  pub now_accepted : accepted (idle warehouse) warehouse batch ≡ committed warehouse batch
-  now_accepted = all_accepted warehouse batch is.lawful.schema (idle warehouse) all_fine
-
-  pub begun_answer : (result : Result Answered Stop) → IfOk result (λ done. done.state ≡ Pending r) → IfOk result (λ done. done.reply.items ≡ line (codes "begun"))
-      → IfOk result (IsAnswer new (begun_or_refused (idle warehouse) warehouse batch))
-  begun_answer result state reply =
-      answers_as result new (begun warehouse batch) _ (sym now_begun) (answers result (Pending r) _ new (begun warehouse batch) state reply (warehouse, batch, refl, is) refl)
-
-  one_begins : (facts : List Fact) → 0 < length facts → begins_over None (Some facts) ≡ 1
-  one_begins [] some = absurd (omega (arith, some))
-  one_begins (x ∷ xs) some = refl
-
-  -- so it begins
-  pub does_begin : costs.begins (idle warehouse) (begun_or_refused (idle warehouse) warehouse batch).0 ≡ 0 → ⊥
-  does_begin none =
-      let one : costs.begins (idle warehouse) (begun_or_refused (idle warehouse) warehouse batch).0 ≡ 1 =
-      ap (λ (a : Answer). costs.begins (idle warehouse) a.0) now_begun ∙ one_begins batch is.some in
-      omega (arith, none, one)
-
-  -- which one write tells
-  pub begun_writes : (result : Result Answered Stop) (old now : ℕ) → now ≤ old + 1
-      → OnOk result (now ≤ old + costs.begins (idle warehouse) (begun_or_refused (idle warehouse) warehouse batch).0)
-  begun_writes (Err stop) old now few = tt
-  begun_writes (Ok done) old now few =
-      let one : costs.begins (idle warehouse) (begun_or_refused (idle warehouse) warehouse batch).0 ≡ 1 =
-      ap (λ (a : Answer). costs.begins (idle warehouse) a.0) now_begun ∙ one_begins batch is.some in
-      omega (arith, few, one)
+-- so is an empty one
+pub empty_pending : (store : Store) (disk : Disk) (warehouse : Warehouse) (source : BatchSource) (batch : List Fact) → Belongs store disk warehouse
+    → batch_from warehouse.schema source ≡ Ok batch → batch ≡ [] → IsPending disk (idle warehouse) source (Hollow store)
+empty_pending store disk warehouse source batch is read none = record {
+  warehouse = warehouse;
+  batch = batch;
+  idle = refl;
+  read = read;
+  fits = empty_fits warehouse batch is.lawful.schema is.lawful.accepted none;
+  stands = (warehouse, ap (begun_with warehouse) none, is);
+}
 
 -- the store is handed back
 pub back_belongs : (store back : Store) (disk : Disk) (warehouse : Warehouse) → IsBack store back → Belongs store disk warehouse → Belongs back disk warehouse
 back_belongs store back disk warehouse same is = record {
   lawful = is.lawful;
   schema = ap (λ (f : Forest). f.schema) same.forest ∙ is.schema;
-  stored = record {
-    accepted = subst (λ (f : Forest). AreAccepted f.schema warehouse.facts) (sym same.forest) is.stored.accepted;
-    live = subst (λ (f : Forest). IsLive f.schema f.body warehouse.facts disk.files) (sym same.forest) is.stored.live;
-    names = λ a. (λ i. take (slice_index (same.shown i).at a) (same.names a i)) ∙ is.stored.names a;
-  };
-  stable = is.stable;
+  stored = holds_to (IsStoreOf store warehouse.facts) (IsStoreOf back warehouse.facts) disk (λ files stored. record {
+    accepted = subst (λ (f : Forest). AreAccepted f.schema warehouse.facts) (sym same.forest) stored.accepted;
+    live = subst (λ (f : Forest). IsLive f.schema f.body warehouse.facts files) (sym same.forest) stored.live;
+    names = λ a. (λ i. take (slice_index (same.shown i).at a) (same.names a i)) ∙ stored.names a;
+  }) is.stored;
+  opened = subst (λ (f : Forest). IsOpened f.body disk) (sym same.forest) is.opened;
 }
 
 -- a refusal has a limit as its cause
 pub no_fault : (schema : Schema) (why : BeginStop) (text : List ℕ) → refusal_text schema why ≡ Some text → why ≡ begins.Disk → ⊥
 no_fault schema why text refused is = let none : refusal_text schema begins.Disk ≡ Some text = subst (λ (w : BeginStop). refusal_text schema w ≡ Some text) is refused in absurd (cc)
 
--- a batch that is refused has made no call
-pub refused_silent : (schema : Schema) (why : BeginStop) (result : Result Answered Stop) (old new : ℕ) → IfOk result (λ done. refusal_text schema why ≡ Some done.reply.items)
-    → ((why ≡ begins.Disk → ⊥) → new ≡ old) → OnOk result (new ≡ old)
-refused_silent schema why (Ok done) old new text same = same (no_fault schema why done.reply.items text)
-refused_silent schema why (Err stop) old new text same = tt
+-- a batch that is refused has made no call, and the session goes on
+pub refused_runs : {S : Type 0} (T : Ghosts S) (old new : S) (store back : Store) (why : BeginStop) (done : Answered) → IsWhole store
+    → (IsTrue T.tells → IsOpened store.forest.body (T.disk old)) → IsBack store back → ((why ≡ begins.Disk → ⊥) → new ≡ old) → done.state ≡ Idle back
+    → refusal_text back.forest.schema why ≡ Some done.reply.items → RunsOn T new done.state
+refused_runs {S = S} T old new store back why done whole opened same unchanged state reply =
+    let here : new ≡ old = unchanged (no_fault back.forest.schema why done.reply.items reply) in
+    subst (RunsOn T new) (sym state) (record {
+      running = λ a. (λ i. slice_index (same.shown i).at a) ∙ (whole a ∙ sym (ap length (same.names a)));
+      fit = λ t. subst (λ (f : Forest). IsOpened f.body (T.disk new)) (sym same.forest) (subst (λ (s : S). IsOpened store.forest.body (T.disk s)) (sym here) (opened t));
+    })
 
 module _ (store back : Store) (old new : Disk) (warehouse : Warehouse) (batch : List Fact) (why : BeginStop) (is : Belongs store old warehouse)
     (each : All (Agrees store.forest.schema) batch) (limit : TellsLimit store.forest.schema (warehouse.facts ++ batch) why)
@@ -134,16 +138,14 @@ module _ (store back : Store) (old new : Disk) (warehouse : Warehouse) (batch : 
       (subst (λ (s : Schema). TellsLimit s (warehouse.facts ++ batch) why) is.schema limit)
       (subst (λ (s : Schema). refusal_text s why ≡ Some text) (ap (λ (f : Forest). f.schema) same.forest ∙ is.schema) refused)
 
-  -- where a limit is passed the plain machine refuses so, whatever else it would answer
-  pub refused_answer : (answer : Answer) (result : Result Answered Stop) → IfOk result (λ done. done.state ≡ Idle back)
-      → IfOk result (λ done. refusal_text back.forest.schema why ≡ Some done.reply.items)
-      → IfOk result (IsAnswer new (unless (idle warehouse) answer (refusal_of warehouse.schema (warehouse.facts ++ batch))))
-  refused_answer answer (Err stop) state reply = tt
-  refused_answer answer (Ok done) state reply =
+  -- where a limit is passed the plain machine refuses so, whatever would follow
+  pub refused_taken : (source : BatchSource) (done : Answered) → batch_from warehouse.schema source ≡ Ok batch → done.state ≡ Idle back
+      → refusal_text back.forest.schema why ≡ Some done.reply.items → IsTaken new (idle warehouse) source (Refused done)
+  refused_taken source done read state reply = λ next.
       let belongs = back_belongs store back new warehouse same (subst (λ (d : Disk). Belongs store d warehouse) (sym (unchanged (no_fault back.forest.schema why done.reply.items reply))) is) in
-      answers_as (Ok done) new (idle warehouse, done.reply.items) _
-      (ap (unless (idle warehouse) answer) (sym (by_limit done.reply.items reply)))
-      (answers (Ok done) (Idle back) done.reply.items new (idle warehouse, done.reply.items) state refl (warehouse, refl, belongs) refl)
+      subst (λ (a : Answer). IsAnswer new a done)
+      (sym (answer_read warehouse source batch next read ∙ ap (unless (idle warehouse) (next warehouse batch)) (by_limit done.reply.items reply)))
+      (record { stands = subst (λ (s : State). Stands s new (idle warehouse)) (sym state) (warehouse, refl, belongs); reply = refl })
 
 -- ---- a batch that has begun is committed
 
@@ -165,9 +167,9 @@ module _ (r : Begun) (old new : Disk) (warehouse : Warehouse) (batch : List Fact
       by files (inl kept) = inl (record { lawful = is.lawful; kept = kept })
       by files (inr both) = inr (record { lawful = all_lawful; kept = both.1 })
 
-  module _ (now : Store) (schema : now.forest.schema ≡ r.store.forest.schema) (stored : IsStoreOf now (warehouse.facts ++ batch) new.files) (stable : IsStable new) where
+  module _ (now : Store) (schema : now.forest.schema ≡ r.store.forest.schema) (stored : IsStoreOf now (warehouse.facts ++ batch) new.files) (stable : IsStable new) (opened : IsOpened now.forest.body new) where
     committed_belongs : Belongs now new next
-    committed_belongs = record { lawful = all_lawful; schema = schema ∙ is.schema; stored = stored; stable = stable }
+    committed_belongs = record { lawful = all_lawful; schema = schema ∙ is.schema; stored = stable_holds (IsStoreOf now (warehouse.facts ++ batch)) new stable stored; opened = opened }
 
     pub committed_answer : (result : Result Answered Stop) → IfOk result (λ done. done.state ≡ Idle now)
         → IfOk result (λ done. done.reply.items ≡ committed_text now.forest.body.facts) → IfOk result (IsAnswer new (committed warehouse batch))
@@ -175,11 +177,16 @@ module _ (r : Begun) (old new : Disk) (warehouse : Warehouse) (batch : List Fact
         answers result (Idle now) (committed_text now.forest.body.facts) new (committed warehouse batch) state reply (next, refl, committed_belongs)
         (ap committed_text stored.live.at.body_is.facts)
 
-  -- what is known grows
-  pub committed_grows : (committed warehouse batch).0.kept ≡ Some warehouse → ⊥
-  committed_grows stays =
-      let sizes : length (warehouse.facts ++ batch) + 1 ≡ length warehouse.facts + 1 = ap size stays in
-      omega (arith, is.some, sizes, length-append warehouse.facts batch)
+-- a batch that is pending is committed at once, which is a load
+module _ (mid new : Disk) (world : World) (source : BatchSource) (state : State) (is : IsPending mid world source state) where
+  abbrev pending : World
+  pending = begun_with is.warehouse is.batch
+
+  same_answer : finish pending ≡ load world source
+  same_answer = sym (answer_pending mid world source state is committed)
+
+  pub load_moments : Between mid new (begun_with is.warehouse is.batch) (finish (begun_with is.warehouse is.batch)).0 → Between mid new world (load world source).0
+  load_moments run = moments_as mid new world is.warehouse (load world source).0 is.idle (between_as mid new (idle is.warehouse) (finish pending) (load world source) same_answer run)
 
 -- ---- a batch that has begun is dropped
 
@@ -191,7 +198,7 @@ abandoned r store disk world (Ok done) same given is state =
     let belongs : Belongs store disk is.0 = record {
       lawful = is.3.lawful;
       schema = ap (λ (f : Forest). f.schema) same ∙ is.3.schema;
-      stored = given is.0.facts is.1 disk.files is.3.adds;
-      stable = is.3.stable;
+      stored = holds_to (IsRefreshOf r is.0.facts is.1) (IsStoreOf store is.0.facts) disk (given is.0.facts is.1) is.3.adds;
+      opened = subst (λ (f : Forest). IsOpened f.body disk) (sym same) is.3.ready.opened;
     } in
     subst (λ (s : State). Stands s disk (abandon world).0) (sym state) (is.0, ap (λ (w : World). (abandon w).0) is.2, belongs)

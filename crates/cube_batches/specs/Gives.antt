@@ -12,7 +12,7 @@ use Rattle.script_lang.specs.declared.command.Block.{Block}
 use Rattle.plain_machine.specs.declared.batch_source.BatchSource.{BatchSource}
 use Rattle.plain_machine.specs.Machine.{batch_from, block_read}
 use Rattle.cube_state.specs.declared.state.State.{State}
-use Rattle.cube_state.specs.declared.state.State.TheVariants.{Stopped, Empty, Idle, Hollow, Pending}
+use Rattle.cube_state.specs.declared.state.State.TheVariants.{Empty, Idle, Hollow, Pending}
 use Rattle.cube_state.specs.Session.{IsLine}
 use Rattle.cube_batches.specs.Refusals.{refusal_text}
 
@@ -40,7 +40,6 @@ GivesSource store files (Ok batch) reply = GivesBatch store files batch reply
 
 -- the reply to a load
 abbrev pub LoadGives : State → Files → BatchSource → List ℕ → Type 0
-LoadGives Stopped files source reply = ⊥
 LoadGives Empty files source reply = IsLine (codes "refused no schema") reply
 LoadGives (Idle store) files source reply = GivesSource store files (batch_from store.forest.schema source) reply
 LoadGives (Hollow store) files source reply = IsLine (codes "refused pending") reply
@@ -53,7 +52,6 @@ GivesBegun store (Ok batch) reply = IsRefused store reply ⊎ IsLine (codes "beg
 
 -- the reply where a batch is to begin
 abbrev pub BeginGives : State → Block → List ℕ → Type 0
-BeginGives Stopped block reply = ⊥
 BeginGives Empty block reply = IsLine (codes "refused no schema") reply
 BeginGives (Idle store) block reply = GivesBegun store (block_read store.forest.schema block) reply
 BeginGives (Hollow store) block reply = IsLine (codes "refused pending") reply
@@ -68,7 +66,6 @@ pub record IsFinished (refresh : Begun) (files : Files) (reply : List ℕ) : Typ
 
 -- the reply at the end of a pending batch
 abbrev pub FinishGives : State → Files → List ℕ → Type 0
-FinishGives Stopped files reply = ⊥
 FinishGives Empty files reply = IsLine (codes "refused nothing pending") reply
 FinishGives (Idle store) files reply = IsLine (codes "refused nothing pending") reply
 FinishGives (Hollow store) files reply = reply ≡ committed_text store.forest.body.facts

@@ -1,5 +1,5 @@
 -- What a batch is read or made as.
-use Rattle.std.specs.Prelude.{◌≡◌, ℕ, List, Result, Ok, Err}
+use Rattle.std.specs.Prelude.{◌≡◌, ◌≤◌, ℕ, List, length, Result, Ok, Err}
 use Rattle.std.specs.List.{All}
 use Rattle.cube_schema.specs.Agreeing.{Agrees}
 use Rattle.cube_schema.specs.declared.schema.Schema.{Schema}
@@ -14,7 +14,11 @@ IsRead (Ok facts) (Refused reply) = ⊥
 IsRead (Err text) (Batch batch) = ⊥
 IsRead (Err text) (Refused reply) = reply.items ≡ text
 
--- the facts are of the schema
+-- the facts are of the schema, and not too many for a batch
+pub record IsRows (schema : Schema) (batch : List Fact) : Type 0 where
+  pub few : length batch ≤ 262144
+  pub agree : All (Agrees schema) batch
+
 abbrev pub IsOfSchema : Schema → Read → Type 0
-IsOfSchema schema (Batch batch) = All (Agrees schema) batch
+IsOfSchema schema (Batch batch) = IsRows schema batch
 IsOfSchema schema (Refused reply) = Unit {0}

@@ -10,7 +10,7 @@ use Rattle.forest_refresh.specs.declared.stop.RefreshStop.TheVariants as refresh
 use Rattle.plain_machine.specs.declared.batch_source.BatchSource.{BatchSource}
 use Rattle.plain_machine.specs.Machine.{batch_from}
 use Rattle.cube_state.specs.declared.state.State.{State}
-use Rattle.cube_state.specs.declared.state.State.TheVariants.{Stopped, Empty, Idle, Hollow, Pending}
+use Rattle.cube_state.specs.declared.state.State.TheVariants.{Empty, Idle, Hollow, Pending}
 use Rattle.cube_state.specs.declared.stop.Stop.{Stop}
 use Rattle.cube_state.specs.declared.stop.Stop.TheVariants as stops
 use Rattle.cube_state.specs.Stops.{IsNoDamage}
@@ -40,7 +40,6 @@ TellsSourceDamage kept files source stop = TellsReadDamage kept files (batch_fro
 
 -- a load of a session that has this; without a schema, and while a batch is pending, no damage is told
 abbrev pub LoadTells : State → Files → BatchSource → Stop → Type 0
-LoadTells Stopped files source stop = IsNoDamage stop
 LoadTells Empty files source stop = IsNoDamage stop
 LoadTells (Idle kept) files source stop = TellsSourceDamage kept files source stop
 LoadTells (Hollow kept) files source stop = IsNoDamage stop
@@ -48,7 +47,6 @@ LoadTells (Pending refresh) files source stop = IsNoDamage stop
 
 -- the end of a pending batch
 abbrev pub FinishTells : State → Files → Stop → Type 0
-FinishTells Stopped files stop = IsNoDamage stop
 FinishTells Empty files stop = IsNoDamage stop
 FinishTells (Idle kept) files stop = IsNoDamage stop
 FinishTells (Hollow kept) files stop = IsNoDamage stop

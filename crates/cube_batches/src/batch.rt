@@ -39,7 +39,7 @@ pub fn read_source(alloc: Global, schema: &Schema, source: BatchSource) -> Resul
 }
 
 /// Reads the facts of a block by the schema.
-pub fn read_block(alloc: Global, schema: &Schema, block: Block) -> Result<Read, Stop>
+fn read_block(alloc: Global, schema: &Schema, block: Block) -> Result<Read, Stop>
     ensures read { IfOk result (IsRead (block_read schema.now block)) }
     ensures agree { IfOk result (IsOfSchema schema.now) }
     ensures memory { IfErr result (λ stop. stop ≡ Stop.Memory) }

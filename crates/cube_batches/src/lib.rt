@@ -3,9 +3,9 @@
 #![tactic(auto)]
 
 mod batch;
-mod committing;
 mod loading;
 mod pending;
+mod taking;
 
 pub use loading::load;
 pub use pending::{abandon, begin, finish, step};

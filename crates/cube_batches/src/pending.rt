@@ -1,24 +1,23 @@
 //! The commands `begin`, `step`, `finish` and `abandon`, over a batch that is pending.
-ghost use Rattle.std.specs.Prelude.{◌≡◌, ◌≤◌, ◌+◌, IsTrue, OnOk, IfOk, IfErr, Ok};
-ghost use Rattle.std.specs.List.{All};
-ghost use Rattle.cube_schema.specs.Agreeing.{Agrees};
-ghost use Rattle.forest_store.specs.Opened.{IsOpened};
+ghost use Rattle.std.specs.Prelude.{◌≡◌, ◌≤◌, ◌+◌, IsTrue, List, OnOk, IfOk, IfErr};
+ghost use Rattle.fact_model.specs.declared.fact.Fact as facts;
+ghost use Rattle.forest_refresh.specs.Begun.{IsReady};
 ghost use Rattle.forest_store.specs.Stored.{IsWhole};
-ghost use Rattle.plain_machine.specs.Machine.{abandon, begin, begun_or_refused, block_read, finish};
+ghost use Rattle.reply_text.specs.Replies.{committed_text};
+ghost use Rattle.plain_machine.specs.Machine.{abandon, begin, committed, finish};
 ghost use Rattle.plain_machine.specs.World.{Warehouse, World, idle};
-ghost use Rattle.cube_state.specs.Stops.{IsNoDamage, StopCause};
-ghost use Rattle.cube_state.specs.Session.{Belongs, Between, IsAnswer, IsFit, IsRunning, Stands, abandon_text, step_text};
+ghost use Rattle.cube_state.specs.Frames.{IsQuiet, RunsOn};
+ghost use Rattle.cube_state.specs.Stops.{IsNoDamage};
+ghost use Rattle.cube_state.specs.Session.{Attends, Between, IsAnswer, IsRunning, Stands, abandon_text, step_text};
 ghost use Rattle.cube_batches.specs.Costs.{begins};
-ghost use Rattle.cube_batches.specs.Gives.{BeginGives, FinishGives, GivesBegun};
-ghost use Rattle.cube_batches.specs.Told.{FinishTells};
+ghost use Rattle.cube_batches.specs.Gives.{BeginGives, FinishGives, IsFinished};
+ghost use Rattle.cube_batches.specs.Told.{FinishTells, TellsRefreshDamage};
 
-use crate::batch::{Read, read_block};
-use crate::committing::{acknowledge, commit};
-use crate::loading::refuse;
+use crate::taking::{Taken, take_in};
 use cube_state::{Answered, State, Stop, plain};
-use fact_model::FactList;
 use forest_refresh::Refresh;
 use forest_root::Store;
+use plain_machine::BatchSource;
 use script_lang::Block;
 use site_core::Site;
 use std::alloc::Global;
@@ -31,8 +30,7 @@ pub fn begin<T: Site>(
     block: Block,
     site: &mut T,
 ) -> Result<Answered, Stop>
-    requires running { IsRunning state }
-    requires fit { IsTrue T.tells → IsFit state (T.disk site.old) }
+    requires runs { RunsOn T.Site site.old state }
 
     ensures answer { IsTrue T.tells → (world : World) → Stands state (T.disk site.old) world
         → IfOk result (IsAnswer (T.disk site.new) (begin world block)) }
@@ -44,93 +42,12 @@ pub fn begin<T: Site>(
         → OnOk result (T.writes site.new ≤ T.writes site.old + begins world (begin world block).0) }
     ensures silent { IsTrue T.tells → (world : World) → Stands state (T.disk site.old) world
         → begins world (begin world block).0 ≡ 0 → OnOk result (T.writes site.new ≡ T.writes site.old) }
-    ensures running { IfOk result (λ done. IsRunning done.state) }
-    ensures fit { IsTrue T.tells → IfOk result (λ done. IsFit done.state (T.disk site.new)) }
-    ensures told { IsTrue T.tells → (T.disk site.new).told ≡ (T.disk site.old).told }
-    ensures cause { IfErr result (StopCause (T.disk_faults site.old) (T.disk_faults site.new) (T.told_faults site.old) (T.told_faults site.new)) }
-    ensures disk_faults { OnOk result (T.disk_faults site.new ≡ T.disk_faults site.old) }
-    ensures told_faults { T.told_faults site.new ≡ T.told_faults site.old }
+    ensures runs { IfOk result (λ done. RunsOn T.Site site.new done.state) }
+    ensures quiet { IsQuiet T.Site site.old site.new result }
 {
-    match state {
-        State::Stopped => Err(Stop::Memory),
-        State::Empty => plain(alloc, State::Empty, "refused no schema"),
-        State::Idle(store) => begin_block(alloc, store, block, site),
-        State::Hollow(store) => plain(alloc, State::Hollow(store), "refused pending"),
-        State::Pending(refresh) => plain(alloc, State::Pending(refresh), "refused pending"),
-    }
-}
-
-/// Makes the facts of a block pending by the schema, or refuses them.
-fn begin_block<T: Site>(
-    alloc: Global,
-    store: Store,
-    block: Block,
-    site: &mut T,
-) -> Result<Answered, Stop>
-    requires whole { IsWhole store }
-    requires fit { IsTrue T.tells → IsOpened store.forest.body (T.disk site.old) }
-
-    ensures answer { IsTrue T.tells → (warehouse : Warehouse) → Belongs store (T.disk site.old) warehouse
-        → IfOk result (IsAnswer (T.disk site.new) (begin (idle warehouse) block)) }
-    ensures any_moment { IsTrue T.tells → (warehouse : Warehouse) → Belongs store (T.disk site.old) warehouse
-        → Between (T.disk site.old) (T.disk site.new) (idle warehouse) (begin (idle warehouse) block).0 }
-    ensures damage { IfErr result IsNoDamage }
-    ensures answered { IfOk result (λ done. GivesBegun store (block_read store.forest.schema block) done.reply.items) }
-    ensures unwritten { IsTrue T.tells → (warehouse : Warehouse) → Belongs store (T.disk site.old) warehouse
-        → OnOk result (T.writes site.new ≤ T.writes site.old + begins (idle warehouse) (begin (idle warehouse) block).0) }
-    ensures silent { IsTrue T.tells → (warehouse : Warehouse) → Belongs store (T.disk site.old) warehouse
-        → begins (idle warehouse) (begin (idle warehouse) block).0 ≡ 0 → OnOk result (T.writes site.new ≡ T.writes site.old) }
-    ensures running { IfOk result (λ done. IsRunning done.state) }
-    ensures fit { IsTrue T.tells → IfOk result (λ done. IsFit done.state (T.disk site.new)) }
-    ensures told { IsTrue T.tells → (T.disk site.new).told ≡ (T.disk site.old).told }
-    ensures cause { IfErr result (StopCause (T.disk_faults site.old) (T.disk_faults site.new) (T.told_faults site.old) (T.told_faults site.new)) }
-    ensures disk_faults { OnOk result (T.disk_faults site.new ≡ T.disk_faults site.old) }
-    ensures told_faults { T.told_faults site.new ≡ T.told_faults site.old }
-{
-    match read_block(alloc, &store.forest.schema, block)? {
-        Read::Batch(batch) => begin_batch(alloc, store, batch, site),
-        Read::Refused(reply) => Ok(Answered {
-            state: State::Idle(store),
-            reply,
-        }),
-    }
-}
-
-/// Makes a batch pending, or refuses it by the first limit that it would pass. An empty batch is pending without a call on a file.
-fn begin_batch<T: Site>(
-    alloc: Global,
-    store: Store,
-    batch: FactList,
-    site: &mut T,
-) -> Result<Answered, Stop>
-    requires agree { All (Agrees store.forest.schema) batch }
-    requires whole { IsWhole store }
-    requires fit { IsTrue T.tells → IsOpened store.forest.body (T.disk site.old) }
-
-    ensures answer { IsTrue T.tells → (warehouse : Warehouse) → Belongs store (T.disk site.old) warehouse
-        → IfOk result (IsAnswer (T.disk site.new) (begun_or_refused (idle warehouse) warehouse batch)) }
-    ensures any_moment { IsTrue T.tells → (warehouse : Warehouse) → Belongs store (T.disk site.old) warehouse
-        → Between (T.disk site.old) (T.disk site.new) (idle warehouse) (begun_or_refused (idle warehouse) warehouse batch).0 }
-    ensures damage { IfErr result IsNoDamage }
-    ensures answered { IfOk result (λ done. GivesBegun store (Ok batch) done.reply.items) }
-    ensures unwritten { IsTrue T.tells → (warehouse : Warehouse) → Belongs store (T.disk site.old) warehouse
-        → OnOk result (T.writes site.new ≤ T.writes site.old + begins (idle warehouse) (begun_or_refused (idle warehouse) warehouse batch).0) }
-    ensures silent { IsTrue T.tells → (warehouse : Warehouse) → Belongs store (T.disk site.old) warehouse
-        → begins (idle warehouse) (begun_or_refused (idle warehouse) warehouse batch).0 ≡ 0
-        → OnOk result (T.writes site.new ≡ T.writes site.old) }
-    ensures running { IfOk result (λ done. IsRunning done.state) }
-    ensures fit { IsTrue T.tells → IfOk result (λ done. IsFit done.state (T.disk site.new)) }
-    ensures told { IsTrue T.tells → (T.disk site.new).told ≡ (T.disk site.old).told }
-    ensures cause { IfErr result (StopCause (T.disk_faults site.old) (T.disk_faults site.new) (T.told_faults site.old) (T.told_faults site.new)) }
-    ensures disk_faults { OnOk result (T.disk_faults site.new ≡ T.disk_faults site.old) }
-    ensures told_faults { T.told_faults site.new ≡ T.told_faults site.old }
-{
-    if batch.as_slice().is_empty() {
-        return plain(alloc, State::Hollow(store), "begun");
-    }
-    match Refresh::begin(alloc, site, store, batch) {
-        Ok(refresh) => plain(alloc, State::Pending(refresh), "begun"),
-        Err(fault) => refuse(alloc, fault),
+    match take_in(alloc, state, BatchSource::Rows(block), site)? {
+        Taken::Refused(done) => Ok(done),
+        Taken::Begun(state) => plain(alloc, state, "begun"),
     }
 }
 
@@ -143,7 +60,6 @@ pub fn step(alloc: Global, state: State) -> Result<Answered, Stop>
     ensures memory { IfErr result (λ stop. stop ≡ Stop.Memory) }
 {
     match state {
-        State::Stopped => Err(Stop::Memory),
         State::Empty => plain(alloc, State::Empty, "refused nothing pending"),
         State::Idle(store) => plain(alloc, State::Idle(store), "refused nothing pending"),
         State::Hollow(store) => plain(alloc, State::Hollow(store), "stepped"),
@@ -154,8 +70,7 @@ pub fn step(alloc: Global, state: State) -> Result<Answered, Stop>
 /// Commits the pending batch and acknowledges it, or refuses where there is none. A stop at any moment leaves the files with the facts of the
 /// batch or without them, and so does an error, which ends the session: a file failed, a page is not sound, or memory ran out.
 pub fn finish<T: Site>(alloc: Global, state: State, site: &mut T) -> Result<Answered, Stop>
-    requires running { IsRunning state }
-    requires fit { IsTrue T.tells → IsFit state (T.disk site.old) }
+    requires runs { RunsOn T.Site site.old state }
 
     ensures answer { IsTrue T.tells → (world : World) → Stands state (T.disk site.old) world
         → IfOk result (IsAnswer (T.disk site.new) (finish world)) }
@@ -168,15 +83,10 @@ pub fn finish<T: Site>(alloc: Global, state: State, site: &mut T) -> Result<Answ
     ensures unwritten { IsTrue T.tells → (world : World) → Stands state (T.disk site.old) world
         → (finish world).0.kept ≡ world.kept → OnOk result (T.writes site.new ≡ T.writes site.old) }
 
-    ensures running { IfOk result (λ done. IsRunning done.state) }
-    ensures fit { IsTrue T.tells → IfOk result (λ done. IsFit done.state (T.disk site.new)) }
-    ensures told { IsTrue T.tells → (T.disk site.new).told ≡ (T.disk site.old).told }
-    ensures cause { IfErr result (StopCause (T.disk_faults site.old) (T.disk_faults site.new) (T.told_faults site.old) (T.told_faults site.new)) }
-    ensures disk_faults { OnOk result (T.disk_faults site.new ≡ T.disk_faults site.old) }
-    ensures told_faults { T.told_faults site.new ≡ T.told_faults site.old }
+    ensures runs { IfOk result (λ done. RunsOn T.Site site.new done.state) }
+    ensures quiet { IsQuiet T.Site site.old site.new result }
 {
     match state {
-        State::Stopped => Err(Stop::Memory),
         State::Empty => plain(alloc, State::Empty, "refused nothing pending"),
         State::Idle(store) => plain(alloc, State::Idle(store), "refused nothing pending"),
         State::Hollow(store) => acknowledge(alloc, store),
@@ -184,20 +94,52 @@ pub fn finish<T: Site>(alloc: Global, state: State, site: &mut T) -> Result<Answ
     }
 }
 
+/// Commits the batch of a refresh, and acknowledges it.
+fn commit<T: Site>(alloc: Global, refresh: Refresh, site: &mut T) -> Result<Answered, Stop>
+    requires fit { IsTrue T.tells → IsReady refresh (T.disk site.old) }
+
+    ensures answer { IsTrue T.tells → (warehouse : Warehouse) (batch : List facts.Fact) → Attends refresh (T.disk site.old) warehouse batch
+        → IfOk result (IsAnswer (T.disk site.new) (committed warehouse batch)) }
+    ensures any_moment { IsTrue T.tells → (warehouse : Warehouse) (batch : List facts.Fact) → Attends refresh (T.disk site.old) warehouse batch
+        → Between (T.disk site.old) (T.disk site.new) (idle warehouse) (committed warehouse batch).0 }
+    ensures undamaged { IsTrue T.tells → (warehouse : Warehouse) (batch : List facts.Fact) → Attends refresh (T.disk site.old) warehouse batch
+        → IfErr result IsNoDamage }
+    ensures damage { IsTrue T.tells → IfErr result (TellsRefreshDamage refresh (T.disk site.old).files) }
+    ensures answered { IsTrue T.tells → IfOk result (λ done. IsFinished refresh (T.disk site.old).files done.reply.items) }
+
+    ensures runs { IfOk result (λ done. RunsOn T.Site site.new done.state) }
+    ensures quiet { IsQuiet T.Site site.old site.new result }
+{
+    match refresh.finish(site) {
+        Ok(store) => acknowledge(alloc, store),
+        Err(stop) => Err(Stop::from(stop)),
+    }
+}
+
+/// Acknowledges a batch that was taken in.
+fn acknowledge(alloc: Global, store: Store) -> Result<Answered, Stop>
+    ensures state { IfOk result (λ done. done.state ≡ State.Idle store) }
+    ensures reply { IfOk result (λ done. done.reply.items ≡ committed_text store.forest.body.facts) }
+    ensures memory { IfErr result (λ stop. stop ≡ Stop.Memory) }
+{
+    let reply = reply_text::committed(alloc, store.forest.body.facts)?;
+    Ok(Answered {
+        state: State::Idle(store),
+        reply,
+    })
+}
+
 /// Drops the pending batch, without a call on a file, or refuses where there is none. An error is want of memory.
 pub fn abandon<T: Site>(alloc: Global, state: State, _site: &T) -> Result<Answered, Stop>
-    requires running { IsRunning state }
-    requires fit { IsTrue T.tells → IsFit state (T.disk _site.now) }
+    requires runs { RunsOn T.Site _site.now state }
 
     ensures stands { IsTrue T.tells → (world : World) → Stands state (T.disk _site.now) world
         → IfOk result (λ done. Stands done.state (T.disk _site.now) (abandon world).0) }
     ensures reply { IfOk result (λ done. done.reply.items ≡ abandon_text state) }
-    ensures running { IfOk result (λ done. IsRunning done.state) }
-    ensures fit { IsTrue T.tells → IfOk result (λ done. IsFit done.state (T.disk _site.now)) }
+    ensures runs { IfOk result (λ done. RunsOn T.Site _site.now done.state) }
     ensures memory { IfErr result (λ stop. stop ≡ Stop.Memory) }
 {
     match state {
-        State::Stopped => Err(Stop::Memory),
         State::Empty => plain(alloc, State::Empty, "refused nothing pending"),
         State::Idle(store) => plain(alloc, State::Idle(store), "refused nothing pending"),
         State::Hollow(store) => plain(alloc, State::Idle(store), "abandoned"),

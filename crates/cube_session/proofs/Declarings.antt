@@ -2,12 +2,13 @@
 use Rattle.std.proofs.Common.{◌≡◌, ◌⊎◌, inl, inr, [], Ok, None}
 use Rattle.site_core.specs.Disk.{Files, Disk}
 use Rattle.site_core.specs.Moments.{IsStable, LeavesOnly}
-use Rattle.site_core.proofs.Run.{wider}
+use Rattle.site_core.proofs.Run.{stable_holds, wider}
 use Rattle.cube_schema.specs.Lawful.{IsSchema}
 use Rattle.cube_schema.specs.declared.schema.Schema.{Schema}
 use Rattle.forest_root.specs.Keeps.{KeepsNothing}
 use Rattle.forest_root.specs.declared.forest.Store.{Store}
 use Rattle.forest_store.specs.Held.{KeepsFacts}
+use Rattle.forest_store.specs.Opened.{IsOpened}
 use Rattle.forest_store.specs.Stored.{IsStoreOf}
 use Rattle.forest_open.proofs.Declared.{none_accepted}
 use Rattle.plain_machine.specs.Keeps.{IsLawful}
@@ -28,6 +29,7 @@ module _ (schema : Schema) (lawful : IsSchema schema) where
       by files (inl nothing) = inl nothing
       by files (inr kept) = inr (record { lawful = empty_lawful; kept = kept })
 
-  pub declared_belongs : (store : Store) (disk : Disk) → store.forest.schema ≡ schema → IsStoreOf store [] disk.files → IsStable disk
+  pub declared_belongs : (store : Store) (disk : Disk) → store.forest.schema ≡ schema → IsStoreOf store [] disk.files → IsStable disk → IsOpened store.forest.body disk
       → Belongs store disk (record { schema = schema; facts = [] })
-  declared_belongs store disk is stored stable = record { lawful = empty_lawful; schema = is; stored = stored; stable = stable }
+  declared_belongs store disk is stored stable opened =
+      record { lawful = empty_lawful; schema = is; stored = stable_holds (IsStoreOf store []) disk stable stored; opened = opened }

@@ -22,7 +22,7 @@ use Rattle.plain_machine.specs.Machine.{batch_from, block_read, read_by}
 use Rattle.plain_machine.specs.World.{bare}
 use Rattle.plain_machine.proofs.Acts.{HasByte, answer_some, behind, declare_some, refused_some, some_line, some_number, source_some}
 use Rattle.cube_state.specs.declared.state.State.{State}
-use Rattle.cube_state.specs.declared.state.State.TheVariants.{Stopped, Empty, Idle, Hollow, Pending}
+use Rattle.cube_state.specs.declared.state.State.TheVariants.{Empty, Idle, Hollow, Pending}
 use Rattle.cube_state.specs.Session.{IsRunning, abandon_text, state_text, step_text}
 use Rattle.cube_slices.specs.Gives.{GivesRead, SliceGives, found_text}
 use Rattle.cube_batches.specs.Gives.{BeginGives, FinishGives, GivesBatch, GivesBegun, GivesSource, IsRefused, LoadGives}
@@ -71,7 +71,6 @@ read_some store files (Err refusal) reply is = as_text _ reply is (refused_some 
 read_some store files (Ok s) reply is = as_text _ reply is.2 (found_some is.0)
 
 slice_some : (state : State) (files : Files) (text reply : List ℕ) → SliceGives state files text reply → 0 < length reply
-slice_some Stopped files text reply is = absurd is
 slice_some Empty files text reply is = as_line (codes "refused no schema") reply is
 slice_some (Idle store) files text reply is = read_some store files (slice_of store.forest.schema text) reply is
 slice_some (Hollow store) files text reply is = read_some store files (slice_of store.forest.schema text) reply is
@@ -88,7 +87,6 @@ taken_some store files (Err text) reply some is = as_text text reply is some
 taken_some store files (Ok batch) reply some is = batch_some store files batch reply is
 
 load_some : (state : State) (files : Files) (source : BatchSource) (reply : List ℕ) → LoadGives state files source reply → 0 < length reply
-load_some Stopped files source reply is = absurd is
 load_some Empty files source reply is = as_line (codes "refused no schema") reply is
 load_some (Idle store) files source reply is =
     taken_some store files (batch_from store.forest.schema source) reply (source_text store.forest.schema source) is
@@ -101,7 +99,6 @@ begun_some store (Ok batch) reply some (inl refused) = limit_some store reply re
 begun_some store (Ok batch) reply some (inr begun) = as_line (codes "begun") reply begun
 
 begin_some : (state : State) (block : Block) (reply : List ℕ) → BeginGives state block reply → 0 < length reply
-begin_some Stopped block reply is = absurd is
 begin_some Empty block reply is = as_line (codes "refused no schema") reply is
 begin_some (Idle store) block reply is =
     begun_some store (block_read store.forest.schema block) reply (source_text store.forest.schema (Rows block)) is
@@ -109,21 +106,18 @@ begin_some (Hollow store) block reply is = as_line (codes "refused pending") rep
 begin_some (Pending r) block reply is = as_line (codes "refused pending") reply is
 
 finish_some : (state : State) (files : Files) (reply : List ℕ) → FinishGives state files reply → 0 < length reply
-finish_some Stopped files reply is = absurd is
 finish_some Empty files reply is = as_line (codes "refused nothing pending") reply is
 finish_some (Idle store) files reply is = as_line (codes "refused nothing pending") reply is
 finish_some (Hollow store) files reply is = as_text _ reply is (committed_some store.forest.body.facts)
 finish_some (Pending r) files reply is = as_text _ reply is.said (committed_some r.next.facts)
 
 schema_gives_some : (state : State) (block : Block) (reply : List ℕ) → SchemaGives state block reply → 0 < length reply
-schema_gives_some Stopped block reply is = absurd is
 schema_gives_some Empty block reply is = as_text _ reply is (declare_some (bare None) None block)
 schema_gives_some (Idle store) block reply is = as_line (codes "refused declared") reply is
 schema_gives_some (Hollow store) block reply is = as_line (codes "refused declared") reply is
 schema_gives_some (Pending r) block reply is = as_line (codes "refused declared") reply is
 
 status_some : (state : State) → IsRunning state → 0 < length (state_text state)
-status_some Stopped running = absurd running
 status_some Empty running = some_line (codes "no schema")
 status_some (Idle store) running = some_number (codes "facts ") store.forest.body.facts
 status_some (Hollow store) running =
@@ -132,14 +126,12 @@ status_some (Pending r) running =
     behind (codes "facts ") _ (behind (decimal r.store.forest.body.facts) _ (some_number (codes " pending ") (batch_size r)))
 
 step_some : (state : State) → IsRunning state → 0 < length (step_text state)
-step_some Stopped running = absurd running
 step_some Empty running = some_line (codes "refused nothing pending")
 step_some (Idle store) running = some_line (codes "refused nothing pending")
 step_some (Hollow store) running = some_line (codes "stepped")
 step_some (Pending r) running = some_line (codes "stepped")
 
 abandon_some : (state : State) → IsRunning state → 0 < length (abandon_text state)
-abandon_some Stopped running = absurd running
 abandon_some Empty running = some_line (codes "refused nothing pending")
 abandon_some (Idle store) running = some_line (codes "refused nothing pending")
 abandon_some (Hollow store) running = some_line (codes "abandoned")

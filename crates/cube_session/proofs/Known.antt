@@ -8,25 +8,23 @@ use Rattle.plain_machine.specs.Machine.{abandon, act, status_text, step}
 use Rattle.plain_machine.specs.World.{World}
 use Rattle.cube_state.specs.declared.answered.Answered.{Answered}
 use Rattle.cube_state.specs.declared.state.State.{State}
-use Rattle.cube_state.specs.declared.state.State.TheVariants.{Stopped, Empty, Idle, Hollow, Pending}
+use Rattle.cube_state.specs.declared.state.State.TheVariants.{Empty, Idle, Hollow, Pending}
 use Rattle.cube_state.specs.declared.stop.Stop.{Stop}
 use Rattle.cube_state.specs.Session.{IsAnswer, Stands, abandon_text, state_text, step_text}
 use Rattle.cube_state.proofs.Answering.{answers, answers_as}
 
 -- it knows how many facts there are
 pub status_known : (state : State) (disk : Disk) (world : World) → Stands state disk world → state_text state ≡ status_text world
-status_known Stopped disk world is = absurd is
 status_known Empty disk world is = ap status_text (sym is.0)
-status_known (Idle store) disk world is = ap facts_text is.2.stored.live.at.body_is.facts ∙ ap status_text (sym is.1)
-status_known (Hollow store) disk world is = ap (λ n. pending_text n 0) is.2.stored.live.at.body_is.facts ∙ ap status_text (sym is.1)
+status_known (Idle store) disk world is = ap facts_text is.2.stored.read.live.at.body_is.facts ∙ ap status_text (sym is.1)
+status_known (Hollow store) disk world is = ap (λ n. pending_text n 0) is.2.stored.read.live.at.body_is.facts ∙ ap status_text (sym is.1)
 status_known (Pending r) disk world is =
-    let now = is.3.adds.live.at.body_is.facts in
-    let size : batch_size r ≡ length is.1 = omega (arith, now, is.3.adds.counted, length-append is.0.facts is.1) in
+    let now = is.3.adds.read.live.at.body_is.facts in
+    let size : batch_size r ≡ length is.1 = omega (arith, now, is.3.adds.read.counted, length-append is.0.facts is.1) in
     (λ i. pending_text (now i) (size i)) ∙ ap status_text (sym is.2)
 
 -- and whether a batch is pending
 pub step_known : (state : State) (disk : Disk) (world : World) → Stands state disk world → step world ≡ (world, step_text state)
-step_known Stopped disk world is = absurd is
 step_known Empty disk world is = subst (λ (w : World). step w ≡ (w, step_text Empty)) (sym is.0) refl
 step_known (Idle store) disk world is = subst (λ (w : World). step w ≡ (w, step_text (Idle store))) (sym is.1) refl
 step_known (Hollow store) disk world is = subst (λ (w : World). step w ≡ (w, step_text (Hollow store))) (sym is.1) refl
@@ -34,7 +32,6 @@ step_known (Pending r) disk world is = subst (λ (w : World). step w ≡ (w, ste
 
 -- and the reply where it is dropped
 pub abandon_known : (state : State) (disk : Disk) (world : World) → Stands state disk world → abandon_text state ≡ (abandon world).1
-abandon_known Stopped disk world is = absurd is
 abandon_known Empty disk world is = subst (λ (w : World). abandon_text Empty ≡ (abandon w).1) (sym is.0) refl
 abandon_known (Idle store) disk world is = subst (λ (w : World). abandon_text (Idle store) ≡ (abandon w).1) (sym is.1) refl
 abandon_known (Hollow store) disk world is = subst (λ (w : World). abandon_text (Hollow store) ≡ (abandon w).1) (sym is.1) refl

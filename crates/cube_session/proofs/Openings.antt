@@ -1,6 +1,8 @@
 -- What opening the files makes of a session.
 use Rattle.std.proofs.Common.{◌≡◌, ◌≤◌, ◌+◌, ℕ, length, List, Option, Some, None, refl, sym, ◌∙◌, subst}
 use Rattle.site_core.specs.Disk.{Files, Disk}
+use Rattle.site_core.specs.Moments.{IsStable}
+use Rattle.site_core.proofs.Run.{stable_holds}
 use Rattle.fact_model.specs.declared.fact.Fact.{Fact}
 use Rattle.cube_schema.specs.Lawful.{IsSchema}
 use Rattle.cube_schema.specs.declared.schema.Schema.{Schema}
@@ -13,6 +15,7 @@ use Rattle.forest_open.specs.Judging.{IsWarehouse, MayBeOpened, NamesPlace}
 use Rattle.forest_open.specs.Judging as opens
 use Rattle.forest_open.specs.Opening.{Place, names_pages}
 use Rattle.forest_store.specs.Held.{AreAccepted, KeepsFacts, names_text}
+use Rattle.forest_store.specs.Stored.{IsStoreOf}
 use Rattle.plain_machine.specs.Keeps.{Keeps}
 use Rattle.plain_machine.specs.World.{Kept, Warehouse, bare, idle}
 use Rattle.cube_state.specs.declared.stop.Stop.{Stop}
@@ -22,12 +25,12 @@ use Rattle.cube_session.specs.Costs.{open_cost}
 use Rattle.cube_session.specs.Damage.{StopsAt, TellsBreak}
 
 -- what was opened is the warehouse that the files keep
-pub opened_stands : (found : Option Store) (store : Store) (files : Files) (disk : Disk) (kept : Kept) → found ≡ Some store → MayBeOpened found disk → Keeps files kept
+pub opened_stands : (found : Option Store) (store : Store) (files : Files) (disk : Disk) (kept : Kept) → found ≡ Some store → MayBeOpened found disk → IsStable disk → Keeps files kept
     → (NoneRaised (files 0) → found ≡ None)
     → ((schema : Schema) (facts : List Fact) → IsSchema schema → AreAccepted schema facts → KeepsFacts schema facts files → IsWarehouse schema facts disk.files found)
     → (warehouse : Warehouse) × (bare kept ≡ idle warehouse) × Belongs store disk warehouse
-opened_stands found store files disk None is fit keeps none given = let no : Some store ≡ None = sym is ∙ none keeps in absurd (cc)
-opened_stands found store files disk (Some warehouse) is fit keeps none given =
+opened_stands found store files disk None is fit stable keeps none given = let no : Some store ≡ None = sym is ∙ none keeps in absurd (cc)
+opened_stands found store files disk (Some warehouse) is fit stable keeps none given =
     let all = subst (IsWarehouse warehouse.schema warehouse.facts disk.files) is
     (given warehouse.schema warehouse.facts keeps.lawful.schema keeps.lawful.accepted keeps.kept) in (
       warehouse,
@@ -35,8 +38,8 @@ opened_stands found store files disk (Some warehouse) is fit keeps none given =
       record {
         lawful = keeps.lawful;
         schema = all.0;
-        stored = all.1;
-        stable = (subst (λ (o : Option Store). MayBeOpened o disk) is fit).stable;
+        stored = stable_holds (IsStoreOf store warehouse.facts) disk stable all.1;
+        opened = subst (λ (o : Option Store). MayBeOpened o disk) is fit;
       },
     )
 

@@ -14,7 +14,7 @@ use Rattle.plain_machine.specs.declared.batch_source.BatchSource.TheVariants.{Ro
 use Rattle.plain_machine.specs.Machine.{batch_from}
 use Rattle.cube_state.specs.declared.answered.Answered.{Answered}
 use Rattle.cube_state.specs.declared.state.State.{State}
-use Rattle.cube_state.specs.declared.state.State.TheVariants.{Stopped, Empty, Idle, Hollow, Pending}
+use Rattle.cube_state.specs.declared.state.State.TheVariants.{Empty, Idle, Hollow, Pending}
 use Rattle.cube_state.specs.declared.stop.Stop.{Stop}
 use Rattle.cube_state.specs.declared.stop.Stop.TheVariants as stops
 use Rattle.cube_state.specs.Stops.{IsNoDamage}
@@ -45,21 +45,18 @@ read_none kept files (Ok batch) stop is = batch_none kept files batch stop is
 read_none kept files (Err text) stop is = is
 
 load_none : (state : State) (files : Files) (source : BatchSource) (stop : Stop) → IsNoDamage stop → LoadTells state files source stop
-load_none Stopped files source stop is = is
 load_none Empty files source stop is = is
 load_none (Idle kept) files source stop is = read_none kept files (batch_from kept.forest.schema source) stop is
 load_none (Hollow kept) files source stop is = is
 load_none (Pending r) files source stop is = is
 
 finish_none : (state : State) (files : Files) (stop : Stop) → IsNoDamage stop → FinishTells state files stop
-finish_none Stopped files stop is = is
 finish_none Empty files stop is = is
 finish_none (Idle kept) files stop is = is
 finish_none (Hollow kept) files stop is = is
 finish_none (Pending r) files stop is = refresh_none r files stop is
 
 text_none : (state : State) (files : Files) (text : List ℕ) (stop : Stop) → IsNoDamage stop → SliceTells state files text stop
-text_none Stopped files text stop is = is
 text_none Empty files text stop is = is
 text_none (Idle kept) files text stop is = slice_none kept files (slice_of kept.forest.schema text) stop is
 text_none (Hollow kept) files text stop is = slice_none kept files (slice_of kept.forest.schema text) stop is

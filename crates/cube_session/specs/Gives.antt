@@ -8,14 +8,13 @@ use Rattle.plain_machine.specs.declared.batch_source.BatchSource.TheVariants.{Ro
 use Rattle.plain_machine.specs.Machine.{declare}
 use Rattle.plain_machine.specs.World.{bare}
 use Rattle.cube_state.specs.declared.state.State.{State}
-use Rattle.cube_state.specs.declared.state.State.TheVariants.{Stopped, Empty, Idle, Hollow, Pending}
+use Rattle.cube_state.specs.declared.state.State.TheVariants.{Empty, Idle, Hollow, Pending}
 use Rattle.cube_state.specs.Session.{abandon_text, state_text, step_text, IsLine}
 use Rattle.cube_slices.specs.Gives.{SliceGives}
 use Rattle.cube_batches.specs.Gives.{LoadGives, BeginGives, FinishGives}
 
 -- the reply where a schema is to be declared
 abbrev pub SchemaGives : State → Block → List ℕ → Type 0
-SchemaGives Stopped block reply = ⊥
 SchemaGives Empty block reply = reply ≡ (declare (bare None) block).1
 SchemaGives (Idle store) block reply = IsLine (codes "refused declared") reply
 SchemaGives (Hollow store) block reply = IsLine (codes "refused declared") reply

@@ -1,4 +1,5 @@
 pub mod Costs
 pub mod Damage
 pub mod Gives
+pub mod Session
 pub mod Told

@@ -4,8 +4,9 @@ ghost use Rattle.cube_schema.specs.Lawful.{IsSchema};
 ghost use Rattle.forest_store.specs.Opened.{IsEmpty};
 ghost use Rattle.plain_machine.specs.Machine.{declare, declared};
 ghost use Rattle.plain_machine.specs.World.{World, bare};
-ghost use Rattle.cube_state.specs.Stops.{IsNoDamage, StopCause};
-ghost use Rattle.cube_state.specs.Session.{Between, IsAnswer, IsFit, IsRunning, Stands};
+ghost use Rattle.cube_state.specs.Frames.{IsQuiet, RunsOn};
+ghost use Rattle.cube_state.specs.Stops.{IsNoDamage};
+ghost use Rattle.cube_state.specs.Session.{Between, IsAnswer, Stands};
 ghost use Rattle.cube_session.specs.Gives.{SchemaGives};
 
 use cube_schema::Schema;
@@ -21,8 +22,7 @@ pub fn declare<T: Site>(
     block: Block,
     site: &mut T,
 ) -> Result<Answered, Stop>
-    requires running { IsRunning state }
-    requires fit { IsTrue T.tells → IsFit state (T.disk site.old) }
+    requires runs { RunsOn T.Site site.old state }
 
     ensures answer { IsTrue T.tells → (world : World) → Stands state (T.disk site.old) world
         → IfOk result (IsAnswer (T.disk site.new) (declare world block)) }
@@ -33,15 +33,10 @@ pub fn declare<T: Site>(
     ensures unwritten { IsTrue T.tells → (world : World) → Stands state (T.disk site.old) world
         → (declare world block).0.kept ≡ world.kept → OnOk result (T.writes site.new ≡ T.writes site.old) }
 
-    ensures running { IfOk result (λ done. IsRunning done.state) }
-    ensures fit { IsTrue T.tells → IfOk result (λ done. IsFit done.state (T.disk site.new)) }
-    ensures told { IsTrue T.tells → (T.disk site.new).told ≡ (T.disk site.old).told }
-    ensures cause { IfErr result (StopCause (T.disk_faults site.old) (T.disk_faults site.new) (T.told_faults site.old) (T.told_faults site.new)) }
-    ensures disk_faults { OnOk result (T.disk_faults site.new ≡ T.disk_faults site.old) }
-    ensures told_faults { T.told_faults site.new ≡ T.told_faults site.old }
+    ensures runs { IfOk result (λ done. RunsOn T.Site site.new done.state) }
+    ensures quiet { IsQuiet T.Site site.old site.new result }
 {
     match state {
-        State::Stopped => Err(Stop::Memory),
         State::Empty => declare_first(alloc, block, site),
         State::Idle(store) => plain(alloc, State::Idle(store), "refused declared"),
         State::Hollow(store) => plain(alloc, State::Hollow(store), "refused declared"),
@@ -58,12 +53,8 @@ fn declare_first<T: Site>(alloc: Global, block: Block, site: &mut T) -> Result<A
     ensures undamaged { IfErr result IsNoDamage }
     ensures unwritten { (declare (bare None) block).0.kept ≡ None → OnOk result (T.writes site.new ≡ T.writes site.old) }
 
-    ensures running { IfOk result (λ done. IsRunning done.state) }
-    ensures fit { IsTrue T.tells → IfOk result (λ done. IsFit done.state (T.disk site.new)) }
-    ensures told { IsTrue T.tells → (T.disk site.new).told ≡ (T.disk site.old).told }
-    ensures cause { IfErr result (StopCause (T.disk_faults site.old) (T.disk_faults site.new) (T.told_faults site.old) (T.told_faults site.new)) }
-    ensures disk_faults { OnOk result (T.disk_faults site.new ≡ T.disk_faults site.old) }
-    ensures told_faults { T.told_faults site.new ≡ T.told_faults site.old }
+    ensures runs { IfOk result (λ done. RunsOn T.Site site.new done.state) }
+    ensures quiet { IsQuiet T.Site site.old site.new result }
 {
     let Block::Whole(text) = block else {
         return plain(alloc, State::Empty, "refused schema block");
@@ -90,12 +81,8 @@ fn declare_schema<T: Site>(alloc: Global, schema: Schema, site: &mut T) -> Resul
     ensures undamaged { IfErr result IsNoDamage }
     ensures unwritten { (declared (bare None) (Ok schema)).0.kept ≡ None → OnOk result (T.writes site.new ≡ T.writes site.old) }
 
-    ensures running { IfOk result (λ done. IsRunning done.state) }
-    ensures fit { IsTrue T.tells → IfOk result (λ done. IsFit done.state (T.disk site.new)) }
-    ensures told { IsTrue T.tells → (T.disk site.new).told ≡ (T.disk site.old).told }
-    ensures cause { IfErr result (StopCause (T.disk_faults site.old) (T.disk_faults site.new) (T.told_faults site.old) (T.told_faults site.new)) }
-    ensures disk_faults { OnOk result (T.disk_faults site.new ≡ T.disk_faults site.old) }
-    ensures told_faults { T.told_faults site.new ≡ T.told_faults site.old }
+    ensures runs { IfOk result (λ done. RunsOn T.Site site.new done.state) }
+    ensures quiet { IsQuiet T.Site site.old site.new result }
 {
     match forest_open::init(alloc, site, schema) {
         Ok(store) => plain(alloc, State::Idle(store), "declared"),

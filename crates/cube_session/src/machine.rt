@@ -3,8 +3,9 @@ ghost use Rattle.std.specs.Prelude.{◌≡◌, ◌≤◌, ◌+◌, ℕ, List, Is
 ghost use Rattle.script_lang.specs.declared.command.Command.TheVariants as says;
 ghost use Rattle.plain_machine.specs.Machine.{act};
 ghost use Rattle.plain_machine.specs.World.{World};
-ghost use Rattle.cube_state.specs.Stops.{IsNoDamage, StopCause};
-ghost use Rattle.cube_state.specs.Session.{Between, IsAnswer, IsFit, IsRunning, Stands, state_text};
+ghost use Rattle.cube_state.specs.Frames.{IsQuiet, RunsOn};
+ghost use Rattle.cube_state.specs.Stops.{IsNoDamage};
+ghost use Rattle.cube_state.specs.Session.{Between, IsAnswer, IsRunning, Stands, state_text};
 ghost use Rattle.cube_slices.specs.Costs.{Costs};
 ghost use Rattle.cube_batches.specs.Costs.{begins};
 ghost use Rattle.cube_session.specs.Gives.{Gives};
@@ -28,8 +29,7 @@ pub fn act<T: Site>(
     command: Command,
     site: &mut T,
 ) -> Result<Answered, Stop>
-    requires running { IsRunning state }
-    requires fit { IsTrue T.tells → IsFit state (T.disk site.old) }
+    requires runs { RunsOn T.Site site.old state }
 
     ensures answer { IsTrue T.tells → (world : World) → Stands state (T.disk site.old) world
         → IfOk result (IsAnswer (T.disk site.new) (act world command)) }
@@ -50,13 +50,9 @@ pub fn act<T: Site>(
     ensures silent { IsTrue T.tells → (world : World) → Stands state (T.disk site.old) world
         → (act world command).0.kept ≡ world.kept → begins world (act world command).0 ≡ 0
         → OnOk result (T.writes site.new ≡ T.writes site.old) }
-    ensures running { IfOk result (λ done. IsRunning done.state) }
-    ensures fit { IsTrue T.tells → IfOk result (λ done. IsFit done.state (T.disk site.new)) }
-    ensures told { IsTrue T.tells → (T.disk site.new).told ≡ (T.disk site.old).told }
+    ensures runs { IfOk result (λ done. RunsOn T.Site site.new done.state) }
     ensures cache { pages.new ≡ pages.old }
-    ensures cause { IfErr result (StopCause (T.disk_faults site.old) (T.disk_faults site.new) (T.told_faults site.old) (T.told_faults site.new)) }
-    ensures disk_faults { OnOk result (T.disk_faults site.new ≡ T.disk_faults site.old) }
-    ensures told_faults { T.told_faults site.new ≡ T.told_faults site.old }
+    ensures quiet { IsQuiet T.Site site.old site.new result }
 {
     match command {
         Command::Schema(block) => declare(alloc, state, block, site),
@@ -92,7 +88,6 @@ fn status(alloc: Global, state: State) -> Result<Answered, Stop>
     ensures memory { IfErr result (λ stop. stop ≡ Stop.Memory) }
 {
     match state {
-        State::Stopped => Err(Stop::Memory),
         State::Empty => plain(alloc, State::Empty, "no schema"),
         State::Idle(store) => {
             let reply = reply_text::facts(alloc, store.forest.body.facts)?;

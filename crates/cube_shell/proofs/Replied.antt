@@ -1,10 +1,11 @@
 -- Runs of commands that were replied to, one behind the other.
-use Rattle.std.proofs.Common.{◌≡◌, ℕ, List, [], ◌∷◌, ◌++◌, Result, Ok, Err, OnOk, refl, sym, ◌∙◌, ap, subst, append_assoc, append-nil}
+use Rattle.std.proofs.Common.{◌≡◌, ℕ, List, [], ◌∷◌, ◌++◌, Option, Some, None, IfSome, Result, Ok, Err, OnOk, refl, sym, ◌∙◌, ap, subst, append_assoc, append-nil}
 use Rattle.site_core.specs.Disk.{Files}
+use Rattle.site_core.specs.declared.site.Site.{Ghosts}
 use Rattle.script_lang.specs.declared.command.Command.{Command}
 use Rattle.cube_state.specs.declared.state.State.{State}
-use Rattle.cube_state.specs.Session.{IsRunning}
 use Rattle.cube_session.specs.Gives.{RepliesTo}
+use Rattle.cube_session.specs.Session.{Runs}
 use Rattle.cube_session.proofs.Gives.{gives_some}
 use Rattle.cube_shell.specs.Replied.{AreLeft, HasReplied, Replied}
 
@@ -27,15 +28,16 @@ none_replied cs told = record { front = []; cut = refl; replied = record { repli
 
 -- one command more
 pub one_replied : (cs : List Command) (before : List ℕ) (all : List Command) (mid : List ℕ) (c : Command) (rest : List Command) (now : List ℕ)
-    (state : State) (files : Files) → AreLeft cs before all mid → all ≡ c ∷ rest → IsRunning state → RepliesTo state files c mid now
-    → AreLeft cs before rest now
-one_replied cs before all mid c rest now state files so_far first running is = record {
+    {S : Type 0} (T : Ghosts S) (site : S) (state : Option State) (files : Files) → AreLeft cs before all mid → all ≡ c ∷ rest → Runs T site state
+    → IfSome state (λ s. RepliesTo s files c mid now) → AreLeft cs before rest now
+one_replied cs before all mid c rest now T site None files so_far first runs is = absurd runs
+one_replied cs before all mid c rest now T site (Some state) files so_far first runs is = record {
   front = so_far.front ++ (c ∷ []);
   cut = so_far.cut ∙ ap (λ (l : List Command). so_far.front ++ l) first ∙ sym (append_assoc so_far.front (c ∷ []) rest);
   replied = then_replied so_far.front (c ∷ []) before mid now so_far.replied (record {
     replies = is.reply;
     told = is.told;
-    each = (is.reply, [], sym (append-nil is.reply), gives_some state files c is.reply running is.right, refl);
+    each = (is.reply, [], sym (append-nil is.reply), gives_some state files c is.reply runs.running is.right, refl);
   });
 }
 

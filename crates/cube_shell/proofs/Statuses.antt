@@ -37,6 +37,11 @@ pub not_input : {A : Type 0} (r : Result A Status) (stop : Stop) → IsErrAnd r 
 not_input (Ok x) stop from is = cc
 not_input (Err e) stop from is = never_input stop cc
 
+-- a source that fails is no script that is too long
+pub input_only : {A : Type 0} (r : Result A Status) (status : Status) → IsErrAnd r (λ s. s ≡ status) → status ≡ Input → IsErrOf r TooLong → ⊥
+input_only (Ok x) status from input is = cc
+input_only (Err e) status from input is = cc
+
 ends_at : (place : Place) (stop : Stop) → StopsAt place stop → EndsAt place (status_of stop)
 ends_at place stops.Disk is = tt
 ends_at place stops.Output is = is
@@ -45,9 +50,9 @@ ends_at place stops.Memory is = tt
 
 -- where the session names the damage, the run does
 pub named : {A : Type 0} (r : Result A Status) (stop : Stop) (place : Place) → IsErrAnd r (λ status. status ≡ status_of stop)
-    → StopsAt place stop → IfErr r (EndsAt place) × OnOk r ⊥
-named (Ok x) stop place from is = absurd from
-named (Err e) stop place from is = (subst (EndsAt place) (sym from) (ends_at place stop is), tt)
+    → StopsAt place stop → IsErrAnd r (EndsAt place)
+named (Ok x) stop place from is = from
+named (Err e) stop place from is = subst (EndsAt place) (sym from) (ends_at place stop is)
 
 as_status : (stop : Stop) → IsNoDamage stop → IsUndamaged (status_of stop)
 as_status stops.Disk is = tt
@@ -92,10 +97,15 @@ none_told_as (Err e) files is = none_told files e is
 
 -- what is so of both ends is so of the run
 pub ended_by_words : {A : Type 0} (P : Status → Type 0) (r : Result A Status) (stop : WordsStop) → IsErrAnd r (λ status. status ≡ words_status stop)
-    → (stop ≡ words.Usage → P Usage) → P Memory → IfErr r P × OnOk r ⊥
-ended_by_words P (Ok x) stop from usage memory = absurd from
-ended_by_words P (Err e) words.Usage from usage memory = (subst P (sym from) (usage refl), tt)
-ended_by_words P (Err e) words.Memory from usage memory = (subst P (sym from) memory, tt)
+    → (stop ≡ words.Usage → P Usage) → P Memory → IsErrAnd r P
+ended_by_words P (Ok x) stop from usage memory = from
+ended_by_words P (Err e) words.Usage from usage memory = subst P (sym from) (usage refl)
+ended_by_words P (Err e) words.Memory from usage memory = subst P (sym from) memory
+
+-- an end that is so is so where there is one
+pub where_ended : {A : Type 0} (P : Status → Type 0) (r : Result A Status) → IsErrAnd r P → IfErr r P
+where_ended P (Ok x) is = tt
+where_ended P (Err e) is = is
 
 -- an end that is another is not this one
 pub not_ended_so : {A : Type 0} (r : Result A Status) (status : Status) → IfErr r (λ e. e ≡ status → ⊥) → IsErrOf r status → ⊥

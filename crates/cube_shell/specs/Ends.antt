@@ -1,5 +1,5 @@
 -- How a run may end, and why.
-use Rattle.std.specs.Prelude.{◌≡◌, ℕ}
+use Rattle.std.specs.Prelude.{◌≡◌, ℕ, List, Result, IfErr, OnOk}
 use Rattle.site_core.specs.Causes.{Rose}
 use Rattle.cube_words.specs.declared.words.WordsStop.{WordsStop}
 use Rattle.cube_words.specs.declared.words.WordsStop.TheVariants as words
@@ -54,6 +54,10 @@ EndCause before now (Damaged file offset) = StatusCause before now (Damaged file
 EndCause before now TooLong = StatusCause before now TooLong
 EndCause before now Memory = StatusCause before now Memory
 
+-- why it ends early; where it goes on nothing failed
+abbrev pub EndsFor : {A : Type 0} → Faults → Faults → Result A Status → Type 0
+EndsFor before now result = IfErr result (EndCause before now) × OnOk result (Stayed before now)
+
 abbrev pub IsUndamaged : Status → Type 0
 IsUndamaged (Damaged file offset) = ⊥
 IsUndamaged Done = Unit {0}
@@ -97,3 +101,15 @@ abbrev pub IsDoneOrMemory : Status → Type 0
 IsDoneOrMemory Done = Unit {0}
 IsDoneOrMemory Memory = Unit {0}
 IsDoneOrMemory _ = ⊥
+
+-- the run ended so before the first pull, and told nothing
+pub record EndsUnpulled {S : Type 0} (End : Type 0) (source next : S) (told next_told : List ℕ) : Type 0 where
+  pub end : End
+  pub unpulled : next ≡ source
+  pub untold : next_told ≡ told
+
+-- the run ended so with no call on its source or its site
+pub record EndsUntouched {S T : Type 0} (End : Type 0) (source next : S) (site next_site : T) : Type 0 where
+  pub end : End
+  pub unread : next ≡ source
+  pub untouched : next_site ≡ site

@@ -9,7 +9,7 @@ use Rattle.plain_machine.specs.World.{World}
 use Rattle.plain_machine.specs.Keeps.{Keeps}
 use Rattle.plain_machine.specs.Stages.{replies_from, replies, final, AfterStop}
 use Rattle.cube_shell.specs.declared.status.Status.{Status}
-use Rattle.cube_shell.specs.declared.status.Status.TheVariants.{Done}
+use Rattle.cube_shell.specs.declared.status.Status.TheVariants.{Done, Input, TooLong}
 use Rattle.cube_shell.specs.Ends.{IsPastOpening}
 
 -- a stop leaves of a run what it leaves of its commands, or nothing told and what a stop at the start might have left
@@ -22,9 +22,16 @@ AfterRun world commands start told files =
 abbrev pub HasOpened : List ℕ → List ℕ → Status → Type 0
 HasOpened script left status = (left ≢ script) ⊎ IsPastOpening status
 
--- a stop right behind the run leaves what it leaves of its commands, whatever a stop before the run might have left
-abbrev pub Settled : Disk → World → List Command → List ℕ → Type 0
-Settled now world commands before = (files : Files) → now.may_leave files → AfterStop world commands before now.told files
+-- The files were opened and synced at some moment. Since then a stop leaves what it leaves of the commands, whatever a stop before the run
+-- might have left, and so does a stop right behind the run; before it nothing is told, and a stop leaves what one at the start might have left.
+pub record Opened (start now : Disk) (world : World) (commands : List Command) : Type 0 where
+  pub moment : ℕ
+  pub later : start.clock ≤ moment
+  pub past : moment ≤ now.clock
+  pub since : (told : List ℕ) (files : Files) → now.left_since moment told files → AfterStop world commands start.told told files
+  pub before : (told : List ℕ) (files : Files) → now.left_since start.clock told files
+      → now.left_since moment told files ⊎ ((told ≡ start.told) × start.may_leave files)
+  pub settled : (files : Files) → now.may_leave files → AfterStop world commands start.told now.told files
 
 -- all commands were carried out and their replies told, and the files keep what is known behind them
 pub record Finished (now : Disk) (world : World) (commands : List Command) (before : List ℕ) : Type 0 where
@@ -40,8 +47,8 @@ pub record Headline (world : World) (script left : List ℕ) (start now : Disk) 
   pub read : status ≡ Done → left ≡ []
   -- a stop at any moment leaves a front of the replies, and files that keep what is acknowledged
   pub any_stop : LeavesOnly start now (AfterRun world (commands script) start)
-  -- and so does a stop behind the run, once the files were opened
-  pub settled : HasOpened script left status → Settled now world (commands script) start.told
+  -- and nothing of what a stop before the run might have left, from the moment on at which the files were opened
+  pub opened : HasOpened script left status → Opened start now world (commands script)
 
 -- A run that passed its limit: the commands that are whole in the bytes before the pull that passed it were carried out, and of
 -- that pull no byte was looked at. A pull gives at most 65,536 bytes.
@@ -56,3 +63,8 @@ pub record CutOff (now : Disk) (world : World) (script left before : List ℕ) :
   pub given : List ℕ
   pub cut : script ≡ given ++ left
   pub finished : Finished now world (whole given) before
+
+-- a run that ended short of its script: past its limit, or where its source failed
+pub record StopsShort (IsEnd : Status → Type 0) (now : Disk) (world : World) (script left : List ℕ) (limit : ℕ) (before : List ℕ) : Type 0 where
+  pub left_off : IsEnd TooLong → LeftOff now world script limit before
+  pub cut_off : IsEnd Input → CutOff now world script left before

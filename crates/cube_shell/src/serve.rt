@@ -1,15 +1,16 @@
 //! The commands of a script, carried out one after the other while its pieces come.
-ghost use Rattle.std.specs.Prelude.{◌≡◌, ◌≤◌, ◌+◌, ◌^◌, ◌↔◌, ◌++◌, ℕ, List, [], false, IsTrue, OnOk, IfErr, IsErrOf, take, vec_len};
+ghost use Rattle.std.specs.Prelude.{◌≡◌, ◌≤◌, ◌+◌, ◌^◌, ◌++◌, ℕ, List, [], false, IsTrue, OnOk, IfErr, IsErrOf, take, vec_len};
 ghost use Rattle.site_core.specs.Moments.{LeavesOnly};
 ghost use Rattle.script_lang.specs.Reading.{nothing_read, ready, to_come, whole_with};
 ghost use Rattle.script_lang.specs.Script.{commands};
 ghost use Rattle.plain_machine.specs.Stages.{AfterStop};
 ghost use Rattle.plain_machine.specs.World.{World};
-ghost use Rattle.cube_state.specs.Stops.{StopCause, IsNoDamage};
-ghost use Rattle.cube_state.specs.Session.{IsFit, IsRunning, Stands};
-ghost use Rattle.cube_shell.specs.Ends.{EndCause, Stayed, IsUndamaged, faults};
-ghost use Rattle.cube_shell.specs.Headline.{CutOff, Finished, LeftOff};
-ghost use Rattle.cube_shell.specs.Pulls.{Gave, GaveAtMost};
+ghost use Rattle.cube_state.specs.Frames.{StopsFor};
+ghost use Rattle.cube_state.specs.Stops.{IsNoDamage};
+ghost use Rattle.cube_session.specs.Session.{Runs, StandsFor};
+ghost use Rattle.cube_shell.specs.Ends.{EndsFor, IsUndamaged, faults};
+ghost use Rattle.cube_shell.specs.Headline.{Finished, StopsShort};
+ghost use Rattle.cube_shell.specs.Pulls.{Gave, KeepsLimit};
 ghost use Rattle.cube_shell.specs.Replied.{AreLeft, HasReplied};
 ghost use Rattle.cube_shell.specs.Onward.{Onward};
 
@@ -31,34 +32,25 @@ pub fn serve<S: Source, T: Site>(
     limit: u64,
 ) -> Result<(), Status>
     requires limit { limit ≤ 2 ^ 30 }
-    requires running { IsRunning session.old.state }
-    requires fit { IsTrue T.tells → IsFit session.old.state (T.disk site.old) }
+    requires runs { Runs T.Site site.old session.old.state }
 
-    ensures finished { IsTrue S.tells → IsTrue T.tells → (world : World) → Stands session.old.state (T.disk site.old) world
+    ensures finished { IsTrue S.tells → IsTrue T.tells → (world : World) → StandsFor session.old.state (T.disk site.old) world
         → OnOk result (Finished (T.disk site.new) world (commands (S.left source.old)) (T.disk site.old).told) }
-    ensures any_moment { IsTrue S.tells → IsTrue T.tells → (world : World) → Stands session.old.state (T.disk site.old) world
+    ensures any_moment { IsTrue S.tells → IsTrue T.tells → (world : World) → StandsFor session.old.state (T.disk site.old) world
         → LeavesOnly (T.disk site.old) (T.disk site.new) (AfterStop world (commands (S.left source.old)) (T.disk site.old).told) }
-    ensures undamaged { IsTrue T.tells → (world : World) → Stands session.old.state (T.disk site.old) world
+    ensures undamaged { IsTrue T.tells → (world : World) → StandsFor session.old.state (T.disk site.old) world
         → IfErr result IsUndamaged }
     ensures replied { IsTrue S.tells → IsTrue T.tells
         → OnOk result (HasReplied (commands (S.left source.old)) (T.disk site.old).told (T.disk site.new).told) }
     ensures unpulled { IsTrue S.tells → Gave (S.left source.old) (S.left source.new) 0 → IfErr result IsUndamaged }
     ensures read { IsTrue S.tells → OnOk result (S.left source.new ≡ []) }
-    ensures too_long { IsTrue S.tells
-        → (IsErrOf result Status.TooLong ↔ Gave (S.left source.old) (S.left source.new) (limit + 1)) }
-    ensures left_off { IsTrue S.tells → IsTrue T.tells → (world : World) → Stands session.old.state (T.disk site.old) world
-        → IsErrOf result Status.TooLong → LeftOff (T.disk site.new) world (S.left source.old) limit (T.disk site.old).told }
-    ensures cut_off { IsTrue S.tells → IsTrue T.tells → (world : World) → Stands session.old.state (T.disk site.old) world
-        → IsErrOf result Status.Input
-        → CutOff (T.disk site.new) world (S.left source.old) (S.left source.new) (T.disk site.old).told }
-    ensures bounded { IsTrue S.tells → GaveAtMost (S.left source.old) (S.left source.new) (limit + 1) }
+    ensures limit { IsTrue S.tells → KeepsLimit (λ status. IsErrOf result status) limit (S.left source.old) (S.left source.new) }
+    ensures short { IsTrue S.tells → IsTrue T.tells → (world : World) → StandsFor session.old.state (T.disk site.old) world
+        → StopsShort (λ status. IsErrOf result status) (T.disk site.new) world (S.left source.old) (S.left source.new) limit (T.disk site.old).told }
     ensures asked { S.ends source.new ≤ S.ends source.old + 1 }
     ensures no_usage { IsErrOf result Status.Usage → ⊥ }
-    ensures running { OnOk result (IsRunning session.new.state) }
-    ensures cause { IfErr result (EndCause (faults (S.faults source.old) (T.disk_faults site.old) (T.told_faults site.old))
-        (faults (S.faults source.new) (T.disk_faults site.new) (T.told_faults site.new))) }
-    ensures faults { OnOk result (Stayed (faults (S.faults source.old) (T.disk_faults site.old) (T.told_faults site.old))
-        (faults (S.faults source.new) (T.disk_faults site.new) (T.told_faults site.new))) }
+    ensures cause { EndsFor (faults (S.faults source.old) (T.disk_faults site.old) (T.told_faults site.old))
+        (faults (S.faults source.new) (T.disk_faults site.new) (T.told_faults site.new)) result }
 {
     let mut lines = Lines::new(alloc);
     let mut taken = 0;
@@ -84,34 +76,30 @@ fn take_piece<T: Site>(
     buffer: Vec<u8>,
     count: usize,
 ) -> Result<(), Stop>
-    requires running { IsRunning session.old.state }
-    requires fit { IsTrue T.tells → IsFit session.old.state (T.disk site.old) }
+    requires runs { Runs T.Site site.old session.old.state }
     requires goes_on { lines.old.over ≡ false }
     requires read { lines.old.rest ≡ [] }
     requires within { count ≤ vec_len buffer }
 
-    ensures onward { IsTrue T.tells → (world : World) (more : List ℕ) → Stands session.old.state (T.disk site.old) world
+    ensures onward { IsTrue T.tells → (world : World) (more : List ℕ) → StandsFor session.old.state (T.disk site.old) world
         → OnOk result (Onward session.new.state (T.disk site.new) world (to_come lines.old (take count buffer.items ++ more))
         (T.disk site.old).told (to_come lines.new more)) }
-    ensures whole { IsTrue T.tells → (world : World) (more : List ℕ) → Stands session.old.state (T.disk site.old) world
+    ensures whole { IsTrue T.tells → (world : World) (more : List ℕ) → StandsFor session.old.state (T.disk site.old) world
         → OnOk result (Onward session.new.state (T.disk site.new) world (whole_with lines.old (take count buffer.items ++ more))
         (T.disk site.old).told (whole_with lines.new more)) }
     ensures replied { IsTrue T.tells → (more : List ℕ) → OnOk result (AreLeft (to_come lines.old (take count buffer.items ++ more))
         (T.disk site.old).told (to_come lines.new more) (T.disk site.new).told) }
     ensures ready { OnOk result (ready lines.new ≡ []) }
     ensures read { OnOk result (lines.new.rest ≡ []) }
-    ensures any_moment { IsTrue T.tells → (world : World) (more : List ℕ) → Stands session.old.state (T.disk site.old) world
+    ensures any_moment { IsTrue T.tells → (world : World) (more : List ℕ) → StandsFor session.old.state (T.disk site.old) world
         → LeavesOnly (T.disk site.old) (T.disk site.new)
         (AfterStop world (to_come lines.old (take count buffer.items ++ more)) (T.disk site.old).told) }
-    ensures undamaged { IsTrue T.tells → (world : World) → Stands session.old.state (T.disk site.old) world
+    ensures undamaged { IsTrue T.tells → (world : World) → StandsFor session.old.state (T.disk site.old) world
         → IfErr result IsNoDamage }
     ensures goes_on { lines.new.over ≡ false }
 
-    ensures running { OnOk result (IsRunning session.new.state) }
-    ensures fit { IsTrue T.tells → OnOk result (IsFit session.new.state (T.disk site.new)) }
-    ensures cause { IfErr result (StopCause (T.disk_faults site.old) (T.disk_faults site.new) (T.told_faults site.old) (T.told_faults site.new)) }
-    ensures disk_faults { OnOk result (T.disk_faults site.new ≡ T.disk_faults site.old) }
-    ensures told_faults { OnOk result (T.told_faults site.new ≡ T.told_faults site.old) }
+    ensures runs { OnOk result (Runs T.Site site.new session.new.state) }
+    ensures stops { StopsFor T.Site site.old site.new result }
 {
     lines.take_over(buffer, count);
     carry_out(session, lines, site)
@@ -119,23 +107,19 @@ fn take_piece<T: Site>(
 
 /// Carries out the commands that are left at the end of the script.
 fn take_end<T: Site>(session: &mut Session, lines: &mut Lines, site: &mut T) -> Result<(), Stop>
-    requires running { IsRunning session.old.state }
-    requires fit { IsTrue T.tells → IsFit session.old.state (T.disk site.old) }
+    requires runs { Runs T.Site site.old session.old.state }
     requires goes_on { lines.old.over ≡ false }
 
-    ensures finished { IsTrue T.tells → (world : World) → Stands session.old.state (T.disk site.old) world
+    ensures finished { IsTrue T.tells → (world : World) → StandsFor session.old.state (T.disk site.old) world
         → OnOk result (Finished (T.disk site.new) world (to_come lines.old []) (T.disk site.old).told) }
-    ensures any_moment { IsTrue T.tells → (world : World) → Stands session.old.state (T.disk site.old) world
+    ensures any_moment { IsTrue T.tells → (world : World) → StandsFor session.old.state (T.disk site.old) world
         → LeavesOnly (T.disk site.old) (T.disk site.new) (AfterStop world (to_come lines.old []) (T.disk site.old).told) }
-    ensures undamaged { IsTrue T.tells → (world : World) → Stands session.old.state (T.disk site.old) world
+    ensures undamaged { IsTrue T.tells → (world : World) → StandsFor session.old.state (T.disk site.old) world
         → IfErr result IsNoDamage }
     ensures replied { IsTrue T.tells → OnOk result (HasReplied (to_come lines.old []) (T.disk site.old).told (T.disk site.new).told) }
     ensures nothing { lines.old ≡ nothing_read → IfErr result IsNoDamage }
 
-    ensures running { OnOk result (IsRunning session.new.state) }
-    ensures cause { IfErr result (StopCause (T.disk_faults site.old) (T.disk_faults site.new) (T.told_faults site.old) (T.told_faults site.new)) }
-    ensures disk_faults { OnOk result (T.disk_faults site.new ≡ T.disk_faults site.old) }
-    ensures told_faults { OnOk result (T.told_faults site.new ≡ T.told_faults site.old) }
+    ensures stops { StopsFor T.Site site.old site.new result }
 {
     lines.end();
     carry_out(session, lines, site)
@@ -143,18 +127,17 @@ fn take_end<T: Site>(session: &mut Session, lines: &mut Lines, site: &mut T) -> 
 
 /// Carries out the commands that are whole by now, and emits the reply to each.
 fn carry_out<T: Site>(session: &mut Session, lines: &mut Lines, site: &mut T) -> Result<(), Stop>
-    requires running { IsRunning session.old.state }
-    requires fit { IsTrue T.tells → IsFit session.old.state (T.disk site.old) }
+    requires runs { Runs T.Site site.old session.old.state }
 
-    ensures onward { IsTrue T.tells → (world : World) (more : List ℕ) → Stands session.old.state (T.disk site.old) world
+    ensures onward { IsTrue T.tells → (world : World) (more : List ℕ) → StandsFor session.old.state (T.disk site.old) world
         → OnOk result (Onward session.new.state (T.disk site.new) world (to_come lines.old more) (T.disk site.old).told
         (to_come lines.new more)) }
     ensures whole { IsTrue T.tells → lines.old.over ≡ false → (world : World) (more : List ℕ)
-        → Stands session.old.state (T.disk site.old) world → OnOk result (Onward session.new.state (T.disk site.new) world
+        → StandsFor session.old.state (T.disk site.old) world → OnOk result (Onward session.new.state (T.disk site.new) world
         (whole_with lines.old more) (T.disk site.old).told (whole_with lines.new more)) }
-    ensures any_moment { IsTrue T.tells → (world : World) (more : List ℕ) → Stands session.old.state (T.disk site.old) world
+    ensures any_moment { IsTrue T.tells → (world : World) (more : List ℕ) → StandsFor session.old.state (T.disk site.old) world
         → LeavesOnly (T.disk site.old) (T.disk site.new) (AfterStop world (to_come lines.old more) (T.disk site.old).told) }
-    ensures undamaged { IsTrue T.tells → (world : World) → Stands session.old.state (T.disk site.old) world
+    ensures undamaged { IsTrue T.tells → (world : World) → StandsFor session.old.state (T.disk site.old) world
         → IfErr result IsNoDamage }
     ensures replied { IsTrue T.tells → (more : List ℕ)
         → OnOk result (AreLeft (to_come lines.old more) (T.disk site.old).told (to_come lines.new more) (T.disk site.new).told) }
@@ -163,11 +146,8 @@ fn carry_out<T: Site>(session: &mut Session, lines: &mut Lines, site: &mut T) ->
     ensures read { OnOk result (lines.new.rest ≡ []) }
     ensures over { lines.new.over ≡ lines.old.over }
 
-    ensures running { OnOk result (IsRunning session.new.state) }
-    ensures fit { IsTrue T.tells → OnOk result (IsFit session.new.state (T.disk site.new)) }
-    ensures cause { IfErr result (StopCause (T.disk_faults site.old) (T.disk_faults site.new) (T.told_faults site.old) (T.told_faults site.new)) }
-    ensures disk_faults { OnOk result (T.disk_faults site.new ≡ T.disk_faults site.old) }
-    ensures told_faults { OnOk result (T.told_faults site.new ≡ T.told_faults site.old) }
+    ensures runs { OnOk result (Runs T.Site site.new session.new.state) }
+    ensures stops { StopsFor T.Site site.old site.new result }
 {
     while let Some(command) = lines.next_command()? {
         session.command(site, command)?;

@@ -1,5 +1,5 @@
 //! The top call, which carries the headline.
-ghost use Rattle.std.specs.Prelude.{◌≡◌, ◌≤◌, ◌+◌, ◌^◌, ◌↔◌, [], IsTrue, OnOk, IfErr, IsErrOf, length, map, string_bytes};
+ghost use Rattle.std.specs.Prelude.{◌≡◌, ◌≤◌, ◌+◌, ◌^◌, [], IsTrue, OnOk, IfErr, IsErrAnd, IsErrOf, length, map, string_bytes};
 ghost use Rattle.site_core.specs.Causes.{Rose};
 ghost use Rattle.site_core.specs.Moments.{LeavesOnly};
 ghost use Rattle.forest_open.specs.Breaks.{BreaksAt};
@@ -9,9 +9,9 @@ ghost use Rattle.cube_words.specs.Words.{AreValid};
 ghost use Rattle.plain_machine.specs.Keeps.{Keeps};
 ghost use Rattle.plain_machine.specs.World.{Kept, bare};
 ghost use Rattle.cube_shell.specs.Damage.{EndsAt, EndsForBreak};
-ghost use Rattle.cube_shell.specs.Ends.{EndCause, StatusCause, Stayed, IsDoneOrMemory, IsUndamaged, IsUsageOrMemory, faults};
-ghost use Rattle.cube_shell.specs.Headline.{AfterRun, CutOff, Finished, HasOpened, Headline, LeftOff, Settled};
-ghost use Rattle.cube_shell.specs.Pulls.{Gave, GaveAtMost};
+ghost use Rattle.cube_shell.specs.Ends.{EndsFor, EndsUnpulled, EndsUntouched, StatusCause, IsDoneOrMemory, IsUndamaged, IsUsageOrMemory, faults};
+ghost use Rattle.cube_shell.specs.Headline.{AfterRun, Finished, HasOpened, Headline, Opened, StopsShort};
+ghost use Rattle.cube_shell.specs.Pulls.{Gave, KeepsLimit};
 ghost use Rattle.cube_shell.specs.Replied.{HasReplied};
 
 use crate::serve::serve;
@@ -42,26 +42,18 @@ pub fn run<S: Source, T: Site>(
         → ¬ (Rose (T.disk_faults site.old) (T.disk_faults site.new))
         → ¬ (Rose (T.told_faults site.old) (T.told_faults site.new)) → IsDoneOrMemory result }
     ensures broken { IsTrue T.tells → AreValid (map string_bytes words.now) → (place : Place) → BreaksAt (T.disk site.old).files place
-        → EndsAt place result }
-    ensures unpulled { IsTrue T.tells → AreValid (map string_bytes words.now) → (place : Place) → BreaksAt (T.disk site.old).files place
-        → source.new ≡ source.old }
-    ensures untold { IsTrue T.tells → AreValid (map string_bytes words.now) → (place : Place) → BreaksAt (T.disk site.old).files place
-        → (T.disk site.new).told ≡ (T.disk site.old).told }
+        → EndsUnpulled (EndsAt place result) source.old source.new (T.disk site.old).told (T.disk site.new).told }
     ensures damaged { IsTrue S.tells → IsTrue T.tells → Gave (S.left source.old) (S.left source.new) 0
         → EndsForBreak (T.disk site.old).files result }
     ensures replied { IsTrue S.tells → IsTrue T.tells → result ≡ Status.Done
         → HasReplied (commands (S.left source.old)) (T.disk site.old).told (T.disk site.new).told }
+    ensures read { IsTrue S.tells → result ≡ Status.Done → S.left source.new ≡ [] }
     ensures usage { result ≡ Status.Usage → ¬ (AreValid (map string_bytes words.now)) }
-    ensures faulty { ¬ (AreValid (map string_bytes words.now)) → IsUsageOrMemory result }
-    ensures unread { ¬ (AreValid (map string_bytes words.now)) → source.new ≡ source.old }
-    ensures untouched { ¬ (AreValid (map string_bytes words.now)) → site.new ≡ site.old }
-    ensures too_long { IsTrue S.tells
-        → ((result ≡ Status.TooLong) ↔ Gave (S.left source.old) (S.left source.new) (2 ^ 30 + 1)) }
-    ensures left_off { IsTrue S.tells → IsTrue T.tells → (kept : Kept) → Keeps (T.disk site.old).files kept
-        → result ≡ Status.TooLong → LeftOff (T.disk site.new) (bare kept) (S.left source.old) (2 ^ 30) (T.disk site.old).told }
-    ensures cut_off { IsTrue S.tells → IsTrue T.tells → (kept : Kept) → Keeps (T.disk site.old).files kept
-        → result ≡ Status.Input → CutOff (T.disk site.new) (bare kept) (S.left source.old) (S.left source.new) (T.disk site.old).told }
-    ensures bounded { IsTrue S.tells → GaveAtMost (S.left source.old) (S.left source.new) (2 ^ 30 + 1) }
+    ensures faulty { ¬ (AreValid (map string_bytes words.now))
+        → EndsUntouched (IsUsageOrMemory result) source.old source.new site.old site.new }
+    ensures limit { IsTrue S.tells → KeepsLimit (λ status. result ≡ status) (2 ^ 30) (S.left source.old) (S.left source.new) }
+    ensures short { IsTrue S.tells → IsTrue T.tells → (kept : Kept) → Keeps (T.disk site.old).files kept
+        → StopsShort (λ status. result ≡ status) (T.disk site.new) (bare kept) (S.left source.old) (S.left source.new) (2 ^ 30) (T.disk site.old).told }
     ensures asked { S.ends source.new ≤ S.ends source.old + 1 }
     ensures cause { StatusCause (faults (S.faults source.old) (T.disk_faults site.old) (T.told_faults site.old))
         (faults (S.faults source.new) (T.disk_faults site.new) (T.told_faults site.new)) result }
@@ -92,26 +84,18 @@ pub fn run_within<S: Source, T: Site>(
         → ¬ (Rose (T.disk_faults site.old) (T.disk_faults site.new))
         → ¬ (Rose (T.told_faults site.old) (T.told_faults site.new)) → IsDoneOrMemory result }
     ensures broken { IsTrue T.tells → AreValid (map string_bytes words.now) → (place : Place) → BreaksAt (T.disk site.old).files place
-        → EndsAt place result }
-    ensures unpulled { IsTrue T.tells → AreValid (map string_bytes words.now) → (place : Place) → BreaksAt (T.disk site.old).files place
-        → source.new ≡ source.old }
-    ensures untold { IsTrue T.tells → AreValid (map string_bytes words.now) → (place : Place) → BreaksAt (T.disk site.old).files place
-        → (T.disk site.new).told ≡ (T.disk site.old).told }
+        → EndsUnpulled (EndsAt place result) source.old source.new (T.disk site.old).told (T.disk site.new).told }
     ensures damaged { IsTrue S.tells → IsTrue T.tells → Gave (S.left source.old) (S.left source.new) 0
         → EndsForBreak (T.disk site.old).files result }
     ensures replied { IsTrue S.tells → IsTrue T.tells → result ≡ Status.Done
         → HasReplied (commands (S.left source.old)) (T.disk site.old).told (T.disk site.new).told }
+    ensures read { IsTrue S.tells → result ≡ Status.Done → S.left source.new ≡ [] }
     ensures usage { result ≡ Status.Usage → ¬ (AreValid (map string_bytes words.now)) }
-    ensures faulty { ¬ (AreValid (map string_bytes words.now)) → IsUsageOrMemory result }
-    ensures unread { ¬ (AreValid (map string_bytes words.now)) → source.new ≡ source.old }
-    ensures untouched { ¬ (AreValid (map string_bytes words.now)) → site.new ≡ site.old }
-    ensures too_long { IsTrue S.tells
-        → ((result ≡ Status.TooLong) ↔ Gave (S.left source.old) (S.left source.new) (limit + 1)) }
-    ensures left_off { IsTrue S.tells → IsTrue T.tells → (kept : Kept) → Keeps (T.disk site.old).files kept
-        → result ≡ Status.TooLong → LeftOff (T.disk site.new) (bare kept) (S.left source.old) limit (T.disk site.old).told }
-    ensures cut_off { IsTrue S.tells → IsTrue T.tells → (kept : Kept) → Keeps (T.disk site.old).files kept
-        → result ≡ Status.Input → CutOff (T.disk site.new) (bare kept) (S.left source.old) (S.left source.new) (T.disk site.old).told }
-    ensures bounded { IsTrue S.tells → GaveAtMost (S.left source.old) (S.left source.new) (limit + 1) }
+    ensures faulty { ¬ (AreValid (map string_bytes words.now))
+        → EndsUntouched (IsUsageOrMemory result) source.old source.new site.old site.new }
+    ensures limit { IsTrue S.tells → KeepsLimit (λ status. result ≡ status) limit (S.left source.old) (S.left source.new) }
+    ensures short { IsTrue S.tells → IsTrue T.tells → (kept : Kept) → Keeps (T.disk site.old).files kept
+        → StopsShort (λ status. result ≡ status) (T.disk site.new) (bare kept) (S.left source.old) (S.left source.new) limit (T.disk site.old).told }
     ensures asked { S.ends source.new ≤ S.ends source.old + 1 }
     ensures cause { StatusCause (faults (S.faults source.old) (T.disk_faults site.old) (T.told_faults site.old))
         (faults (S.faults source.new) (T.disk_faults site.new) (T.told_faults site.new)) result }
@@ -135,39 +119,28 @@ fn attempt<S: Source, T: Site>(
         → OnOk result (Finished (T.disk site.new) (bare kept) (commands (S.left source.old)) (T.disk site.old).told) }
     ensures any_moment { IsTrue S.tells → IsTrue T.tells → (kept : Kept) → Keeps (T.disk site.old).files kept
         → LeavesOnly (T.disk site.old) (T.disk site.new) (AfterRun (bare kept) (commands (S.left source.old)) (T.disk site.old)) }
-    ensures settled { IsTrue S.tells → IsTrue T.tells → (kept : Kept) → Keeps (T.disk site.old).files kept
-        → OnOk result (Settled (T.disk site.new) (bare kept) (commands (S.left source.old)) (T.disk site.old).told)
+    ensures opened { IsTrue S.tells → IsTrue T.tells → (kept : Kept) → Keeps (T.disk site.old).files kept
+        → OnOk result (Opened (T.disk site.old) (T.disk site.new) (bare kept) (commands (S.left source.old)))
         × IfErr result (λ status. HasOpened (S.left source.old) (S.left source.new) status
-        → Settled (T.disk site.new) (bare kept) (commands (S.left source.old)) (T.disk site.old).told) }
+        → Opened (T.disk site.old) (T.disk site.new) (bare kept) (commands (S.left source.old))) }
     ensures undamaged { IsTrue T.tells → (kept : Kept) → Keeps (T.disk site.old).files kept
         → IfErr result IsUndamaged }
     ensures broken { IsTrue T.tells → AreValid (map string_bytes words.now) → (place : Place) → BreaksAt (T.disk site.old).files place
-        → IfErr result (EndsAt place) × OnOk result ⊥ }
-    ensures unpulled { IsTrue T.tells → AreValid (map string_bytes words.now) → (place : Place) → BreaksAt (T.disk site.old).files place
-        → source.new ≡ source.old }
-    ensures untold { IsTrue T.tells → AreValid (map string_bytes words.now) → (place : Place) → BreaksAt (T.disk site.old).files place
-        → (T.disk site.new).told ≡ (T.disk site.old).told }
+        → EndsUnpulled (IsErrAnd result (EndsAt place)) source.old source.new (T.disk site.old).told (T.disk site.new).told }
     ensures damaged { IsTrue S.tells → IsTrue T.tells → Gave (S.left source.old) (S.left source.new) 0
         → IfErr result (EndsForBreak (T.disk site.old).files) }
     ensures replied { IsTrue S.tells → IsTrue T.tells
         → OnOk result (HasReplied (commands (S.left source.old)) (T.disk site.old).told (T.disk site.new).told) }
     ensures read { IsTrue S.tells → OnOk result (S.left source.new ≡ []) }
     ensures usage { IsErrOf result Status.Usage → ¬ (AreValid (map string_bytes words.now)) }
-    ensures faulty { ¬ (AreValid (map string_bytes words.now)) → IfErr result IsUsageOrMemory × OnOk result ⊥ }
-    ensures unread { ¬ (AreValid (map string_bytes words.now)) → source.new ≡ source.old }
-    ensures untouched { ¬ (AreValid (map string_bytes words.now)) → site.new ≡ site.old }
-    ensures too_long { IsTrue S.tells
-        → (IsErrOf result Status.TooLong ↔ Gave (S.left source.old) (S.left source.new) (limit + 1)) }
-    ensures left_off { IsTrue S.tells → IsTrue T.tells → (kept : Kept) → Keeps (T.disk site.old).files kept
-        → IsErrOf result Status.TooLong → LeftOff (T.disk site.new) (bare kept) (S.left source.old) limit (T.disk site.old).told }
-    ensures cut_off { IsTrue S.tells → IsTrue T.tells → (kept : Kept) → Keeps (T.disk site.old).files kept
-        → IsErrOf result Status.Input → CutOff (T.disk site.new) (bare kept) (S.left source.old) (S.left source.new) (T.disk site.old).told }
-    ensures bounded { IsTrue S.tells → GaveAtMost (S.left source.old) (S.left source.new) (limit + 1) }
+    ensures faulty { ¬ (AreValid (map string_bytes words.now))
+        → EndsUntouched (IsErrAnd result IsUsageOrMemory) source.old source.new site.old site.new }
+    ensures limit { IsTrue S.tells → KeepsLimit (λ status. IsErrOf result status) limit (S.left source.old) (S.left source.new) }
+    ensures short { IsTrue S.tells → IsTrue T.tells → (kept : Kept) → Keeps (T.disk site.old).files kept
+        → StopsShort (λ status. IsErrOf result status) (T.disk site.new) (bare kept) (S.left source.old) (S.left source.new) limit (T.disk site.old).told }
     ensures asked { S.ends source.new ≤ S.ends source.old + 1 }
-    ensures cause { IfErr result (EndCause (faults (S.faults source.old) (T.disk_faults site.old) (T.told_faults site.old))
-        (faults (S.faults source.new) (T.disk_faults site.new) (T.told_faults site.new))) }
-    ensures faults { OnOk result (Stayed (faults (S.faults source.old) (T.disk_faults site.old) (T.told_faults site.old))
-        (faults (S.faults source.new) (T.disk_faults site.new) (T.told_faults site.new))) }
+    ensures cause { EndsFor (faults (S.faults source.old) (T.disk_faults site.old) (T.told_faults site.old))
+        (faults (S.faults source.new) (T.disk_faults site.new) (T.told_faults site.new)) result }
 {
     let cache = cache_of(alloc, words)?;
     let mut session = Session::start(alloc, site, cache)?;

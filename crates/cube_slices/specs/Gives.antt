@@ -11,7 +11,7 @@ use Rattle.slice_lang.specs.Reading.{slice_of}
 use Rattle.view_route.specs.Routes.{IsRoute}
 use Rattle.plain_machine.specs.Machine.{is_covered}
 use Rattle.cube_state.specs.declared.state.State.{State}
-use Rattle.cube_state.specs.declared.state.State.TheVariants.{Stopped, Empty, Idle, Hollow, Pending}
+use Rattle.cube_state.specs.declared.state.State.TheVariants.{Empty, Idle, Hollow, Pending}
 use Rattle.cube_state.specs.Session.{IsLine}
 
 -- these are the rows of the routed view in these files, each page of which that was gone to is sound
@@ -39,7 +39,6 @@ GivesRead store files (Ok s) reply = GivesFound store files s reply
 
 -- the reply to the text of a slice
 abbrev pub SliceGives : State → Files → List ℕ → List ℕ → Type 0
-SliceGives Stopped files text reply = ⊥
 SliceGives Empty files text reply = IsLine (codes "refused no schema") reply
 SliceGives (Idle store) files text reply = GivesRead store files (slice_of store.forest.schema text) reply
 SliceGives (Hollow store) files text reply = GivesRead store files (slice_of store.forest.schema text) reply

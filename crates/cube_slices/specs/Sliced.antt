@@ -16,7 +16,7 @@ use Rattle.plain_machine.specs.Machine.{is_covered}
 use Rattle.cube_state.specs.declared.stop.Stop.{Stop}
 use Rattle.cube_state.specs.declared.stop.Stop.TheVariants as stops
 use Rattle.cube_state.specs.declared.state.State.{State}
-use Rattle.cube_state.specs.declared.state.State.TheVariants.{Stopped, Empty, Idle, Hollow, Pending}
+use Rattle.cube_state.specs.declared.state.State.TheVariants.{Empty, Idle, Hollow, Pending}
 use Rattle.cube_state.specs.Stops.{IsNoDamage}
 
 -- these are the rows of the facts, or there are none where no view covers the slice
@@ -40,7 +40,6 @@ TellsSliceDamage store files read stops.Memory = Unit {0}
 
 -- the same of a session that has this; without a schema no damage is told
 abbrev pub SliceTells : State → Files → List ℕ → Stop → Type 0
-SliceTells Stopped files text stop = IsNoDamage stop
 SliceTells Empty files text stop = IsNoDamage stop
 SliceTells (Idle kept) files text stop = TellsSliceDamage kept files (slice_of kept.forest.schema text) stop
 SliceTells (Hollow kept) files text stop = TellsSliceDamage kept files (slice_of kept.forest.schema text) stop

@@ -7,8 +7,9 @@ ghost use Rattle.slice_lang.specs.Agreeing.{SliceAgrees};
 ghost use Rattle.slice_lang.specs.Reading.{slice_of};
 ghost use Rattle.plain_machine.specs.Machine.{rows_reply, slice, slice_reply};
 ghost use Rattle.plain_machine.specs.World.{World};
-ghost use Rattle.cube_state.specs.Stops.{IsNoDamage, StopCause};
-ghost use Rattle.cube_state.specs.Session.{Between, IsAnswer, IsFit, IsRunning, Stands};
+ghost use Rattle.cube_state.specs.Frames.{IsQuiet, RunsOn};
+ghost use Rattle.cube_state.specs.Stops.{IsNoDamage};
+ghost use Rattle.cube_state.specs.Session.{Between, IsAnswer, Stands};
 ghost use Rattle.cube_slices.specs.Costs.{Costs, MayRead};
 ghost use Rattle.cube_slices.specs.Gives.{Finds, GivesFound, GivesRead, SliceGives};
 ghost use Rattle.cube_slices.specs.Sliced.{AreRows, TellsSliceDamage};
@@ -33,8 +34,7 @@ pub fn slice<T: Site>(
     text: &[u8],
     site: &mut T,
 ) -> Result<Answered, Stop>
-    requires running { IsRunning state }
-    requires fit { IsTrue T.tells → IsFit state (T.disk site.old) }
+    requires runs { RunsOn T.Site site.old state }
 
     ensures answer { IsTrue T.tells → (world : World) → Stands state (T.disk site.old) world
         → IfOk result (IsAnswer (T.disk site.new) (slice world text.now)) }
@@ -48,17 +48,12 @@ pub fn slice<T: Site>(
     // Whatever the files hold.
     ensures damage { IsTrue T.tells → IfErr result (SliceTells state (T.disk site.old).files text.now) }
     ensures answered { IsTrue T.tells → IfOk result (λ done. SliceGives state (T.disk site.old).files text.now done.reply.items) }
-    ensures running { IfOk result (λ done. IsRunning done.state) }
-    ensures fit { IsTrue T.tells → IfOk result (λ done. IsFit done.state (T.disk site.new)) }
-    ensures told { IsTrue T.tells → (T.disk site.new).told ≡ (T.disk site.old).told }
+    ensures runs { IfOk result (λ done. RunsOn T.Site site.new done.state) }
     ensures cache { pages.new ≡ pages.old }
-    ensures cause { IfErr result (StopCause (T.disk_faults site.old) (T.disk_faults site.new) (T.told_faults site.old) (T.told_faults site.new)) }
-    ensures disk_faults { OnOk result (T.disk_faults site.new ≡ T.disk_faults site.old) }
-    ensures told_faults { T.told_faults site.new ≡ T.told_faults site.old }
+    ensures quiet { IsQuiet T.Site site.old site.new result }
     ensures writes { T.writes site.new ≡ T.writes site.old }
 {
     match state {
-        State::Stopped => Err(Stop::Memory),
         State::Empty => plain(alloc, State::Empty, "refused no schema"),
         State::Idle(store) => {
             let reply = reply_to(alloc, pages, &store, text, site)?;
@@ -106,9 +101,7 @@ fn reply_to<T: Site>(
         → IfOk result (λ reply. GivesRead store.now (T.disk site.old).files (slice_of store.now.forest.schema text.now) reply.items) }
     ensures disk { IsTrue T.tells → Rests (T.disk site.old) (T.disk site.new) }
     ensures cache { pages.new ≡ pages.old }
-    ensures cause { IfErr result (StopCause (T.disk_faults site.old) (T.disk_faults site.new) (T.told_faults site.old) (T.told_faults site.new)) }
-    ensures disk_faults { OnOk result (T.disk_faults site.new ≡ T.disk_faults site.old) }
-    ensures told_faults { T.told_faults site.new ≡ T.told_faults site.old }
+    ensures quiet { IsQuiet T.Site site.old site.new result }
     ensures writes { T.writes site.new ≡ T.writes site.old }
 {
     match read_slice(alloc, &store.forest.schema, text) {
@@ -139,9 +132,7 @@ fn rows_text<T: Site>(
     ensures answered { IsTrue T.tells → IfOk result (λ reply. GivesFound store.now (T.disk site.old).files slice.now reply.items) }
     ensures disk { IsTrue T.tells → Rests (T.disk site.old) (T.disk site.new) }
     ensures cache { pages.new ≡ pages.old }
-    ensures cause { IfErr result (StopCause (T.disk_faults site.old) (T.disk_faults site.new) (T.told_faults site.old) (T.told_faults site.new)) }
-    ensures disk_faults { OnOk result (T.disk_faults site.new ≡ T.disk_faults site.old) }
-    ensures told_faults { T.told_faults site.new ≡ T.told_faults site.old }
+    ensures quiet { IsQuiet T.Site site.old site.new result }
     ensures writes { T.writes site.new ≡ T.writes site.old }
 {
     match rows_of(alloc, pages, store, slice, site)? {
@@ -172,9 +163,7 @@ fn rows_of<T: Site>(
     ensures answered { IsTrue T.tells → IfOk result (Finds store.now (T.disk site.old).files slice.now) }
     ensures disk { IsTrue T.tells → Rests (T.disk site.old) (T.disk site.new) }
     ensures cache { pages.new ≡ pages.old }
-    ensures cause { IfErr result (StopCause (T.disk_faults site.old) (T.disk_faults site.new) (T.told_faults site.old) (T.told_faults site.new)) }
-    ensures disk_faults { OnOk result (T.disk_faults site.new ≡ T.disk_faults site.old) }
-    ensures told_faults { T.told_faults site.new ≡ T.told_faults site.old }
+    ensures quiet { IsQuiet T.Site site.old site.new result }
     ensures writes { T.writes site.new ≡ T.writes site.old }
 {
     match slice_exec::answer(alloc, site, pages, store, slice) {

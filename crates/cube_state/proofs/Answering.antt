@@ -3,7 +3,6 @@ use Rattle.std.proofs.Common.{◌≡◌, inl, ℕ, List, sym, ◌∙◌, subst, 
 use Rattle.site_core.specs.Disk.{Files, Disk}
 use Rattle.site_core.proofs.Run.{each_moment, started}
 use Rattle.site_core.specs.Calls.{Rests, Stays}
-use Rattle.forest_store.proofs.Standing.{rests_stable}
 use Rattle.plain_machine.specs.World.{World}
 use Rattle.plain_machine.specs.Keeps.{Keeps}
 use Rattle.plain_machine.specs.Machine.{Answer}
@@ -11,7 +10,7 @@ use Rattle.cube_state.specs.declared.state.State.{State}
 use Rattle.cube_state.specs.Session.{Stands, Between, IsAnswer, KeepsEither}
 use Rattle.cube_state.specs.declared.answered.Answered.{Answered}
 use Rattle.cube_state.specs.declared.stop.Stop.{Stop}
-use Rattle.cube_state.proofs.Standing.{stands_left, stands_on}
+use Rattle.cube_state.proofs.Standing.{rests_left, stands_left, stands_on}
 
 -- what is known of a site at each moment
 abbrev pub OnlyNow : Disk → Type 0
@@ -54,8 +53,8 @@ quiet state disk world next is only = started disk (λ told files. (told ≡ dis
 pub resting : (state : State) (old new : Disk) (world next : World) → Stands state old world → OnlyNow old → Rests old new → Between old new world next
 resting state old new world next is only rests = each_moment Stays old new (λ told files. (told ≡ old.told) × KeepsEither world next files)
     (λ told files left. let now = only told files left in (now.0, inl (stands_left state old world is files now.1)))
-    (λ told files same after. (same, inl (subst (λ (f : Files). Keeps f world.kept) (sym after.2) (stands_left state old world is after.0 after.1)))) rests
+    (λ told files same after. (same, inl (subst (λ (f : Files). Keeps f world.kept) (sym after.2) (stands_left state old world is after.0 after.1)))) rests.time
 
 -- a session stands after such calls
 pub stands_rests : (state : State) (old new : Disk) (world : World) → Rests old new → Stands state old world → Stands state new world
-stands_rests state old new world rests is = stands_on old new rests.files (rests_stable old new rests) state world is
+stands_rests state old new world rests is = stands_on old new rests.files (rests_left old new rests) state world is

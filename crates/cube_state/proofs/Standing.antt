@@ -1,26 +1,39 @@
 -- What a session that stands for a world tells of the files.
-use Rattle.std.proofs.Common.{◌≡◌, ℕ, List, sym, ◌∙◌, subst}
-use Rattle.site_core.specs.Calls.{Emits}
+use Rattle.std.proofs.Common.{◌≡◌, ℕ, List, sym, ◌∙◌, ap, subst}
+use Rattle.site_core.specs.Calls.{Emits, Rests}
 use Rattle.site_core.specs.Disk.{Files, Disk}
-use Rattle.site_core.specs.Moments.{IsStable}
+use Rattle.site_core.specs.Moments.{HoldsNow, IsStable}
+use Rattle.site_core.proofs.Run.{holds_to}
 use Rattle.cube_schema.specs.declared.schema.Schema.{Schema}
 use Rattle.fact_model.specs.declared.fact.Fact.{Fact}
 use Rattle.forest_refresh.specs.Begun.{Begun, IsRefreshOf}
 use Rattle.forest_root.specs.Keeps.{KeepsNothing}
+use Rattle.forest_root.specs.Root.{IsShut, RootIsStable}
+use Rattle.forest_root.specs.declared.body.Body.{Body}
+use Rattle.forest_commit.specs.Commit.{slot_of}
 use Rattle.forest_root.specs.declared.forest.Store.{Store}
 use Rattle.forest_store.specs.Held.{KeepsFacts}
+use Rattle.forest_store.specs.Opened.{HasRoot, IsOpened}
 use Rattle.forest_store.specs.Stored.{IsStoreOf}
 use Rattle.forest_store.proofs.Standing.{live_keeps}
 use Rattle.plain_machine.specs.World.{World, Warehouse}
 use Rattle.plain_machine.specs.Keeps.{Keeps, KeepsWarehouse}
 use Rattle.cube_state.specs.declared.state.State.{State}
-use Rattle.cube_state.specs.declared.state.State.TheVariants.{Stopped, Empty, Idle, Hollow, Pending}
-use Rattle.cube_state.specs.Session.{Attends, Belongs, Stands}
+use Rattle.cube_state.specs.declared.state.State.TheVariants.{Empty, Idle, Hollow, Pending}
+use Rattle.cube_state.specs.Session.{Attends, Belongs, IsFit, Stands}
 
 pub belongs_read : (store : Store) (disk : Disk) (warehouse : Warehouse) → Belongs store disk warehouse → KeepsWarehouse disk.files warehouse
 belongs_read store disk warehouse is = record {
   lawful = is.lawful;
-  kept = subst (λ (s : Schema). KeepsFacts s warehouse.facts disk.files) is.schema (live_keeps store.forest.schema store.forest.body warehouse.facts disk.files is.stored.live);
+  kept = subst (λ (s : Schema). KeepsFacts s warehouse.facts disk.files) is.schema (live_keeps store.forest.schema store.forest.body warehouse.facts disk.files is.stored.read.live);
+}
+
+-- and so do all that a stop now may leave
+pub belongs_left : (store : Store) (disk : Disk) (warehouse : Warehouse) → Belongs store disk warehouse → (files : Files) → disk.may_leave files
+    → KeepsWarehouse files warehouse
+belongs_left store disk warehouse is files left = record {
+  lawful = is.lawful;
+  kept = subst (λ (s : Schema). KeepsFacts s warehouse.facts files) is.schema (live_keeps store.forest.schema store.forest.body warehouse.facts files (is.stored.left files left).live);
 }
 
 -- a batch that is pending keeps the facts without it
@@ -28,12 +41,12 @@ pub attends_belongs : (r : Begun) (disk : Disk) (warehouse : Warehouse) (batch :
 attends_belongs r disk warehouse batch is = record {
   lawful = is.lawful;
   schema = is.schema;
-  stored = record { accepted = is.adds.accepted; live = is.adds.live; names = is.adds.shown };
-  stable = is.stable;
+  stored = holds_to (IsRefreshOf r warehouse.facts batch) (IsStoreOf r.store warehouse.facts) disk
+      (λ files adds. record { accepted = adds.accepted; live = adds.live; names = adds.shown }) is.adds;
+  opened = is.ready.opened;
 }
 
 pub stands_read : (state : State) (disk : Disk) (world : World) → Stands state disk world → Keeps disk.files world.kept
-stands_read Stopped disk world is = absurd is
 stands_read Empty disk world is = subst (λ (w : World). Keeps disk.files w.kept) (sym is.0) is.1.nothing
 stands_read (Idle store) disk world is = subst (λ (w : World). Keeps disk.files w.kept) (sym is.1) (belongs_read store disk is.0 is.2)
 stands_read (Hollow store) disk world is = subst (λ (w : World). Keeps disk.files w.kept) (sym is.1) (belongs_read store disk is.0 is.2)
@@ -43,46 +56,62 @@ stands_read (Pending r) disk world is =
 -- what a stop leaves now
 pub stands_left : (state : State) (disk : Disk) (world : World) → Stands state disk world
     → (files : Files) → disk.may_leave files → Keeps files world.kept
-stands_left Stopped disk world is files left = absurd is
 stands_left Empty disk world is files left =
     subst (λ (f : Files). Keeps f world.kept) (sym (is.1.stable files left)) (stands_read Empty disk world is)
-stands_left (Idle store) disk world is files left =
-    subst (λ (f : Files). Keeps f world.kept) (sym (is.2.stable files left)) (stands_read (Idle store) disk world is)
-stands_left (Hollow store) disk world is files left =
-    subst (λ (f : Files). Keeps f world.kept) (sym (is.2.stable files left)) (stands_read (Hollow store) disk world is)
+stands_left (Idle store) disk world is files left = subst (λ (w : World). Keeps files w.kept) (sym is.1) (belongs_left store disk is.0 is.2 files left)
+stands_left (Hollow store) disk world is files left = subst (λ (w : World). Keeps files w.kept) (sym is.1) (belongs_left store disk is.0 is.2 files left)
 stands_left (Pending r) disk world is files left =
-    subst (λ (f : Files). Keeps f world.kept) (sym (is.3.stable files left)) (stands_read (Pending r) disk world is)
+    subst (λ (w : World). Keeps files w.kept) (sym is.2) (belongs_left r.store disk is.0 (attends_belongs r disk is.0 is.1 is.3) files left)
 
--- ---- calls that change no file
+-- a session that stands fits its files
+pub stands_fit : (state : State) (disk : Disk) (world : World) → Stands state disk world → IsFit state disk
+stands_fit Empty disk world is = is.1
+stands_fit (Idle store) disk world is = is.2.opened
+stands_fit (Hollow store) disk world is = is.2.opened
+stands_fit (Pending r) disk world is = is.3.ready
 
-module _ (old new : Disk) (same : new.files ≡ old.files) (stable : IsStable old → IsStable new) where
+-- ---- calls that change no file, neither as a read gives it nor as a stop leaves it
+
+module _ (old new : Disk) (same : new.files ≡ old.files) (left : (files : Files) → new.may_leave files → old.may_leave files) where
+  holds_on : (P : Files → Type 0) → HoldsNow P old → HoldsNow P new
+  holds_on P is = record { read = subst P (sym same) is.read; left = λ files may. is.left files (left files may) }
+
+  stable_on : IsStable old → IsStable new
+  stable_on stable = λ files may. stable files (left files may) ∙ sym same
+
+  root_on : RootIsStable old → RootIsStable new
+  root_on stable = λ files may. stable files (left files may) ∙ ap (λ (f : Files). f 0) (sym same)
+
+  opened_on : (live : Body) → IsOpened live old → IsOpened live new
+  opened_on live is = record { stable = root_on is.stable; root = subst (HasRoot live) (sym same) is.root }
+
   belongs_on : (store : Store) (warehouse : Warehouse) → Belongs store old warehouse → Belongs store new warehouse
   belongs_on store warehouse is = record {
     lawful = is.lawful;
     schema = is.schema;
-    stored = subst (IsStoreOf store warehouse.facts) (sym same) is.stored;
-    stable = stable is.stable;
+    stored = holds_on (IsStoreOf store warehouse.facts) is.stored;
+    opened = opened_on store.forest.body is.opened;
   }
 
   attends_on : (r : Begun) (warehouse : Warehouse) (batch : List Fact) → Attends r old warehouse batch → Attends r new warehouse batch
   attends_on r warehouse batch is = record {
     lawful = is.lawful;
     schema = is.schema;
-    adds = subst (IsRefreshOf r warehouse.facts batch) (sym same) is.adds;
+    adds = holds_on (IsRefreshOf r warehouse.facts batch) is.adds;
     some = is.some;
-    stable = stable is.stable;
+    ready = record { opened = opened_on r.store.forest.body is.ready.opened; shut = subst (λ (f : Files). IsShut (slot_of r.next) (f 0)) (sym same) is.ready.shut };
   }
 
   -- the session stands for the same world
   pub stands_on : (state : State) (world : World) → Stands state old world → Stands state new world
-  stands_on Stopped world is = absurd is
-  stands_on Empty world is = (is.0, record { stable = stable is.1.stable; nothing = subst KeepsNothing (sym same) is.1.nothing })
+  stands_on Empty world is = (is.0, record { stable = stable_on is.1.stable; nothing = subst KeepsNothing (sym same) is.1.nothing })
   stands_on (Idle store) world is = (is.0, is.1, belongs_on store is.0 is.2)
   stands_on (Hollow store) world is = (is.0, is.1, belongs_on store is.0 is.2)
   stands_on (Pending r) world is = (is.0, is.1, is.2, attends_on r is.0 is.1 is.3)
 
--- an output leaves what a stop left
-pub emits_stable : (reply : List ℕ) (old new : Disk) → Emits reply old new → IsStable old → IsStable new
-emits_stable reply old new emits stable files left =
-    let was = emits.time.now files left in
-    was.2 ∙ (stable was.0 was.1 ∙ sym emits.files)
+-- an output leaves what a stop left, and so do calls that change nothing
+pub emits_left : (reply : List ℕ) (old new : Disk) → Emits reply old new → (files : Files) → new.may_leave files → old.may_leave files
+emits_left reply old new emits files left = let was = emits.time.now files left in subst old.may_leave (sym was.2) was.1
+
+pub rests_left : (old new : Disk) → Rests old new → (files : Files) → new.may_leave files → old.may_leave files
+rests_left old new rests files left = let was = rests.time.now files left in subst old.may_leave (sym was.2) was.1

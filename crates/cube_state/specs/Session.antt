@@ -1,7 +1,7 @@
 -- A session that stands for a world, and what a command answers by it.
 use Rattle.std.specs.Prelude.{◌≡◌, ◌⊎◌, ℕ, ◌<◌, List, [], codes, length, None}
 use Rattle.site_core.specs.Disk.{Files, Disk}
-use Rattle.site_core.specs.Moments.{IsStable, LeavesOnly}
+use Rattle.site_core.specs.Moments.{HoldsNow, LeavesOnly}
 use Rattle.fact_model.specs.declared.fact.Fact.{Fact}
 use Rattle.forest_root.specs.declared.forest.Store.{Store}
 use Rattle.forest_refresh.specs.Begun.{Begun, IsReady, IsRefreshOf, batch_size}
@@ -13,29 +13,28 @@ use Rattle.plain_machine.specs.Machine.{Answer}
 use Rattle.plain_machine.specs.World.{World, Warehouse, bare, begun_with, idle}
 use Rattle.cube_state.specs.declared.answered.Answered.{Answered}
 use Rattle.cube_state.specs.declared.state.State.{State}
-use Rattle.cube_state.specs.declared.state.State.TheVariants.{Stopped, Empty, Idle, Hollow, Pending}
+use Rattle.cube_state.specs.declared.state.State.TheVariants.{Empty, Idle, Hollow, Pending}
 
 -- the store is that of the warehouse which the files keep
 pub record Belongs (store : Store) (disk : Disk) (warehouse : Warehouse) : Type 0 where
   pub lawful : IsLawful warehouse
   pub schema : store.forest.schema ≡ warehouse.schema
-  pub stored : IsStoreOf store warehouse.facts disk.files
-  -- a stop now leaves what a read gives
-  pub stable : IsStable disk
+  -- as a read gives them, and as a stop now may leave them
+  pub stored : HoldsNow (IsStoreOf store warehouse.facts) disk
+  pub opened : IsOpened store.forest.body disk
 
 -- the refresh adds a batch to the warehouse which the files keep
 pub record Attends (r : Begun) (disk : Disk) (warehouse : Warehouse) (batch : List Fact) : Type 0 where
   pub lawful : IsLawful warehouse
   pub schema : r.store.forest.schema ≡ warehouse.schema
-  pub adds : IsRefreshOf r warehouse.facts batch disk.files
+  -- as a read gives them, and as a stop now may leave them
+  pub adds : HoldsNow (IsRefreshOf r warehouse.facts batch) disk
   -- an empty batch needs no refresh
   pub some : 0 < length batch
-  -- a stop now leaves what a read gives
-  pub stable : IsStable disk
+  pub ready : IsReady r disk
 
--- it has not stopped; where no refresh has begun, slices know all names
+-- where no refresh has begun, slices know all names
 abbrev pub IsRunning : State → Type 0
-IsRunning Stopped = ⊥
 IsRunning Empty = Unit {0}
 IsRunning (Idle store) = IsWhole store
 IsRunning (Hollow store) = IsWhole store
@@ -43,7 +42,6 @@ IsRunning (Pending refresh) = Unit {0}
 
 -- the files are those that it has opened, whatever they hold
 abbrev pub IsFit : State → Disk → Type 0
-IsFit Stopped disk = ⊥
 IsFit Empty disk = IsEmpty disk
 IsFit (Idle store) disk = IsOpened store.forest.body disk
 IsFit (Hollow store) disk = IsOpened store.forest.body disk
@@ -51,7 +49,6 @@ IsFit (Pending refresh) disk = IsReady refresh disk
 
 -- it stands for this world
 abbrev pub Stands : State → Disk → World → Type 0
-Stands Stopped disk world = ⊥
 Stands Empty disk world = (world ≡ bare None) × IsEmpty disk
 Stands (Idle store) disk world = (warehouse : Warehouse) × (world ≡ idle warehouse) × Belongs store disk warehouse
 Stands (Hollow store) disk world = (warehouse : Warehouse) × (world ≡ begun_with warehouse []) × Belongs store disk warehouse
@@ -60,7 +57,6 @@ Stands (Pending refresh) disk world =
 
 -- how many facts it knows
 abbrev pub state_text : State → List ℕ
-state_text Stopped = []
 state_text Empty = line (codes "no schema")
 state_text (Idle store) = facts_text store.forest.body.facts
 state_text (Hollow store) = pending_text store.forest.body.facts 0
@@ -68,7 +64,6 @@ state_text (Pending refresh) = pending_text refresh.store.forest.body.facts (bat
 
 -- the reply to a step
 abbrev pub step_text : State → List ℕ
-step_text Stopped = []
 step_text Empty = line (codes "refused nothing pending")
 step_text (Idle store) = line (codes "refused nothing pending")
 step_text (Hollow store) = line (codes "stepped")
@@ -76,7 +71,6 @@ step_text (Pending refresh) = line (codes "stepped")
 
 -- the reply where a pending batch is to be dropped
 abbrev pub abandon_text : State → List ℕ
-abandon_text Stopped = []
 abandon_text Empty = line (codes "refused nothing pending")
 abandon_text (Idle store) = line (codes "refused nothing pending")
 abandon_text (Hollow store) = line (codes "abandoned")

@@ -6,8 +6,6 @@ use forest_root::Store;
 /// What a session has.
 #[derive(Drop)]
 pub enum State {
-    /// It has stopped, or a command is under way.
-    Stopped,
     /// The files are opened, and keep no schema.
     Empty,
     /// The files are opened, and keep this warehouse.

@@ -2,3 +2,4 @@ pub mod Agreements
 pub mod Answers
 pub mod Gathering
 pub mod Items
+pub mod Rows

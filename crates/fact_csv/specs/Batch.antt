@@ -77,3 +77,8 @@ batch_of schema block = cond (nat_lt 262144 (length (records_of block))) (Err re
 -- the refusal is the one that reading gives, unless memory was short
 abbrev pub Refuses : {A : Type 0} → Result A RowRefusal → RowRefusal → Type 0
 Refuses read refusal = refusal ≢ refusals.Memory → read ≡ Err refusal
+
+-- these are the facts of the rows, or the first fault, unless memory was short
+abbrev pub AreRead : Schema → List (List (List ℕ)) → Result (List Fact) RowRefusal → Type 0
+AreRead schema rows (Ok facts) = facts_in schema rows ≡ Ok facts
+AreRead schema rows (Err refusal) = Refuses (facts_in schema rows) refusal

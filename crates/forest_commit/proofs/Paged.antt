@@ -2,11 +2,11 @@
 use Rattle.std.proofs.Common.{◌≡◌, ◌≤◌, ◌+◌, ◌-◌, List, ℕ, ◌++◌, length, take, drop, length-take, length-drop, length-append, sym, ◌∙◌, ap, arith}
 use Rattle.std.proofs.lemmas.List.{take_at, take_all, append_assoc}
 use Rattle.std.proofs.Math.Seq.{take-add}
-use Rattle.site_core.specs.Disk.{Files, Disk, Torn, with_file, overwritten}
+use Rattle.site_core.specs.Disk.{Files, Disk, DiffersPast, Torn, with_file, overwritten}
 use Rattle.site_core.specs.Calls.{Changes, Writes}
 use Rattle.site_core.proofs.Files.{with_file-same}
 use Rattle.site_core.proofs.Run.{Changes-then, Changes-wider}
-use Rattle.forest_commit.specs.Commit.{DiffersPast, page_size}
+use Rattle.forest_commit.specs.Commit.{page_size}
 
 pub DiffersPast-then : (file from : ℕ) (x y z : Files) → DiffersPast file from x y → DiffersPast file from y z → DiffersPast file from x z
 DiffersPast-then file from x y z first second = record {

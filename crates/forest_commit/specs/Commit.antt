@@ -1,7 +1,7 @@
 -- What files keep while they go from one state to the next.
-use Rattle.std.specs.Prelude.{◌≡◌, ◌≢◌, ◌⊎◌, ℕ, ◌%◌, ◌^◌, ◌<◌, ◌≤◌, List, [], length, slice_index}
+use Rattle.std.specs.Prelude.{◌≡◌, ◌⊎◌, ℕ, ◌%◌, ◌^◌, List, [], length}
 use Rattle.site_core.specs.Disk.{Files, Disk}
-use Rattle.site_core.specs.Moments.{LeavesOnly}
+use Rattle.site_core.specs.Moments.{HoldsNow, LeavesOnly}
 use Rattle.forest_root.specs.declared.body.Body.{Body}
 use Rattle.forest_root.specs.Body.{IsBody}
 use Rattle.forest_root.specs.Keeps.{Held, IsBodyOf, LiveAt, Keeps}
@@ -22,20 +22,13 @@ IsPages bytes = length bytes % page_size ≡ 0
 abbrev pub slot_of : Body → ℕ
 slot_of body = body.generation % 2
 
--- only this file differs, and only from this place on; it is not shorter
-pub record DiffersPast (file from : ℕ) (old new : Files) : Type 0 where
-  pub others : (g : ℕ) → g ≢ file → new g ≡ old g
-  pub no_shorter : length (old file) ≤ length (new file)
-  pub before : (i : ℕ) → i < length (old file) → i < from → slice_index (new file) i ≡ slice_index (old file) i
-
 -- nothing is told from old to new, and a stop at any moment there leaves files that have P
 abbrev pub EachMoment : Disk → Disk → (Files → Type 0) → Type 0
 EachMoment old new P = LeavesOnly old new (λ told files. (told ≡ old.told) × P files)
 
 -- the files as read, and all that a stop now may leave, have this live slot and body
-pub record IsLiveNow (held : Held) (slot : ℕ) (live : Body) (disk : Disk) : Type 0 where
-  pub read : LiveAt held slot live disk.files
-  pub left : (files : Files) → disk.may_leave files → LiveAt held slot live files
+abbrev pub IsLiveNow : Held → ℕ → Body → Disk → Type 0
+IsLiveNow held slot live disk = HoldsNow (LiveAt held slot live) disk
 
 -- what was held or what is held next
 abbrev pub KeepsEither : Held → Held → Files → Type 0

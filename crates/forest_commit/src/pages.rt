@@ -4,15 +4,14 @@ ghost use Rattle.site_core.specs.Causes.{HasCause};
 ghost use Rattle.site_core.specs.Calls.{Changes};
 ghost use Rattle.forest_root.specs.Keeps.{Held, LiveAt};
 ghost use Rattle.forest_root.specs.declared.body.Body as bodies;
-ghost use Rattle.forest_commit.specs.Commit.{DiffersPast, EachMoment, IsLiveNow, IsPages, page_size, max_pages};
+ghost use Rattle.site_core.specs.Disk.{DiffersPast};
+ghost use Rattle.site_core.specs.Frames.{WritesOnly};
+ghost use Rattle.forest_commit.specs.Commit.{EachMoment, IsLiveNow, IsPages, page_size, max_pages};
 
-use site_core::{Fault, Site};
+use site_core::{Fault, SIDES, Site};
 
 /// The bytes of a page.
 const PAGE_SIZE: usize = 4096;
-
-/// The number of slot 0's side file; that of slot 1 is the next one.
-const SIDES: u32 = 2;
 
 /// Writes whole pages to the side of this slot, below 2, from the page with number `first` on: in their order, each with one
 /// write. The side reaches that page or ends right before it. It does not sync.
@@ -33,10 +32,7 @@ pub fn write_pages<T: Site>(site: &mut T, slot: u32, first: u64, pages: &[u8]) -
         → IsLiveNow held other live (T.disk site.old)
         → EachMoment (T.disk site.old) (T.disk site.new) (LiveAt held other live) }
 
-    ensures cause { HasCause (T.disk_faults site.old) (T.disk_faults site.new) result }
-    ensures told_faults { T.told_faults site.new ≡ T.told_faults site.old }
-    ensures reads { T.reads site.new ≡ T.reads site.old }
-    ensures writes { T.writes site.new ≤ T.writes site.old + length pages.now / page_size }
+    ensures calls { WritesOnly T.Site HasCause (length pages.now / page_size) site.old site.new result }
 {
     let count = (pages.len() / PAGE_SIZE) as u64;
     for number in 0..count {

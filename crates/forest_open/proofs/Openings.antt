@@ -1,5 +1,5 @@
 -- The rules of opening, one after the other, and that files which keep facts break none.
-use Rattle.std.proofs.Common.{◌≡◌, ◌⊎◌, ℕ, zero, suc, ◌+◌, ◌*◌, ◌/◌, ◌<◌, ◌≤◌, true, false, List, [], ◌∷◌, ◌++◌, length, take, drop, Option, Some, None, inl, inr, refl, sym, ◌∙◌, ap, subst, arith, Result, Ok, Err, IfOk, IfErr, OnOk, IfSome, length-take, take-take, length-append, append-nil}
+use Rattle.std.proofs.Common.{◌≡◌, ◌⊎◌, ℕ, zero, suc, ◌+◌, ◌*◌, ◌/◌, ◌<◌, ◌≤◌, true, false, List, [], ◌∷◌, ◌++◌, get_or, length, map, take, drop, Option, Some, None, inl, inr, refl, sym, ◌∙◌, ap, subst, arith, Result, Ok, Err, IfOk, IfErr, OnOk, IfSome, length-take, take-take, length-append, append-nil}
 use Rattle.std.specs.Prelude.{◌==◌, pos, nat_abs}
 use Rattle.std.specs.List.{All, list_all}
 use Rattle.std.proofs.lemmas.Bool.{and_parts, eq-eqb, eqb-true, le-leb, lt-leb, true≢false}
@@ -13,7 +13,9 @@ use Rattle.fact_model.proofs.Masses.{mass-cons}
 use Rattle.view_points.specs.Codes.{names, names_of}
 use Rattle.cube_schema.specs.declared.schema.Schema.{Schema}
 use Rattle.cube_schema.specs.Agreeing.{Agrees}
-use Rattle.cube_schema.specs.Kinds.{max_of, measure_count}
+use Rattle.cube_schema.specs.declared.schema.Attr.{Attr}
+use Rattle.cube_schema.specs.declared.schema.Kind.TheVariants as kind
+use Rattle.cube_schema.specs.Kinds.{max_of, measure_count, no_attr}
 use Rattle.cube_schema.specs.Lawful.{IsSchema}
 use Rattle.cube_schema.specs.Reading.{schema_of}
 use Rattle.cube_schema.specs.Writing.{canonical}
@@ -39,6 +41,7 @@ use Rattle.forest_store.specs.Opened.{HasRoot}
 use Rattle.forest_store.specs.Sides.{page_total, side_of}
 use Rattle.forest_store.specs.Stored.{IsWhole}
 use Rattle.forest_store.proofs.Schemas.{few_measures, some_measures}
+use Rattle.forest_store.proofs.Standing.{all_stable}
 use Rattle.forest_store.proofs.Shown.{named_shown}
 use Rattle.forest_store.proofs.Storable.{storable}
 use Rattle.forest_open.specs.declared.stop.OpenStop.{OpenStop}
@@ -47,7 +50,6 @@ use Rattle.forest_open.specs.Breaks.{BreaksAt, TellsBreak}
 use Rattle.forest_open.specs.Judging.{IsNoDamage, IsWarehouse, Judges, JudgesRest, MayBeOpened, NamesPlace}
 use Rattle.forest_open.specs.Opening.{AreOpened, BreaksBody, BreaksEntries, BreaksEntry, BreaksNames, BreaksSide, HasSchema, Place, declared_by, entries_in, has_pages, is_of_schema, is_zero, schema_in, text_in}
 use Rattle.forest_open.proofs.Declarations.{declared_again}
-use Rattle.forest_open.proofs.NamesLong.{kind_there}
 
 -- ---- the front of a file, piece by piece
 
@@ -190,6 +192,12 @@ no_masses_past schema facts lawful each = by (measure_count schema) (some_measur
     by (suc (suc (suc (suc zero)))) some few past = refl
     by (suc (suc (suc (suc (suc n))))) some few past = absurd (omega arith)
 
+-- the kind of an attribute, as a book has it
+kind_there : (attrs : List Attr) (a : ℕ) → get_or (map (λ (attr : Attr). attr.kind) attrs) a kind.Number ≡ (get_or attrs a no_attr).kind
+kind_there [] a = refl
+kind_there (attr ∷ attrs) zero = refl
+kind_there (attr ∷ attrs) (suc a) = kind_there attrs a
+
 -- each attribute has room for its names, as a book counts it
 names_room : (schema : Schema) (facts : List Fact) → AreAccepted schema facts → (a : ℕ) → length (names_of facts a) ≤ max_of (kind_at (no_names schema) a)
 names_room schema facts accepted a = (let kind = ap max_of (kind_there schema.attrs a) in let named = accepted.named a in omega arith)
@@ -305,7 +313,7 @@ pub opened_as : (body : Body) (now : Files) (disk : Disk) (result : Result (Opti
     → Judges body now result → IfOk result (λ found. MayBeOpened found disk)
 opened_as body now disk (Ok None) same stable live judged = absurd judged
 opened_as body now disk (Ok (Some store)) same stable live judged = record {
-  stable = stable;
+  stable = all_stable disk stable;
   root = subst (λ (b : Body). HasRoot b disk.files) (sym judged.0) (subst (HasRoot body) same (record {
     gate = (let there = live.raised.there in let side = live.decodes.1.within.side in omega arith);
     names = judged.1.declared.there;

@@ -1,9 +1,10 @@
 //! A schema is declared in files that keep none.
-ghost use Rattle.std.specs.Prelude.{◌≡◌, ◌≢◌, ◌⊎◌, ◌≤◌, ◌+◌, [], IsTrue, IfOk, IfErr};
-ghost use Rattle.site_core.specs.Moments.{LeavesOnly};
+ghost use Rattle.std.specs.Prelude.{◌≡◌, ◌≢◌, ◌⊎◌, ◌≤◌, ◌+◌, [], IsTrue, IfOk, IfErr, OnOk};
+ghost use Rattle.site_core.specs.Moments.{IsStable, LeavesOnly};
 ghost use Rattle.cube_schema.specs.Lawful.{IsSchema};
 ghost use Rattle.cube_schema.specs.Writing.{canonical};
-ghost use Rattle.forest_root.specs.Causes.{HasCauseWhere};
+ghost use Rattle.site_core.specs.Causes.{HasCauseWhere};
+ghost use Rattle.site_core.specs.Frames.{CallsOnly};
 ghost use Rattle.forest_root.specs.Keeps.{KeepsNothing};
 ghost use Rattle.forest_store.specs.Held.{KeepsFacts};
 ghost use Rattle.forest_store.specs.Opened.{IsEmpty, IsOpened};
@@ -35,11 +36,9 @@ pub fn init<T: Site>(alloc: Global, site: &mut T, schema: Schema) -> Result<Stor
     ensures schema { IfOk result (λ store. store.forest.schema ≡ schema) }
     ensures whole { IfOk result IsWhole }
     ensures opened { IsTrue T.tells → IfOk result (λ store. IsOpened store.forest.body (T.disk site.new)) }
+    ensures stable { IsTrue T.tells → OnOk result (IsStable (T.disk site.new)) }
     ensures told { IsTrue T.tells → (T.disk site.new).told ≡ (T.disk site.old).told }
-    ensures cause { HasCauseWhere InitStop.Disk (T.disk_faults site.old) (T.disk_faults site.new) result }
-    ensures told_faults { T.told_faults site.new ≡ T.told_faults site.old }
-    ensures reads { T.reads site.new ≤ T.reads site.old + 1 }
-    ensures writes { T.writes site.new ≤ T.writes site.old + 5 }
+    ensures calls { CallsOnly T.Site (HasCauseWhere InitStop.Disk) 1 5 site.old site.new result }
 {
     let text = schema.write(alloc)?;
     let dicts = Dicts::new(alloc, &schema)?;

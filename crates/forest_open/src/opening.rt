@@ -1,13 +1,15 @@
 //! The files are opened: the live body is found, and what it counts on is looked at.
 ghost use Rattle.std.specs.Prelude.{◌≡◌, ◌<◌, ◌≤◌, ◌+◌, ◌^◌, ◌==◌, ◌&&◌, ◌++◌, ℕ, IsTrue, IfOk, IfErr, IfSome, OnOk, List, None, length, drop, take};
 ghost use Rattle.std.specs.List.{list_all};
-ghost use Rattle.site_core.specs.Calls.{Rests};
+ghost use Rattle.site_core.specs.Calls.{Settles, Stays};
+ghost use Rattle.site_core.specs.Moments.{IsStable};
 ghost use Rattle.fact_model.specs.declared.fact.Fact as facts;
 ghost use Rattle.cube_schema.specs.Lawful.{IsSchema};
 ghost use Rattle.cube_schema.specs.Writing.{canonical};
 ghost use Rattle.cube_schema.specs.declared.schema.Schema as schemas;
 ghost use Rattle.forest_root.specs.Body.{IsBody, max_names_len};
-ghost use Rattle.forest_root.specs.Causes.{HasCauseWhere};
+ghost use Rattle.site_core.specs.Causes.{HasCauseWhere};
+ghost use Rattle.site_core.specs.Frames.{CallsOnly, LooksOnly};
 ghost use Rattle.forest_root.specs.Live.{IsLiveBody, NoneRaised};
 ghost use Rattle.forest_root.specs.declared.body.Body as bodies;
 ghost use Rattle.forest_commit.specs.Commit.{slot_of};
@@ -25,21 +27,14 @@ use forest_commit::slot;
 use forest_root::{Body, Forest, RootStop, Store, live};
 use page_fmt::PAGE;
 use select_map::select;
-use site_core::Site;
+use site_core::{NAMES, ROOT, SIDES, Site};
 use std::alloc::Global;
-
-/// The root file, the names file and the first side file.
-const ROOT: u32 = 0;
-
-const NAMES: u32 = 1;
-
-const SIDE: u32 = 2;
 
 /// The bytes of a body in the root file.
 const BODY_SIZE: u64 = 1024;
 
 /// Opens the files: syncs them, finds the live body, and looks at what it counts on. `None` where no slot is raised, and so no
-/// schema is declared. Nothing is changed, also after an error.
+/// schema is declared. Nothing is written, also after an error; after an `Ok` a stop leaves what a read gives.
 ///
 /// `Damaged` names the first rule that is broken: a raised slot whose body does not decode; a names file that is too short, or
 /// does not begin with the canonical text of a schema; a body of other views or measures; a faulty entry of the names file; a
@@ -63,9 +58,9 @@ pub fn open_store<T: Site>(alloc: Global, site: &mut T) -> Result<Option<Store>,
 
     ensures opened { IsTrue T.tells → IfOk result (λ found. MayBeOpened found (T.disk site.new)) }
     ensures whole { IfOk result (λ found. IfSome found IsWhole) }
-    ensures disk { IsTrue T.tells → Rests (T.disk site.old) (T.disk site.new) }
-    ensures cause { HasCauseWhere OpenStop.Disk (T.disk_faults site.old) (T.disk_faults site.new) result }
-    ensures told_faults { T.told_faults site.new ≡ T.told_faults site.old }
+    ensures stable { IsTrue T.tells → OnOk result (IsStable (T.disk site.new)) }
+    ensures disk { IsTrue T.tells → Settles Stays (T.disk site.old) (T.disk site.new) result }
+    ensures calls { CallsOnly T.Site (HasCauseWhere OpenStop.Disk) (1 + 2 ^ 36) 0 site.old site.new result }
 
     // One read of the root file, and one for each page of the names.
     ensures reads { IsTrue T.tells → (schema : schemas.Schema) (accepted : List facts.Fact)
@@ -76,7 +71,6 @@ pub fn open_store<T: Site>(alloc: Global, site: &mut T) -> Result<Option<Store>,
     ensures live_reads { IsTrue T.tells → (pages : ℕ)
         → ((body : bodies.Body) → IsLiveBody body ((T.disk site.old).files 0) → names_pages body.names_len ≤ pages)
         → T.reads site.new ≤ T.reads site.old + (1 + pages) }
-    ensures few_reads { T.reads site.new ≤ T.reads site.old + (1 + 2 ^ 36) }
     ensures writes { T.writes site.new ≡ T.writes site.old }
 {
     site.sync()?;
@@ -94,11 +88,7 @@ fn open_live<T: Site>(alloc: Global, site: &mut T, body: Body) -> Result<Option<
 
     ensures judged { IsTrue T.tells → Judges body (T.disk site.old).files result }
     ensures whole { IfOk result (λ found. IfSome found IsWhole) }
-    ensures disk { IsTrue T.tells → Rests (T.disk site.old) (T.disk site.new) }
-    ensures cause { HasCauseWhere OpenStop.Disk (T.disk_faults site.old) (T.disk_faults site.new) result }
-    ensures told_faults { T.told_faults site.new ≡ T.told_faults site.old }
-    ensures reads { T.reads site.new ≤ T.reads site.old + names_pages body.names_len }
-    ensures writes { T.writes site.new ≡ T.writes site.old }
+    ensures looks { LooksOnly T.Site (HasCauseWhere OpenStop.Disk) (names_pages body.names_len) site.old site.new result }
 {
     let length = site.length(NAMES)?;
     if length < body.names_len {
@@ -123,14 +113,11 @@ fn open_declared<T: Site>(
     requires body { IsBody (slot_of body) body }
     requires lawful { IsSchema schema }
     requires text { body.schema_len ≡ length (canonical schema) }
+    requires names { body.names_len ≤ body.schema_len + length entries.now }
 
     ensures judged { IsTrue T.tells → JudgesRest body (T.disk site.old).files schema entries.now result }
     ensures whole { IfOk result (λ found. IfSome found IsWhole) }
-    ensures disk { IsTrue T.tells → Rests (T.disk site.old) (T.disk site.new) }
-    ensures cause { HasCauseWhere OpenStop.Disk (T.disk_faults site.old) (T.disk_faults site.new) result }
-    ensures told_faults { T.told_faults site.new ≡ T.told_faults site.old }
-    ensures reads { T.reads site.new ≡ T.reads site.old }
-    ensures writes { T.writes site.new ≡ T.writes site.old }
+    ensures looks { LooksOnly T.Site (HasCauseWhere OpenStop.Disk) 0 site.old site.new result }
 {
     let views = schema.views.as_slice().len();
     if !is_of_schema(views, schema.measures.as_slice().len(), &body) {
@@ -148,7 +135,7 @@ fn open_declared<T: Site>(
         mapping,
         body,
     };
-    let side = SIDE + slot(&forest.body);
+    let side = SIDES + slot(&forest.body);
     let end = site.length(side)?;
     if end / (PAGE as u64) < forest.all_pages() {
         return Err(damaged(side, end));
@@ -169,11 +156,7 @@ fn read_front<T: Site>(alloc: Global, site: &mut T, count: u64) -> Result<Vec<u8
     ensures bytes { IsTrue T.tells → count ≤ length ((T.disk site.old).files 1)
         → IfOk result (λ bytes. bytes.items ≡ take count ((T.disk site.old).files 1)) }
     ensures undamaged { IsTrue T.tells → count ≤ length ((T.disk site.old).files 1) → IfErr result IsNoDamage }
-    ensures disk { IsTrue T.tells → Rests (T.disk site.old) (T.disk site.new) }
-    ensures cause { HasCauseWhere OpenStop.Disk (T.disk_faults site.old) (T.disk_faults site.new) result }
-    ensures told_faults { T.told_faults site.new ≡ T.told_faults site.old }
-    ensures reads { T.reads site.new ≤ T.reads site.old + names_pages count }
-    ensures writes { T.writes site.new ≡ T.writes site.old }
+    ensures looks { LooksOnly T.Site (HasCauseWhere OpenStop.Disk) (names_pages count) site.old site.new result }
 {
     let mut bytes = Vec::new(alloc);
     for page in 0..(count + PAGE as u64 - 1) / PAGE as u64 {
@@ -199,11 +182,7 @@ fn read_piece<T: Site>(
     ensures bytes { IsTrue T.tells
         → OnOk result (bytes.new.items ≡ bytes.old.items ++ take due (drop at ((T.disk site.old).files 1))) }
     ensures undamaged { IsTrue T.tells → at + due ≤ length ((T.disk site.old).files 1) → IfErr result IsNoDamage }
-    ensures disk { IsTrue T.tells → Rests (T.disk site.old) (T.disk site.new) }
-    ensures cause { HasCauseWhere OpenStop.Disk (T.disk_faults site.old) (T.disk_faults site.new) result }
-    ensures told_faults { T.told_faults site.new ≡ T.told_faults site.old }
-    ensures reads { T.reads site.new ≤ T.reads site.old + 1 }
-    ensures writes { T.writes site.new ≡ T.writes site.old }
+    ensures looks { LooksOnly T.Site (HasCauseWhere OpenStop.Disk) 1 site.old site.new result }
 {
     let mut page = [0; PAGE];
     let found = site.read(NAMES, at, &mut page[..due])?;

@@ -1,7 +1,7 @@
 -- A commit makes of accepted facts all of them.
 use Rattle.std.proofs.Common.{◌≡◌, ◌≢◌, ◌+◌, ◌%◌, ℕ, List, ◌++◌, inl, inr, sym, ◌∙◌, ap, subst, arith}
 use Rattle.site_core.specs.Disk.{Files, Disk}
-use Rattle.site_core.specs.Moments.{IsStable, LeavesOnly}
+use Rattle.site_core.specs.Moments.{LeavesOnly}
 use Rattle.site_core.proofs.Run.{wider, joined}
 use Rattle.fact_model.specs.declared.fact.Fact.{Fact}
 use Rattle.forest_root.specs.declared.body.Body.{Body}
@@ -62,8 +62,3 @@ then_either schema accepted all old mid new same first second =
     joined old mid new (λ told files. (told ≡ old.told) × KeepsEither schema accepted all files) first
     (wider mid new (λ told files. (told ≡ mid.told) × KeepsEither schema accepted all files) (λ told files. (told ≡ old.told) × KeepsEither schema accepted all files)
     (λ told files both. (both.0 ∙ same, both.1)) second)
-
--- ---- the live body now
-
-pub live_now : (schema : Schema) (body : Body) (facts : List Fact) (slot : ℕ) (disk : Disk) → LiveAt (held schema facts) slot body disk.files → IsStable disk → IsLiveNow (held schema facts) slot body disk
-live_now schema body facts slot disk at stable = record { read = at; left = λ files left. subst (LiveAt (held schema facts) slot body) (sym (stable files left)) at }

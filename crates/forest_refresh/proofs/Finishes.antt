@@ -2,8 +2,8 @@
 use Rattle.std.proofs.Common.{◌≡◌, ◌≢◌, ◌∙◌, ◌+◌, ◌<◌, ◌≤◌, ◌++◌, ℕ, List, length, inl, sym, ap, subst, arith, length-append, take}
 use Rattle.site_core.specs.Disk.{Disk, Files}
 use Rattle.site_core.specs.Calls.{Changes}
-use Rattle.site_core.specs.Moments.{LeavesOnly}
-use Rattle.site_core.proofs.Run.{wider}
+use Rattle.site_core.specs.Moments.{HoldsNow, LeavesOnly}
+use Rattle.site_core.proofs.Run.{holds_to, wider}
 use Rattle.fact_model.specs.declared.fact.Fact.{Fact}
 use Rattle.forest_root.specs.declared.body.Body.{Body}
 use Rattle.forest_root.specs.Body.{max_facts}
@@ -11,24 +11,31 @@ use Rattle.forest_root.specs.Keeps.{IsBodyOf}
 use Rattle.forest_root.specs.declared.forest.Store.{Store}
 use Rattle.cube_schema.specs.declared.schema.Schema.{Schema}
 use Rattle.attr_dict.specs.Book.{Book, names_at}
-use Rattle.forest_commit.specs.Commit.{DiffersPast, IsLiveNow, slot_of}
+use Rattle.site_core.specs.Disk.{DiffersPast}
+use Rattle.forest_commit.specs.Commit.{IsLiveNow, slot_of}
 use Rattle.forest_commit.proofs.Kept.{live_paged, paged_moments}
 use Rattle.forest_commit.proofs.Lasting.{OnlyNow}
 use Rattle.forest_pages.specs.Forest.{body_counts, forest}
 use Rattle.forest_store.specs.Held.{AreAccepted, IsLive, held, names_text}
 use Rattle.forest_store.specs.Stored.{IsStoreOf, IsWhole}
 use Rattle.forest_store.proofs.Shown.{named_shown}
+use Rattle.forest_store.proofs.Standing.{live_now}
 use Rattle.forest_refresh.specs.declared.stop.RefreshStop.{RefreshStop}
-use Rattle.forest_refresh.specs.Begun.{Begun, IsBegun, IsNext, IsReady, IsRefreshOf, batch_size}
+use Rattle.forest_refresh.specs.Additions.{IsAddition}
+use Rattle.forest_refresh.specs.Begun.{Begun, IsBegun, IsNext, IsRefreshOf, batch_size}
 use Rattle.forest_refresh.specs.Next.{HasNumbers}
 use Rattle.forest_refresh.specs.Refreshed.{KeepsEither}
 use Rattle.forest_refresh.specs.Trees.{TellsFirstDamage}
-use Rattle.forest_refresh.proofs.Committed.{live_now, other_slot, then_either}
+use Rattle.forest_refresh.proofs.Committed.{other_slot, then_either}
 use Rattle.forest_refresh.proofs.Ready.{body_with, more_names}
 
 -- the body of the next generation, with its numbers of points
 abbrev pub with_counts : Body → List ℕ → Body
 with_counts next counts = record next { counts = counts }
+
+-- its batch is added to the facts that the files keep
+pub addition_of : (r : Begun) (facts batch : List Fact) (files : Files) → IsRefreshOf r facts batch files → IsAddition r.store.forest files r.deltas facts batch
+addition_of r facts batch files is = record { accepted = is.accepted; all = is.all; live = is.live; points = is.deltas }
 
 module _ (r : Begun) (begun : IsBegun r) where
   -- no more facts than there may be
@@ -62,23 +69,29 @@ module _ (r : Begun) (begun : IsBegun r) where
     }
 
   -- pages are written on the other side
-  module _ (facts batch : List Fact) (old mid : Disk) (is : IsRefreshOf r facts batch old.files) (ready : IsReady r old) (spare : ℕ) (at : spare ≡ slot_of r.next)
+  module _ (facts batch : List Fact) (old mid : Disk) (both : HoldsNow (IsRefreshOf r facts batch) old) (spare : ℕ) (at : spare ≡ slot_of r.next)
       (run : Changes (DiffersPast (2 + spare) 0) old mid) where
     low : spare < 2
     low = omega (arith, at)
 
-    other : is.live.slot ≢ spare
-    other = subst (λ k. is.live.slot ≢ k) (sym at) (other_slot r.store.forest.body r.next r.entries begun.next is.live.slot is.live.at.decodes.1.within.side)
+    both_live : HoldsNow (IsLive r.store.forest.schema r.store.forest.body facts) old
+    both_live = holds_to (IsRefreshOf r facts batch) (IsLive r.store.forest.schema r.store.forest.body facts) old (λ files is. is.live) both
 
-    now : IsLiveNow (held r.store.forest.schema facts) is.live.slot r.store.forest.body old
-    now = live_now r.store.forest.schema r.store.forest.body facts is.live.slot old is.live.at ready.opened.stable
+    abbrev live_slot : ℕ
+    live_slot = both_live.read.slot
 
-    pub still_live : IsLiveNow (held r.store.forest.schema facts) is.live.slot r.store.forest.body mid
-    still_live = live_paged (held r.store.forest.schema facts) is.live.slot spare r.store.forest.body low other old mid now 0 run
+    other : live_slot ≢ spare
+    other = subst (λ k. live_slot ≢ k) (sym at) (other_slot r.store.forest.body r.next r.entries begun.next live_slot both_live.read.at.decodes.1.within.side)
+
+    now : IsLiveNow (held r.store.forest.schema facts) live_slot r.store.forest.body old
+    now = live_now r.store.forest.schema r.store.forest.body facts old both_live
+
+    pub still_live : (k : ℕ) × IsLiveNow (held r.store.forest.schema facts) k r.store.forest.body mid
+    still_live = (live_slot, live_paged (held r.store.forest.schema facts) live_slot spare r.store.forest.body low other old mid now 0 run)
 
     pub while_written : OnlyNow old → LeavesOnly old mid (λ told files. (told ≡ old.told) × KeepsEither r.store.forest.schema facts (facts ++ batch) files)
-    while_written only_now = wider old mid _ _ (λ told files both. (both.0, inl (is.live.slot, r.store.forest.body, both.1)))
-        (paged_moments (held r.store.forest.schema facts) is.live.slot spare r.store.forest.body low other old mid now 0 run only_now)
+    while_written only_now = wider old mid _ _ (λ told files left. (left.0, inl (live_slot, r.store.forest.body, left.1)))
+        (paged_moments (held r.store.forest.schema facts) live_slot spare r.store.forest.body low other old mid now 0 run only_now)
 
     -- and then the commit
     pub then_committed : (new : Disk) → OnlyNow old → LeavesOnly mid new (λ told files. (told ≡ mid.told) × KeepsEither r.store.forest.schema facts (facts ++ batch) files)

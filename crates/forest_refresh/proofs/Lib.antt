@@ -5,6 +5,7 @@ pub mod Damages
 pub mod Dropped
 pub mod Finishes
 pub mod Named
+pub mod NamesRoom
 pub mod Packings
 pub mod Prepared
 pub mod Ready

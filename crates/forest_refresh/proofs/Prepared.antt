@@ -12,6 +12,8 @@ use Rattle.cube_schema.specs.Agreeing.{Agrees}
 use Rattle.view_points.specs.Codes.{names_of, texts_at}
 use Rattle.view_points.proofs.Codes.{admitted-more}
 use Rattle.attr_dict.specs.Admitting.{names_with}
+use Rattle.cube_schema.specs.Writing.{canonical}
+use Rattle.attr_dict.specs.Room.{entries_len}
 use Rattle.attr_dict.specs.Book.{Book, HoldsNamesOf, names_at, shown_names}
 use Rattle.delta_agg.specs.Trees.{named_tree}
 use Rattle.forest_root.specs.declared.forest.Forest.{Forest}
@@ -44,8 +46,9 @@ module _ (store : Store) (batch : List Fact) (coded : List (List ℕ)) (deltas :
 
   -- it has begun
   pub is_begun : 0 < length batch → names_len ≡ forest.body.names_len + length entries → names_len ≤ max_names_len → ((a : ℕ) → slice_index store.shown.at a ≤ length (names_at store.dicts a))
+      → names_len ≤ length (canonical forest.schema) + entries_len store.dicts
       → IsBegun (record { store = store; deltas = deltas; entries = entries; next = next_body forest.body names_len count masses })
-  is_begun some longer short shown = record {
+  is_begun some longer short shown counted_names = record {
     lists = ap length named ∙ length-map forest.mapping.trees (named_tree (names_at store.dicts) forest.schema batch);
     added = more-added;
     more = omega (arith, counted, some);
@@ -56,6 +59,7 @@ module _ (store : Store) (batch : List Fact) (coded : List (List ℕ)) (deltas :
       generation = refl;
       names_len = longer;
     };
+    names_len = counted_names;
     shown = shown;
   }
 

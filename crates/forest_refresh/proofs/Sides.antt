@@ -1,5 +1,5 @@
 -- The trees that are written on the side, one after another, while the live side stays.
-use Rattle.std.proofs.Common.{◌≡◌, ◌≢◌, ◌≤◌, ◌<◌, ◌+◌, ◌*◌, ◌/◌, ◌^◌, ℕ, List, [], ◌∷◌, ◌++◌, flat_map, length, take, drop, inl, inr, ◌⊎◌, refl, sym, ap, ◌∙◌, subst, sum_by, arith, length-append, length-take}
+use Rattle.std.proofs.Common.{◌≡◌, ◌≢◌, ◌≤◌, ◌<◌, ◌+◌, ◌*◌, ◌/◌, ◌^◌, ℕ, List, [], ◌∷◌, ◌++◌, flat_map, get_or, length, take, drop, inl, inr, ◌⊎◌, refl, sym, ap, ◌∙◌, subst, sum_by, arith, length-append, length-take}
 use Rattle.std.proofs.lemmas.List.{take-append-drop}
 use Rattle.site_core.specs.Disk.{Files}
 use Rattle.fact_model.specs.declared.fact.Fact.{Fact}
@@ -20,7 +20,8 @@ use Rattle.forest_root.specs.Body.{max_facts}
 use Rattle.forest_root.specs.declared.body.Body.{Body}
 use Rattle.forest_root.specs.declared.forest.Forest.{Forest}
 use Rattle.forest_root.specs.Forest.{counts_of, place_of, shape_of}
-use Rattle.forest_commit.specs.Commit.{DiffersPast, page_size, slot_of}
+use Rattle.site_core.specs.Disk.{DiffersPast}
+use Rattle.forest_commit.specs.Commit.{page_size, slot_of}
 use Rattle.forest_commit.proofs.Kept.{pages_keep}
 use Rattle.forest_pages.specs.Forest.{forest as forest_bytes, page_count as tree_count, tree_bytes, tree_entries, trees_bytes, views_over}
 use Rattle.forest_pages.proofs.Bytes.{pages-long, trees-append}
@@ -30,8 +31,9 @@ use Rattle.forest_store.proofs.Places.{place-shape}
 use Rattle.forest_store.proofs.Storable.{storable}
 use Rattle.forest_refresh.specs.declared.stop.RefreshStop.{RefreshStop}
 use Rattle.forest_refresh.specs.declared.stop.RefreshStop.TheVariants as stops
+use Rattle.forest_refresh.specs.Additions.{IsAddition, IsAdditionAt}
 use Rattle.forest_refresh.specs.Trees.{IsDamagedFor, IsTreeIn, IsWholeFor, TellsDamageFor, by_arity}
-use Rattle.forest_refresh.proofs.Packings.{ArePacked, bytes-as, packed-all, packed-more, row-as, tree-views-of}
+use Rattle.forest_refresh.proofs.Packings.{ArePacked, bytes-as, delta-named, packed-all, packed-more, row-as, tree-views-of}
 use Rattle.forest_refresh.proofs.TreeMerges.{few-by}
 
 -- ---- one tree
@@ -172,3 +174,14 @@ module _ (spare from : ℕ) (x y : Files) (differs : DiffersPast (2 + spare) fro
     pub damage-before : (stop : RefreshStop) → TellsDamageFor forest y t delta stop → TellsDamageFor forest x t delta stop
     damage-before stops.Disk told = tt
     damage-before (stops.Damaged file offset) told = (told.0, damaged-before told.0 told.1, told.2, told.3)
+
+-- what is added to all trees is added to one while the live side stays
+pub addition-at : (spare : ℕ) (x y : Files) → DiffersPast (2 + spare) 0 x y → spare < 2 → (forest : Forest) → spare ≢ slot_of forest.body
+    → (deltas : List (List Entry)) (t : ℕ) (d delta : List Entry) → t < length deltas → delta ≡ get_or deltas t d → length deltas ≡ length forest.mapping.trees
+    → (facts batch : List Fact) → IsAddition forest x deltas facts batch → IsAdditionAt forest y t delta facts batch
+addition-at spare x y differs low forest other deltas t d delta lt is long facts batch adds = record {
+  accepted = adds.accepted;
+  all = adds.all;
+  live = live-on spare 0 x y differs low forest.schema forest.body facts other adds.live;
+  points = delta-named forest deltas t d delta lt is long (facts ++ batch) batch adds.points;
+}

@@ -10,7 +10,8 @@ use Rattle.page_fmt.specs.Writing.{IsShape}
 use Rattle.tree_pack.specs.Packing.{AreTreePoints, IsPacking, Packing}
 use Rattle.tree_pack.specs.Pages.{PointPage, page_bytes}
 use Rattle.tree_pack.proofs.Standing.{pages-few}
-use Rattle.forest_commit.specs.Commit.{DiffersPast, page_size}
+use Rattle.site_core.specs.Disk.{DiffersPast}
+use Rattle.forest_commit.specs.Commit.{page_size}
 use Rattle.forest_commit.proofs.Paged.{DiffersPast-then}
 
 -- ---- what differs

@@ -4,7 +4,9 @@ use Rattle.site_core.specs.Disk.{Files, Disk}
 use Rattle.fact_model.specs.declared.fact.Fact.{Fact}
 use Rattle.cube_point.specs.declared.point.Entry.{Entry}
 use Rattle.view_points.specs.Codes.{names_of}
+use Rattle.cube_schema.specs.Writing.{canonical}
 use Rattle.attr_dict.specs.Book.{HoldsNamesOf, names_at, shown_names}
+use Rattle.attr_dict.specs.Room.{entries_len}
 use Rattle.forest_root.specs.declared.body.Body.{Body}
 use Rattle.forest_root.specs.declared.forest.Store.{Store}
 use Rattle.forest_root.specs.Body.{IsBody}
@@ -12,6 +14,7 @@ use Rattle.forest_root.specs.Root.{IsShut}
 use Rattle.forest_commit.specs.Commit.{slot_of}
 use Rattle.forest_store.specs.Held.{AreAccepted, IsLive, masses_of}
 use Rattle.forest_store.specs.Opened.{IsOpened}
+use Rattle.forest_store.specs.Stored.{IsWhole}
 use Rattle.forest_refresh.specs.Next.{AddsNames}
 use Rattle.forest_refresh.specs.Trees.{AreAllAdded, deltas_of}
 
@@ -44,6 +47,8 @@ pub record IsBegun (r : Begun) : Type 0 where
   pub added : AreAllAdded r.store.forest (batch_size r) r.deltas
   pub more : r.store.forest.body.facts < r.next.facts
   pub next : IsNext r.store.forest.body r.entries r.next
+  -- it counts no more bytes than the schema's text and the entries of all names have
+  pub names_len : r.next.names_len ≤ length (canonical r.store.forest.schema) + entries_len r.store.dicts
   -- the names that slices know stand in front of all
   pub shown : (a : ℕ) → slice_index r.store.shown.at a ≤ length (names_at r.store.dicts a)
 
@@ -59,6 +64,14 @@ pub record IsRefreshOf (r : Begun) (facts batch : List Fact) (files : Files) : T
   pub entries : AddsNames facts batch r.entries
   pub counted : r.next.facts ≡ length (facts ++ batch)
   pub masses : r.next.masses ≡ masses_of (facts ++ batch)
+
+-- the store of the generation behind it
+pub record IsNextStore (r : Begun) (store : Store) : Type 0 where
+  pub schema : store.forest.schema ≡ r.store.forest.schema
+  pub generation : store.forest.body.generation ≡ r.store.forest.body.generation + 1
+  pub facts : store.forest.body.facts ≡ r.next.facts
+  pub names : store.dicts ≡ r.store.dicts
+  pub whole : IsWhole store
 
 -- the files are those on which the store was opened, and the gate of the next generation is there and is not 1
 pub record IsReady (r : Begun) (disk : Disk) : Type 0 where

@@ -1,7 +1,9 @@
+pub mod Additions
 pub mod Back
 pub mod Begun
 pub mod Limits
 pub mod Next
+pub mod Pages
 pub mod Prepared
 pub mod Refreshed
 pub mod Rooms

@@ -1,5 +1,7 @@
 -- Why a batch is not taken in: the first limit that all facts together pass.
 use Rattle.std.specs.Prelude.{ℕ, ◌<◌, ◌≤◌, List, length}
+use Rattle.std.specs.List.{All}
+use Rattle.cube_schema.specs.Agreeing.{Agrees}
 use Rattle.fact_model.specs.declared.fact.Fact.{Fact}
 use Rattle.fact_model.specs.Fact.{mass, mass_limit}
 use Rattle.forest_root.specs.Body.{max_facts}
@@ -9,6 +11,12 @@ use Rattle.cube_schema.specs.Kinds.{max_at}
 use Rattle.forest_store.specs.Held.{HasNames}
 use Rattle.forest_refresh.specs.declared.stop.BeginStop.{BeginStop}
 use Rattle.forest_refresh.specs.declared.stop.BeginStop.TheVariants as stops
+
+-- the facts of a batch: 1 to 262,144, which agree with the schema
+pub record IsBatchOf (schema : Schema) (facts : List Fact) : Type 0 where
+  pub some : 0 < length facts
+  pub few : length facts ≤ 262144
+  pub agree : All (Agrees schema) facts
 
 -- this is the first attribute with more names than its `max`
 pub record IsFullAt (schema : Schema) (all : List Fact) (a : ℕ) : Type 0 where

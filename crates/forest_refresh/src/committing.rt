@@ -1,8 +1,11 @@
 //! What stands on the other side is committed, with the new names and the new body.
-ghost use Rattle.std.specs.Prelude.{◌≡◌, ◌<◌, ◌≤◌, ◌+◌, ◌++◌, ℕ, IsTrue, IfOk, List, length, take};
+ghost use Rattle.std.specs.Prelude.{◌≡◌, ◌<◌, ◌≤◌, ◌+◌, ◌++◌, ℕ, IsTrue, IfOk, OnOk, List, length, take};
 ghost use Rattle.site_core.specs.Causes.{HasCause};
-ghost use Rattle.site_core.specs.Moments.{LeavesOnly};
+ghost use Rattle.site_core.specs.Moments.{IsStable, LeavesOnly};
+ghost use Rattle.site_core.specs.Frames.{WritesOnly};
 ghost use Rattle.fact_model.specs.declared.fact.Fact as facts;
+ghost use Rattle.attr_dict.specs.Room.{entries_len};
+ghost use Rattle.cube_schema.specs.Writing.{canonical};
 ghost use Rattle.forest_root.specs.Keeps.{IsBodyOf};
 ghost use Rattle.forest_root.specs.Root.{IsShut, RootIsStable};
 ghost use Rattle.forest_commit.specs.Commit.{IsLiveNow, slot_of};
@@ -27,6 +30,7 @@ pub(crate) fn commit<T: Site>(
     next: Body,
 ) -> Result<Store, Fault>
     requires next { IsNext store.forest.body names.now next }
+    requires names { next.names_len ≤ length (canonical store.forest.schema) + entries_len store.dicts }
     requires root { IsTrue T.tells → RootIsStable (T.disk site.old) }
     requires shut { IsTrue T.tells → IsShut (slot_of next) ((T.disk site.old).files 0) }
     requires place { IsTrue T.tells → HasRoot store.forest.body (T.disk site.old).files }
@@ -47,11 +51,9 @@ pub(crate) fn commit<T: Site>(
     ensures names { IfOk result (λ done. done.dicts ≡ store.dicts) }
     ensures whole { IfOk result IsWhole }
     ensures opened { IsTrue T.tells → IfOk result (λ done. IsOpened done.forest.body (T.disk site.new)) }
+    ensures stable { IsTrue T.tells → OnOk result (IsStable (T.disk site.new)) }
     ensures told { IsTrue T.tells → (T.disk site.new).told ≡ (T.disk site.old).told }
-    ensures cause { HasCause (T.disk_faults site.old) (T.disk_faults site.new) result }
-    ensures told_faults { T.told_faults site.new ≡ T.told_faults site.old }
-    ensures reads { T.reads site.new ≡ T.reads site.old }
-    ensures writes { T.writes site.new ≤ T.writes site.old + 3 }
+    ensures calls { WritesOnly T.Site HasCause 3 site.old site.new result }
 {
     let end = Commit {
         names_at: store.forest.body.names_len,

@@ -10,9 +10,6 @@ use fact_model::{Fact, Text};
 /// The most facts.
 const MAX_FACTS: u64 = 1 << 40;
 
-/// The most bytes of the names file that a body counts.
-const MAX_NAMES_LEN: u64 = 1 << 48;
-
 /// The greatest mass of a measure.
 const MAX_MASS: u128 = (1 << 127) - 1;
 
@@ -61,15 +58,9 @@ fn mass(facts: &[Fact], measure: u32) -> u128
 }
 
 /// The length of the names file with these entries.
-pub(crate) fn names_len(old: u64, entries: &Text) -> Result<u64, BeginStop>
-    ensures sum { IfOk result (λ all. all ≡ old + length entries.now) }
-    ensures within { IfOk result (λ all. all ≤ max_names_len) }
-    ensures memory { IfErr result (λ stop. stop ≡ BeginStop.Memory) }
+pub(crate) fn names_len(old: u64, entries: &Text) -> u64
+    requires { old + length entries.now ≤ max_names_len }
+    ensures { result ≡ old + length entries.now }
 {
-    let all = old.saturating_add(entries.as_bytes().len() as u64);
-    // The names of a store lie in memory, and no memory has room for so many.
-    if all > MAX_NAMES_LEN {
-        return Err(BeginStop::Memory);
-    }
-    Ok(all)
+    old + entries.as_bytes().len() as u64
 }

@@ -1,20 +1,17 @@
 //! The points of a tree are merged with those of a batch.
 ghost use Rattle.std.specs.Prelude.{◌≡◌, ◌<◌, ◌≤◌, ◌+◌, ◌*◌, ◌++◌, ℕ, IsTrue, IfErr, OnOk, List, length, vec_capacity};
-ghost use Rattle.site_core.specs.Calls.{Rests};
 ghost use Rattle.fact_model.specs.declared.fact.Fact as facts;
-ghost use Rattle.view_points.specs.Codes.{names_of};
 ghost use Rattle.select_map.specs.Selection.{tree_of};
-ghost use Rattle.delta_agg.specs.Trees.{named_tree};
 ghost use Rattle.tree_pack.specs.Packing.{AreTreePoints};
-ghost use Rattle.tree_pack.specs.Pages.{count_of};
-ghost use Rattle.tree_scan.specs.Scanning.{page_points};
 ghost use Rattle.forest_root.specs.Body.{max_facts};
-ghost use Rattle.forest_root.specs.Causes.{HasCauseWhere};
+ghost use Rattle.site_core.specs.Causes.{HasCauseWhere};
+ghost use Rattle.site_core.specs.Frames.{LooksOnly};
 ghost use Rattle.forest_root.specs.Forest.{place_of};
 ghost use Rattle.forest_pages.specs.Forest.{tree_entries};
-ghost use Rattle.forest_store.specs.Held.{AreAccepted, IsLive};
+ghost use Rattle.forest_refresh.specs.Additions.{AreFewWith, IsAdditionAt};
 ghost use Rattle.forest_refresh.specs.Next.{counts_from};
 ghost use Rattle.forest_refresh.specs.Refreshed.{IsNoDamage};
+ghost use Rattle.forest_refresh.specs.Rooms.{HasRoomAt};
 ghost use Rattle.forest_refresh.specs.Trees.{AreAdded, IsWholeFor, NamesPageOf, TellsDamageFor};
 
 use crate::reading::{ARITIES, tree_points};
@@ -37,18 +34,11 @@ pub(crate) fn merged_tree<T: Site>(
 ) -> Result<(), RefreshStop>
     requires tree { tree < length forest.now.mapping.trees }
     requires added { (most : ℕ) × AreAdded (place_of forest.now tree).shape most delta.now × (forest.now.body.facts + most ≤ max_facts) }
-    requires old_room { page_points * (place_of forest.now tree).pages ≤ vec_capacity old.old }
-    requires room { page_points * (place_of forest.now tree).pages + length delta.now ≤ vec_capacity merged.old }
+    requires room { HasRoomAt (place_of forest.now tree) delta.now (vec_capacity old.old) (vec_capacity merged.old) }
 
-    ensures points { IsTrue T.tells → (accepted batch : List facts.Fact) → AreAccepted forest.now.schema accepted
-        → AreAccepted forest.now.schema (accepted ++ batch)
-        → IsLive forest.now.schema forest.now.body accepted (T.disk site.old).files
-        → delta.now ≡ named_tree (names_of (accepted ++ batch)) forest.now.schema batch (tree_of forest.now.mapping tree)
+    ensures points { IsTrue T.tells → (accepted batch : List facts.Fact) → IsAdditionAt forest.now (T.disk site.old).files tree delta.now accepted batch
         → OnOk result (merged.new.items ≡ tree_entries forest.now.schema (accepted ++ batch) (tree_of forest.now.mapping tree)) }
-    ensures undamaged { IsTrue T.tells → (accepted batch : List facts.Fact) → AreAccepted forest.now.schema accepted
-        → AreAccepted forest.now.schema (accepted ++ batch)
-        → IsLive forest.now.schema forest.now.body accepted (T.disk site.old).files
-        → delta.now ≡ named_tree (names_of (accepted ++ batch)) forest.now.schema batch (tree_of forest.now.mapping tree)
+    ensures undamaged { IsTrue T.tells → (accepted batch : List facts.Fact) → IsAdditionAt forest.now (T.disk site.old).files tree delta.now accepted batch
         → IfErr result IsNoDamage }
 
     // Whatever the files hold: points of the tree, of each arity no more than facts; or the page at which it is damaged.
@@ -56,15 +46,10 @@ pub(crate) fn merged_tree<T: Site>(
     ensures damaged { IsTrue T.tells → IfErr result (TellsDamageFor forest.now (T.disk site.old).files tree delta.now) }
     ensures place { IfErr result (NamesPageOf (place_of forest.now tree)) }
     ensures each { OnOk result (AreTreePoints (place_of forest.now tree).shape merged.new.items) }
-    ensures few { (most : ℕ) → AreAdded (place_of forest.now tree).shape most delta.now
-        → OnOk result ((arity : ℕ) → arity < 9 → count_of arity merged.new.items ≤ forest.now.body.facts + most) }
+    ensures few { OnOk result (AreFewWith forest.now tree delta.now merged.new.items) }
     ensures old_capacity { vec_capacity old.old ≤ vec_capacity old.new }
     ensures capacity { vec_capacity merged.old ≤ vec_capacity merged.new }
-    ensures disk { IsTrue T.tells → Rests (T.disk site.old) (T.disk site.new) }
-    ensures cause { HasCauseWhere RefreshStop.Disk (T.disk_faults site.old) (T.disk_faults site.new) result }
-    ensures told_faults { T.told_faults site.new ≡ T.told_faults site.old }
-    ensures reads { T.reads site.new ≤ T.reads site.old + (place_of forest.now tree).pages }
-    ensures writes { T.writes site.new ≡ T.writes site.old }
+    ensures looks { LooksOnly T.Site (HasCauseWhere RefreshStop.Disk) ((place_of forest.now tree).pages) site.old site.new result }
 {
     tree_points(site, forest, tree, old)?;
     match merge_points(old, delta, merged) {

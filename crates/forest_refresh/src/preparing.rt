@@ -6,13 +6,15 @@ ghost use Rattle.fact_model.specs.declared.fact.Fact as declared;
 ghost use Rattle.view_points.specs.Codes.{names_of};
 ghost use Rattle.attr_dict.specs.Admitting.{names_with};
 ghost use Rattle.attr_dict.specs.Book.{HoldsNamesOf, names_at, shown_names};
+ghost use Rattle.attr_dict.specs.Room.{entries_len, entries_limit};
 ghost use Rattle.cube_schema.specs.Agreeing.{Agrees};
+ghost use Rattle.cube_schema.specs.Writing.{canonical};
 ghost use Rattle.forest_root.specs.Body.{max_facts};
 ghost use Rattle.forest_store.specs.Held.{AreAccepted, HasNames, IsLive};
 ghost use Rattle.forest_store.specs.Stored.{IsStoreOf, IsWhole};
 ghost use Rattle.forest_refresh.specs.Back.{IsBack};
 ghost use Rattle.forest_refresh.specs.Begun.{IsBegun, IsRefreshOf};
-ghost use Rattle.forest_refresh.specs.Limits.{TellsLimit};
+ghost use Rattle.forest_refresh.specs.Limits.{IsBatchOf, TellsLimit};
 ghost use Rattle.forest_refresh.specs.Next.{AddsNames, AreCoded, next_body};
 ghost use Rattle.forest_refresh.specs.Prepared.{begun_with};
 ghost use Rattle.forest_refresh.specs.Rooms.{HasRoom};
@@ -46,8 +48,7 @@ pub(crate) fn prepare(
     store: &mut Store,
     facts: &FactList,
 ) -> Result<Prepared, BeginStop>
-    requires some { 0 < length facts.now }
-    requires agree { All (Agrees store.old.forest.schema) facts.now }
+    requires batch { IsBatchOf store.old.forest.schema facts.now }
     requires whole { IsWhole store.old }
 
     ensures prepared { IfOk result (λ p. IsBegun (begun_with store.new p)) }
@@ -89,6 +90,9 @@ fn prepare_with(
     requires few { count ≤ max_facts }
     requires coded { AreCoded store.now.dicts store.now.forest.schema admitted.coded facts.now }
     requires shown { (a : ℕ) → slice_index store.now.shown.at a ≤ length (names_at store.now.dicts a) }
+    requires names { store.now.forest.body.names_len + length admitted.names
+        ≤ length (canonical store.now.forest.schema) + entries_len store.now.dicts }
+    requires limit { entries_len store.now.dicts ≤ entries_limit }
 
     ensures prepared { IfOk result (λ p. IsBegun (begun_with store.now p)) }
     ensures room { IfOk result (λ p. HasRoom store.now.forest p.deltas (vec_capacity p.room.before) (vec_capacity p.room.merged) (vec_capacity p.room.rows)) }
@@ -105,7 +109,7 @@ fn prepare_with(
 {
     let forest = &store.forest;
     let masses = masses(&forest.body.masses, facts.as_slice())?;
-    let names_len = names_len(forest.body.names_len, &admitted.names)?;
+    let names_len = names_len(forest.body.names_len, &admitted.names);
     let deltas = deltas(
         alloc,
         &forest.schema,

@@ -6,7 +6,8 @@ ghost use Rattle.fact_model.specs.declared.fact.Fact as facts;
 ghost use Rattle.select_map.specs.Selection.{tree_of};
 ghost use Rattle.tree_pack.specs.Pages.{count_of};
 ghost use Rattle.tree_scan.specs.Scanning.{ArePoints, NamesPage, page_points};
-ghost use Rattle.forest_root.specs.Causes.{HasCauseWhere};
+ghost use Rattle.site_core.specs.Causes.{HasCauseWhere};
+ghost use Rattle.site_core.specs.Frames.{LooksOnly};
 ghost use Rattle.forest_root.specs.Forest.{counts_of, place_of};
 ghost use Rattle.forest_pages.specs.Forest.{tree_entries};
 ghost use Rattle.forest_store.specs.Held.{AreAccepted, IsLive};
@@ -52,11 +53,7 @@ pub(crate) fn tree_points<T: Site>(
     ensures some { OnOk result (0 < length into.new.items → 0 < (place_of forest.now tree).pages) }
     ensures counts { OnOk result (by_arity into.new.items ≡ counts_of forest.now.body.counts (tree_of forest.now.mapping tree)) }
     ensures capacity { vec_capacity into.old ≤ vec_capacity into.new }
-    ensures disk { IsTrue T.tells → Rests (T.disk site.old) (T.disk site.new) }
-    ensures cause { HasCauseWhere RefreshStop.Disk (T.disk_faults site.old) (T.disk_faults site.new) result }
-    ensures told_faults { T.told_faults site.new ≡ T.told_faults site.old }
-    ensures reads { T.reads site.new ≤ T.reads site.old + (place_of forest.now tree).pages }
-    ensures writes { T.writes site.new ≡ T.writes site.old }
+    ensures looks { LooksOnly T.Site (HasCauseWhere RefreshStop.Disk) ((place_of forest.now tree).pages) site.old site.new result }
 {
     let place = forest.place(tree);
     if place.pages == 0 {

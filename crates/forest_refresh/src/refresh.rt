@@ -1,21 +1,20 @@
 //! A refresh that has begun, and how it ends.
 ghost use Rattle.std.specs.Prelude.{◌≡◌, ◌≢◌, ◌<◌, ◌≤◌, ◌+◌, ◌++◌, ℕ, IsTrue, IfOk, IfErr, OnOk, List, length, slice_index, vec_capacity};
-ghost use Rattle.std.specs.List.{All};
 ghost use Rattle.site_core.specs.Disk.{Files};
-ghost use Rattle.site_core.specs.Causes.{HasCause, Rose};
-ghost use Rattle.site_core.specs.Moments.{LeavesOnly};
+ghost use Rattle.site_core.specs.Causes.{HasCause};
+ghost use Rattle.site_core.specs.Moments.{HoldsNow, IsStable, LeavesOnly};
 ghost use Rattle.fact_model.specs.declared.fact.Fact as declared;
 ghost use Rattle.attr_dict.specs.Admitting.{names_with};
 ghost use Rattle.attr_dict.specs.Book.{names_at};
-ghost use Rattle.cube_schema.specs.Agreeing.{Agrees};
-ghost use Rattle.forest_root.specs.Causes.{HasCauseWhere};
+ghost use Rattle.site_core.specs.Causes.{HasCauseWhere};
+ghost use Rattle.site_core.specs.Frames.{Calls, CallsOnly};
 ghost use Rattle.forest_store.specs.Held.{IsLive, KeepsFacts};
 ghost use Rattle.forest_store.specs.Opened.{IsOpened};
 ghost use Rattle.forest_store.specs.Sides.{page_count, page_total};
 ghost use Rattle.forest_store.specs.Stored.{IsStoreOf, IsWhole};
-ghost use Rattle.forest_refresh.specs.Back.{IsBack, IsCut};
-ghost use Rattle.forest_refresh.specs.Begun.{IsBegun, IsReady, IsRefreshOf};
-ghost use Rattle.forest_refresh.specs.Limits.{TellsLimit};
+ghost use Rattle.forest_refresh.specs.Back.{BeginCause, IsBack, IsCut};
+ghost use Rattle.forest_refresh.specs.Begun.{IsBegun, IsNextStore, IsReady, IsRefreshOf};
+ghost use Rattle.forest_refresh.specs.Limits.{IsBatchOf, TellsLimit};
 ghost use Rattle.forest_refresh.specs.Prepared.{begun_with};
 ghost use Rattle.forest_refresh.specs.Refreshed.{IsNoDamage, KeepsEither, NamesPageIn};
 ghost use Rattle.forest_refresh.specs.Rooms.{HasRoom};
@@ -57,7 +56,7 @@ impl Model for Refresh {
 }
 
 impl Refresh {
-    /// Begins to take in a batch of at least one fact: tries the limits, gives codes to its new names, which slices do not know, makes its
+    /// Begins to take in a batch of 1 to 262,144 facts: tries the limits, gives codes to its new names, which slices do not know, makes its
     /// points, takes all memory that is needed to the end, and then shuts the gate of the next generation.
     ///
     /// `FactsFull`, `NamesFull` and `Mass` name the first limit that all facts would pass, in this order. They and `Memory` come before any
@@ -69,8 +68,7 @@ impl Refresh {
         store: Store,
         facts: FactList,
     ) -> Result<Refresh, BeginFault>
-        requires some { 0 < length facts }
-        requires agree { All (Agrees store.forest.schema) facts }
+        requires batch { IsBatchOf store.forest.schema facts }
         requires whole { IsWhole store }
         requires opened { IsTrue T.tells → IsOpened store.forest.body (T.disk site.old) }
 
@@ -78,23 +76,20 @@ impl Refresh {
             → IfOk result (λ refresh. IsRefreshOf refresh accepted facts (T.disk site.new).files) }
         ensures limit { (accepted : List declared.Fact) (files : Files) → IsStoreOf store accepted files
             → IfErr result (λ fault. TellsLimit store.forest.schema (accepted ++ facts) fault.why) }
-        ensures any_moment { IsTrue T.tells → (accepted : List declared.Fact) → IsStoreOf store accepted (T.disk site.old).files
+        ensures any_moment { IsTrue T.tells → (accepted : List declared.Fact) → HoldsNow (IsStoreOf store accepted) (T.disk site.old)
             → LeavesOnly (T.disk site.old) (T.disk site.new) (λ told files.
             (told ≡ (T.disk site.old).told) × KeepsFacts store.forest.schema accepted files) }
 
         ensures ready { IsTrue T.tells → IfOk result (λ refresh. IsReady refresh (T.disk site.new)) }
+        ensures stable { IsTrue T.tells → OnOk result (IsStable (T.disk site.new)) }
         ensures points { IfOk result (λ refresh. refresh.deltas ≡ deltas_by (names_with store.dicts facts) store.forest.schema facts) }
         // The root file alone is written.
-        ensures others { IsTrue T.tells → (file : ℕ) → file ≢ 0 → (T.disk site.new).files file ≡ (T.disk site.old).files file }
+        ensures others { IsTrue T.tells → OnOk result ((file : ℕ) → file ≢ 0 → (T.disk site.new).files file ≡ (T.disk site.old).files file) }
         ensures forest { IfOk result (λ refresh. refresh.store.forest ≡ store.forest) }
         ensures back { IfErr result (λ fault. IsBack store fault.store) }
         ensures untouched { IfErr result (λ fault. fault.why ≢ BeginStop.Disk → site.new ≡ site.old) }
         ensures told { IsTrue T.tells → (T.disk site.new).told ≡ (T.disk site.old).told }
-        ensures cause { IfErr result (λ fault. fault.why ≡ BeginStop.Disk → Rose (T.disk_faults site.old) (T.disk_faults site.new)) }
-        ensures disk_faults { OnOk result (T.disk_faults site.new ≡ T.disk_faults site.old) }
-        ensures told_faults { T.told_faults site.new ≡ T.told_faults site.old }
-        ensures reads { T.reads site.new ≤ T.reads site.old + 1 }
-        ensures writes { T.writes site.new ≤ T.writes site.old + 1 }
+        ensures calls { CallsOnly T.Site BeginCause 1 1 site.old site.new result }
     {
         let mut store = store;
         match prepare(alloc, &mut store, &facts) {
@@ -126,11 +121,11 @@ impl Refresh {
     pub fn finish<T: Site>(self, site: &mut T) -> Result<Store, RefreshStop>
         requires ready { IsTrue T.tells → IsReady self (T.disk site.old) }
 
-        ensures finished { IsTrue T.tells → (accepted batch : List declared.Fact) → IsRefreshOf self accepted batch (T.disk site.old).files
+        ensures finished { IsTrue T.tells → (accepted batch : List declared.Fact) → HoldsNow (IsRefreshOf self accepted batch) (T.disk site.old)
             → IfOk result (λ store. IsStoreOf store (accepted ++ batch) (T.disk site.new).files) }
         ensures undamaged { IsTrue T.tells → (accepted batch : List declared.Fact) → IsRefreshOf self accepted batch (T.disk site.old).files
             → IfErr result IsNoDamage }
-        ensures any_moment { IsTrue T.tells → (accepted batch : List declared.Fact) → IsRefreshOf self accepted batch (T.disk site.old).files
+        ensures any_moment { IsTrue T.tells → (accepted batch : List declared.Fact) → HoldsNow (IsRefreshOf self accepted batch) (T.disk site.old)
             → LeavesOnly (T.disk site.old) (T.disk site.new) (λ told files.
             (told ≡ (T.disk site.old).told) × KeepsEither self.store.forest.schema accepted (accepted ++ batch) files) }
         ensures writes { IsTrue T.tells → (accepted batch : List declared.Fact) → IsRefreshOf self accepted batch (T.disk site.old).files
@@ -141,15 +136,10 @@ impl Refresh {
         ensures damaged { IsTrue T.tells → IfErr result (TellsFirstDamage self.store.forest (T.disk site.old).files self.deltas) }
         ensures place { IfErr result (NamesPageIn self.store.forest.body self.store.forest.schema) }
         ensures opened { IsTrue T.tells → IfOk result (λ store. IsOpened store.forest.body (T.disk site.new)) }
-        ensures schema { IfOk result (λ store. store.forest.schema ≡ self.store.forest.schema) }
-        ensures generation { IfOk result (λ store. store.forest.body.generation ≡ self.store.forest.body.generation + 1) }
-        ensures facts { IfOk result (λ store. store.forest.body.facts ≡ self.next.facts) }
-        ensures names { IfOk result (λ store. store.dicts ≡ self.store.dicts) }
-        ensures whole { IfOk result IsWhole }
+        ensures stable { IsTrue T.tells → OnOk result (IsStable (T.disk site.new)) }
+        ensures next { IfOk result (IsNextStore self) }
         ensures told { IsTrue T.tells → (T.disk site.new).told ≡ (T.disk site.old).told }
-        ensures cause { HasCauseWhere RefreshStop.Disk (T.disk_faults site.old) (T.disk_faults site.new) result }
-        ensures told_faults { T.told_faults site.new ≡ T.told_faults site.old }
-        ensures reads { T.reads site.new ≤ T.reads site.old + page_total self.store.forest.body self.store.forest.schema }
+        ensures calls { Calls T.Site (HasCauseWhere RefreshStop.Disk) (page_total self.store.forest.body self.store.forest.schema) site.old site.new result }
     {
         let Refresh {
             store,
@@ -187,18 +177,16 @@ fn shut_gate<T: Site>(site: &mut T, store: Store, prepared: Prepared) -> Result<
     ensures begun { IfOk result (λ refresh. refresh ≡ begun_with store prepared) }
     ensures live { IsTrue T.tells → (accepted : List declared.Fact) → IsLive store.forest.schema store.forest.body accepted (T.disk site.old).files
         → OnOk result (IsLive store.forest.schema store.forest.body accepted (T.disk site.new).files) }
-    ensures any_moment { IsTrue T.tells → (accepted : List declared.Fact) → IsLive store.forest.schema store.forest.body accepted (T.disk site.old).files
-        → LeavesOnly (T.disk site.old) (T.disk site.new) (λ told files.
+    ensures any_moment { IsTrue T.tells → (accepted : List declared.Fact)
+        → HoldsNow (IsLive store.forest.schema store.forest.body accepted) (T.disk site.old) → LeavesOnly (T.disk site.old) (T.disk site.new) (λ told files.
         (told ≡ (T.disk site.old).told) × KeepsFacts store.forest.schema accepted files) }
     ensures ready { IsTrue T.tells → OnOk result (IsReady (begun_with store prepared) (T.disk site.new)) }
-    ensures others { IsTrue T.tells → (file : ℕ) → file ≢ 0 → (T.disk site.new).files file ≡ (T.disk site.old).files file }
+    ensures stable { IsTrue T.tells → OnOk result (IsStable (T.disk site.new)) }
+    ensures others { IsTrue T.tells → OnOk result ((file : ℕ) → file ≢ 0 → (T.disk site.new).files file ≡ (T.disk site.old).files file) }
     ensures back { IfErr result (λ fault. IsCut store fault.store) }
     ensures why { IfErr result (λ fault. fault.why ≡ BeginStop.Disk) }
     ensures told { IsTrue T.tells → (T.disk site.new).told ≡ (T.disk site.old).told }
-    ensures cause { HasCause (T.disk_faults site.old) (T.disk_faults site.new) result }
-    ensures told_faults { T.told_faults site.new ≡ T.told_faults site.old }
-    ensures reads { T.reads site.new ≤ T.reads site.old + 1 }
-    ensures writes { T.writes site.new ≤ T.writes site.old + 1 }
+    ensures calls { CallsOnly T.Site HasCause 1 1 site.old site.new result }
 {
     match forest_commit::begin(site, slot(&prepared.next)) {
         Ok(()) => Ok(Refresh {

@@ -1,26 +1,26 @@
 //! The new trees are packed and written on the other side, tree after tree.
-ghost use Rattle.std.specs.Prelude.{◌≡◌, ◌≢◌, ◌<◌, ◌≤◌, ◌+◌, ◌*◌, ◌/◌, ◌^◌, ◌++◌, [], ◌∷◌, ℕ, IsTrue, IfOk, IfErr, OnOk, List, flat_map, length, take, vec_capacity, vec_len};
+ghost use Rattle.std.specs.Prelude.{◌≡◌, ◌≢◌, ◌<◌, ◌≤◌, ◌+◌, ◌*◌, ◌/◌, ◌++◌, [], ◌∷◌, ℕ, IsTrue, IfOk, IfErr, OnOk, List, flat_map, length, vec_capacity, vec_len};
 ghost use Rattle.site_core.specs.Calls.{Changes};
+ghost use Rattle.site_core.specs.Frames.{Calls};
 ghost use Rattle.site_core.specs.Causes.{HasCause};
 ghost use Rattle.fact_model.specs.declared.fact.Fact as facts;
 ghost use Rattle.page_fmt.specs.Writing.{IsShape};
 ghost use Rattle.select_map.specs.Selection.{tree_of};
-ghost use Rattle.view_points.specs.Codes.{names_of};
-ghost use Rattle.delta_agg.specs.Trees.{named_tree};
 ghost use Rattle.tree_pack.specs.Packing.{AreTreePoints, AreTreeViews};
-ghost use Rattle.tree_pack.specs.Pages.{Views, count_of, page_bytes, pages_of};
-ghost use Rattle.tree_scan.specs.Scanning.{page_points};
+ghost use Rattle.tree_pack.specs.Pages.{Views, page_bytes, pages_of};
 ghost use Rattle.forest_root.specs.Body.{max_facts};
-ghost use Rattle.forest_root.specs.Causes.{HasCauseWhere};
+ghost use Rattle.site_core.specs.Causes.{HasCauseWhere};
 ghost use Rattle.forest_root.specs.Forest.{place_of};
-ghost use Rattle.forest_commit.specs.Commit.{DiffersPast, max_pages, page_size, slot_of};
-ghost use Rattle.forest_pages.specs.Forest.{body_counts, forest as forest_bytes, tree_bytes, tree_entries};
-ghost use Rattle.forest_store.specs.Held.{AreAccepted, IsLive};
+ghost use Rattle.site_core.specs.Disk.{DiffersPast};
+ghost use Rattle.forest_commit.specs.Commit.{page_size, slot_of};
+ghost use Rattle.forest_pages.specs.Forest.{tree_bytes};
 ghost use Rattle.forest_store.specs.Sides.{page_count, page_total};
+ghost use Rattle.forest_refresh.specs.Additions.{AreWritten, HasRow, IsAddition, IsAdditionAt, IsWritten};
 ghost use Rattle.forest_refresh.specs.Next.{HasNumbers};
+ghost use Rattle.forest_refresh.specs.Pages.{BeginsAt, EndsBefore, front_pages, max_tree_pages};
 ghost use Rattle.forest_refresh.specs.Refreshed.{IsNoDamage, NamesPageIn};
-ghost use Rattle.forest_refresh.specs.Rooms.{HasRoom};
-ghost use Rattle.forest_refresh.specs.Trees.{AreAdded, AreAllAdded, AreAllWhole, IsWholeFor, NamesPageOf, TellsDamageFor, TellsFirstDamage, by_arity, deltas_of};
+ghost use Rattle.forest_refresh.specs.Rooms.{HasRoom, HasRoomFor, KeepsRoom};
+ghost use Rattle.forest_refresh.specs.Trees.{AreAdded, AreAllAdded, AreAllWhole, IsWholeFor, NamesPageOf, TellsDamageFor, TellsFirstDamage};
 
 use crate::merging::{merged_tree, view_counts};
 use crate::reading::{ARITIES, counts};
@@ -50,25 +50,11 @@ pub(crate) fn write_trees<T: Site>(
     requires added { (most : ℕ) × AreAllAdded forest.now most deltas.now × (forest.now.body.facts + most ≤ max_facts) }
     requires room { HasRoom forest.now deltas.now (vec_capacity room.old.before) (vec_capacity room.old.merged) (vec_capacity room.old.rows) }
 
-    ensures written { IsTrue T.tells → (accepted batch : List facts.Fact) → AreAccepted forest.now.schema accepted
-        → AreAccepted forest.now.schema (accepted ++ batch)
-        → IsLive forest.now.schema forest.now.body accepted (T.disk site.old).files
-        → deltas.now ≡ deltas_of forest.now.schema (accepted ++ batch) batch
-        → OnOk result (take (length (forest_bytes forest.now.schema (accepted ++ batch))) ((T.disk site.new).files (2 + slot))
-        ≡ forest_bytes forest.now.schema (accepted ++ batch)) }
-    ensures counts { IsTrue T.tells → (accepted batch : List facts.Fact) → AreAccepted forest.now.schema accepted
-        → AreAccepted forest.now.schema (accepted ++ batch)
-        → IsLive forest.now.schema forest.now.body accepted (T.disk site.old).files
-        → deltas.now ≡ deltas_of forest.now.schema (accepted ++ batch) batch
-        → IfOk result (λ counts. counts ≡ body_counts forest.now.schema (accepted ++ batch)) }
-    ensures undamaged { IsTrue T.tells → (accepted batch : List facts.Fact) → AreAccepted forest.now.schema accepted
-        → AreAccepted forest.now.schema (accepted ++ batch)
-        → IsLive forest.now.schema forest.now.body accepted (T.disk site.old).files
-        → deltas.now ≡ deltas_of forest.now.schema (accepted ++ batch) batch → IfErr result IsNoDamage }
-    ensures writes { IsTrue T.tells → (accepted batch : List facts.Fact) → AreAccepted forest.now.schema accepted
-        → AreAccepted forest.now.schema (accepted ++ batch)
-        → IsLive forest.now.schema forest.now.body accepted (T.disk site.old).files
-        → deltas.now ≡ deltas_of forest.now.schema (accepted ++ batch) batch
+    ensures written { IsTrue T.tells → (accepted batch : List facts.Fact) → IsAddition forest.now (T.disk site.old).files deltas.now accepted batch
+        → IfOk result (AreWritten forest.now.schema (accepted ++ batch) ((T.disk site.new).files (2 + slot))) }
+    ensures undamaged { IsTrue T.tells → (accepted batch : List facts.Fact) → IsAddition forest.now (T.disk site.old).files deltas.now accepted batch
+        → IfErr result IsNoDamage }
+    ensures writes { IsTrue T.tells → (accepted batch : List facts.Fact) → IsAddition forest.now (T.disk site.old).files deltas.now accepted batch
         → T.writes site.new ≤ T.writes site.old + page_count forest.now.schema (accepted ++ batch) }
 
     // Whatever the files hold: of no view more points than there are facts; or where the first tree is damaged.
@@ -78,9 +64,7 @@ pub(crate) fn write_trees<T: Site>(
     ensures damaged { IsTrue T.tells → IfErr result (TellsFirstDamage forest.now (T.disk site.old).files deltas.now) }
     ensures place { IfErr result (NamesPageIn forest.now.body forest.now.schema) }
     ensures disk { IsTrue T.tells → Changes (DiffersPast (2 + slot) 0) (T.disk site.old) (T.disk site.new) }
-    ensures cause { HasCauseWhere RefreshStop.Disk (T.disk_faults site.old) (T.disk_faults site.new) result }
-    ensures told_faults { T.told_faults site.new ≡ T.told_faults site.old }
-    ensures reads { T.reads site.new ≤ T.reads site.old + page_total forest.now.body forest.now.schema }
+    ensures calls { Calls T.Site (HasCauseWhere RefreshStop.Disk) (page_total forest.now.body forest.now.schema) site.old site.new result }
 {
     room.rows.clear();
     let mut first = 0;
@@ -104,53 +88,26 @@ fn add_tree<T: Site>(
 ) -> Result<u64, RefreshStop>
     requires tree { tree < length forest.now.mapping.trees }
     requires added { (most : ℕ) × AreAdded (place_of forest.now tree).shape most delta.now × (forest.now.body.facts + most ≤ max_facts) }
-    requires old_room { page_points * (place_of forest.now tree).pages ≤ vec_capacity room.old.before }
-    requires room { page_points * (place_of forest.now tree).pages + length delta.now ≤ vec_capacity room.old.merged }
-    requires rows { vec_len room.old.rows < vec_capacity room.old.rows }
-    requires slot { slot < 2 }
-    requires few { first ≤ 27 * 2 ^ 40 * 31 }
-    requires place { IsTrue T.tells → page_size * first ≤ length ((T.disk site.old).files (2 + slot)) }
+    requires room { HasRoomFor (place_of forest.now tree) delta.now room.old }
+    requires first { BeginsAt T.Site slot first max_tree_pages site.old }
 
-    ensures points { IsTrue T.tells → (accepted batch : List facts.Fact) → AreAccepted forest.now.schema accepted
-        → AreAccepted forest.now.schema (accepted ++ batch)
-        → IsLive forest.now.schema forest.now.body accepted (T.disk site.old).files
-        → delta.now ≡ named_tree (names_of (accepted ++ batch)) forest.now.schema batch (tree_of forest.now.mapping tree)
-        → OnOk result (room.new.merged.items ≡ tree_entries forest.now.schema (accepted ++ batch) (tree_of forest.now.mapping tree)) }
-    ensures written { IsTrue T.tells → (accepted batch : List facts.Fact) → AreAccepted forest.now.schema accepted
-        → AreAccepted forest.now.schema (accepted ++ batch)
-        → IsLive forest.now.schema forest.now.body accepted (T.disk site.old).files
-        → delta.now ≡ named_tree (names_of (accepted ++ batch)) forest.now.schema batch (tree_of forest.now.mapping tree)
-        → IfOk result (λ next. take (page_size * next) ((T.disk site.new).files (2 + slot))
-        ≡ take (page_size * first) ((T.disk site.old).files (2 + slot)) ++ tree_bytes forest.now.schema (accepted ++ batch) first (tree_of forest.now.mapping tree)) }
-    ensures writes { IsTrue T.tells → (accepted batch : List facts.Fact) → AreAccepted forest.now.schema accepted
-        → AreAccepted forest.now.schema (accepted ++ batch)
-        → IsLive forest.now.schema forest.now.body accepted (T.disk site.old).files
-        → delta.now ≡ named_tree (names_of (accepted ++ batch)) forest.now.schema batch (tree_of forest.now.mapping tree)
+    ensures written { IsTrue T.tells → (accepted batch : List facts.Fact) → IsAdditionAt forest.now (T.disk site.old).files tree delta.now accepted batch
+        → IfOk result (λ next. IsWritten forest.now.schema (accepted ++ batch) (tree_of forest.now.mapping tree) first room.new.merged.items
+        (front_pages (T.disk site.old).files slot first) (front_pages (T.disk site.new).files slot next)) }
+    ensures writes { IsTrue T.tells → (accepted batch : List facts.Fact) → IsAdditionAt forest.now (T.disk site.old).files tree delta.now accepted batch
         → T.writes site.new ≤ T.writes site.old + length (tree_bytes forest.now.schema (accepted ++ batch) first (tree_of forest.now.mapping tree)) / 4096 }
-    ensures undamaged { IsTrue T.tells → (accepted batch : List facts.Fact) → AreAccepted forest.now.schema accepted
-        → AreAccepted forest.now.schema (accepted ++ batch)
-        → IsLive forest.now.schema forest.now.body accepted (T.disk site.old).files
-        → delta.now ≡ named_tree (names_of (accepted ++ batch)) forest.now.schema batch (tree_of forest.now.mapping tree)
+    ensures undamaged { IsTrue T.tells → (accepted batch : List facts.Fact) → IsAdditionAt forest.now (T.disk site.old).files tree delta.now accepted batch
         → IfErr result IsNoDamage }
 
     // Whatever the files hold.
     ensures joined { IsTrue T.tells → OnOk result (IsWholeFor forest.now (T.disk site.old).files tree delta.now) }
     ensures damaged { IsTrue T.tells → IfErr result (TellsDamageFor forest.now (T.disk site.old).files tree delta.now) }
     ensures names { IfErr result (NamesPageOf (place_of forest.now tree)) }
-    ensures row { OnOk result (room.new.rows.items ≡ room.old.rows.items ++ by_arity room.new.merged.items ∷ []) }
-    ensures rows { OnOk result (vec_len room.new.rows ≡ vec_len room.old.rows + 1) }
-    ensures numbers { (most : ℕ) → AreAdded (place_of forest.now tree).shape most delta.now
-        → OnOk result ((arity : ℕ) → arity < 9 → count_of arity room.new.merged.items ≤ forest.now.body.facts + most) }
-    ensures few { IfOk result (λ next. (first ≤ next) × (next ≤ first + 27 * 2 ^ 40)) }
-    ensures place { IsTrue T.tells → IfOk result (λ next. page_size * next ≤ length ((T.disk site.new).files (2 + slot))) }
-    ensures old_capacity { vec_capacity room.old.before ≤ vec_capacity room.new.before }
-    ensures capacity { vec_capacity room.old.merged ≤ vec_capacity room.new.merged }
-    ensures row_capacity { vec_capacity room.old.rows ≤ vec_capacity room.new.rows }
+    ensures row { OnOk result (HasRow forest.now tree delta.now room.old room.new) }
+    ensures next { IfOk result (λ next. EndsBefore T.Site slot first max_tree_pages next site.old site.new) }
+    ensures room { KeepsRoom room.old room.new }
     ensures disk { IsTrue T.tells → Changes (DiffersPast (2 + slot) (page_size * first)) (T.disk site.old) (T.disk site.new) }
-    ensures cause { HasCauseWhere RefreshStop.Disk (T.disk_faults site.old) (T.disk_faults site.new) result }
-    ensures told_faults { T.told_faults site.new ≡ T.told_faults site.old }
-    ensures reads { T.reads site.new ≤ T.reads site.old + (place_of forest.now tree).pages }
-    ensures wrote { IfOk result (λ next. T.writes site.new + first ≤ T.writes site.old + next) }
+    ensures calls { Calls T.Site (HasCauseWhere RefreshStop.Disk) ((place_of forest.now tree).pages) site.old site.new result }
 {
     merged_tree(
         site,
@@ -192,25 +149,21 @@ fn write_tree<T: Site>(
     entries: &[Entry],
     packer: &mut Packer,
 ) -> Result<u64, Fault>
-    requires slot { slot < 2 }
     requires shape { IsShape shape }
     requires points { AreTreePoints shape entries.now }
-    requires few { first + 3 * length entries.now ≤ max_pages }
-    requires place { IsTrue T.tells → page_size * first ≤ length ((T.disk site.old).files (2 + slot)) }
+    requires first { BeginsAt T.Site slot first (3 * length entries.now) site.old }
 
     ensures written { IsTrue T.tells → (views : Views) → AreTreeViews shape views entries.now
-        → IfOk result (λ next. take (page_size * next) ((T.disk site.new).files (2 + slot))
-        ≡ take (page_size * first) ((T.disk site.old).files (2 + slot)) ++ flat_map (page_bytes shape) (pages_of shape first views)) }
+        → IfOk result (λ next. front_pages (T.disk site.new).files slot next
+        ≡ front_pages (T.disk site.old).files slot first ++ flat_map (page_bytes shape) (pages_of shape first views)) }
     ensures number { (views : Views) → AreTreeViews shape views entries.now → IfOk result (λ next. next ≡ first + length (pages_of shape first views)) }
-    ensures place { IsTrue T.tells → IfOk result (λ next. page_size * next ≤ length ((T.disk site.new).files (2 + slot))) }
-    ensures few { IfOk result (λ next. (first ≤ next) × (next ≤ first + 3 * length entries.now)) }
+    ensures next { IfOk result (λ next. EndsBefore T.Site slot first (3 * length entries.now) next site.old site.new) }
     ensures disk { IsTrue T.tells → Changes (DiffersPast (2 + slot) (page_size * first)) (T.disk site.old) (T.disk site.new) }
     ensures cause { HasCause (T.disk_faults site.old) (T.disk_faults site.new) result }
     ensures told_faults { T.told_faults site.new ≡ T.told_faults site.old }
     ensures reads { T.reads site.new ≡ T.reads site.old }
     ensures writes { (views : Views) → AreTreeViews shape views entries.now
         → T.writes site.new ≤ T.writes site.old + length (pages_of shape first views) }
-    ensures wrote { IfOk result (λ next. T.writes site.new + first ≤ T.writes site.old + next) }
 {
     packer.start(shape, first);
     let mut page = [0; PAGE];

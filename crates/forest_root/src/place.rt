@@ -10,9 +10,7 @@ use crate::forest::Forest;
 use cube_point::Shape;
 use page_fmt::{Place, tree_pages};
 use select_map::Tree;
-
-/// The number of slot 0's side file; that of slot 1 is the next one.
-const SIDES: u32 = 2;
+use site_core::SIDES;
 
 impl Forest {
     /// Where the tree with this number lies: its pages stand behind those of all trees before it.

@@ -1,12 +1,15 @@
 -- What files with a live body keep while nothing is written.
-use Rattle.std.proofs.Common.{List, sym, subst, ◌∙◌}
+use Rattle.std.proofs.Common.{List, sym, ap, subst, ◌∙◌}
 use Rattle.site_core.specs.Disk.{Files, Disk}
 use Rattle.site_core.specs.Calls.{Rests}
-use Rattle.site_core.specs.Moments.{IsStable}
+use Rattle.site_core.specs.Moments.{HoldsNow, IsStable}
 use Rattle.fact_model.specs.declared.fact.Fact.{Fact}
 use Rattle.forest_root.specs.declared.body.Body.{Body}
+use Rattle.forest_root.specs.Keeps.{LiveAt}
+use Rattle.forest_root.specs.Root.{RootIsStable}
+use Rattle.forest_commit.specs.Commit.{IsLiveNow}
 use Rattle.cube_schema.specs.declared.schema.Schema.{Schema}
-use Rattle.forest_store.specs.Held.{IsLive, KeepsFacts}
+use Rattle.forest_store.specs.Held.{IsLive, KeepsFacts, held}
 use Rattle.forest_store.specs.Opened.{HasRoot, IsOpened}
 
 -- files with a live body keep its facts
@@ -18,6 +21,24 @@ pub rests_stable : (old new : Disk) → Rests old new → IsStable old → IsSta
 rests_stable old new rests stable = λ files left.
     let was = rests.time.now files left in was.2 ∙ (stable was.0 was.1 ∙ sym rests.files)
 
+-- and of the root file
+pub rests_root : (old new : Disk) → Rests old new → RootIsStable old → RootIsStable new
+rests_root old new rests stable = λ files left.
+    let was = rests.time.now files left in ap (λ (f : Files). f 0) was.2 ∙ (stable was.0 was.1 ∙ ap (λ (f : Files). f 0) (sym rests.files))
+
+pub all_stable : (disk : Disk) → IsStable disk → RootIsStable disk
+all_stable disk stable = λ files left. ap (λ (f : Files). f 0) (stable files left)
+
 -- what is known of opened files goes over such calls
 pub rests_opened : (live : Body) (old new : Disk) → Rests old new → IsOpened live old → IsOpened live new
-rests_opened live old new rests opened = record { stable = rests_stable old new rests opened.stable; root = subst (HasRoot live) (sym rests.files) opened.root }
+rests_opened live old new rests opened = record { stable = rests_root old new rests opened.stable; root = subst (HasRoot live) (sym rests.files) opened.root }
+
+-- a live body is in the same slot in the files as read and in all that a stop may leave
+pub live_now : (schema : Schema) (live : Body) (facts : List Fact) (disk : Disk) (now : HoldsNow (IsLive schema live facts) disk)
+    → IsLiveNow (held schema facts) now.read.slot live disk
+live_now schema live facts disk now = record {
+  read = now.read.at;
+  left = λ files left.
+      let is = now.left files left in
+      subst (λ slot. LiveAt (held schema facts) slot live files) (sym is.at.decodes.1.within.side ∙ now.read.at.decodes.1.within.side) is.at;
+}

@@ -6,9 +6,7 @@ use Rattle.fact_model.specs.declared.fact.Fact.{Fact}
 use Rattle.attr_dict.specs.Admitting.{Agrees as AgreesKinds, HasSmallCodes}
 use Rattle.attr_dict.specs.Book.{Book, IsBook, kind_at, names_at, no_names}
 use Rattle.attr_dict.specs.Entering.{after_entries}
-use Rattle.attr_dict.proofs.Books.{book-new}
-use Rattle.attr_dict.proofs.Kept.{all-agree, codes-narrow, kinds-after, names-after, names-enter}
-use Rattle.attr_dict.proofs.Rooms.{book-after}
+use Rattle.attr_dict.proofs.Kept.{all-agree, book-own, codes-narrow, kinds-after, names-after}
 use Rattle.cube_schema.specs.Agreeing.{Agrees}
 use Rattle.cube_schema.specs.declared.schema.Attr.{Attr}
 use Rattle.cube_schema.specs.declared.schema.Kind.{Kind}
@@ -54,7 +52,7 @@ module _ (schema : Schema) (facts : List Fact) (lawful : IsSchema schema) (accep
   few_names a low = omega (arith, accepted.named a, ap max_of (kinds_same schema a low))
 
   own_is_book : IsBook own_book
-  own_is_book = book-after (no_names schema) (names facts) (book-new schema lawful) (names-enter schema facts agree_kinds few_names)
+  own_is_book = book-own schema facts lawful agree_kinds few_names
 
   own_names_are : names_at own_book ≡ names_of facts
   own_names_are = λ i a. names-after schema facts agree_kinds few_names a i

@@ -1,9 +1,9 @@
 -- What a cache of pages gives.
-use Rattle.std.specs.Prelude.{◌≡◌, ◌==◌, ◌&&◌, ℕ, ◌+◌, ◌*◌, ◌<◌, ◌≤◌, Bool, List, length, Some}
+use Rattle.std.specs.Prelude.{◌≡◌, ◌==◌, ◌&&◌, ℕ, ◌+◌, ◌*◌, ◌<◌, ◌≤◌, Bool, List, length, IsSome, Some}
 use Rattle.std.specs.Map.{lookup}
 use Rattle.lru.specs.LruCache.{LruCache}
 use Rattle.page_fmt.specs.declared.page.TheConstants.{PAGE}
-use Rattle.tree_scan.specs.Steps.{IsPageOf}
+use Rattle.page_fmt.specs.InFiles.{IsPageOf}
 use Rattle.page_cache.specs.declared.cache.CacheStop.{CacheStop}
 use Rattle.page_cache.specs.declared.cache.CacheStop.TheVariants as stops
 
@@ -24,6 +24,10 @@ Name = ℕ × ℕ
 -- the same file and the same number
 abbrev pub same_name : Name → Name → Bool
 same_name a b = (a.0 == b.0) && (a.1 == b.1)
+
+-- a page with this name is in the map
+abbrev pub IsKept : Name → LruCache Name (List ℕ) → Type 0
+IsKept name map = IsSome (lookup (same_name name) map.entries)
 
 -- the page with this name is in the map, as a read of its file gives it
 pub record Holds (bytes : List ℕ) (name : Name) (map : LruCache Name (List ℕ)) : Type 0 where

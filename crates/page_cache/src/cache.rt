@@ -2,10 +2,11 @@
 
 ghost use Rattle.std.specs.Prelude.{◌≡◌, ◌<◌, ◌≤◌, ◌+◌, ◌*◌, ◌^◌, IsTrue, IfOk, IfErr, OnOk};
 ghost use Rattle.std.specs.Borrow.{sem};
-ghost use Rattle.site_core.specs.Calls.{Rests};
-ghost use Rattle.forest_root.specs.Causes.{HasCauseWhere};
-ghost use Rattle.tree_scan.specs.Steps.{IsPageOf};
-ghost use Rattle.page_cache.specs.Giving.{ExplainsStop, Holds};
+ghost use Rattle.std.specs.Result.{IsErrOf};
+ghost use Rattle.site_core.specs.Causes.{HasCauseWhere};
+ghost use Rattle.site_core.specs.Frames.{LooksOnly};
+ghost use Rattle.page_fmt.specs.InFiles.{IsPageOf};
+ghost use Rattle.page_cache.specs.Giving.{ExplainsStop, Holds, IsKept};
 
 use fact_model::Memory;
 use lru::LruCache;
@@ -73,17 +74,13 @@ impl Pages {
         ensures* same { sem 𝓛 (EndsSame self.entry) }
 
         // Whatever the file holds.
-        ensures disk { IsTrue T.tells → Rests (T.disk site.old) (T.disk site.new) }
-        ensures cause { HasCauseWhere CacheStop.Disk (T.disk_faults site.old) (T.disk_faults site.new) result }
-        ensures told_faults { T.told_faults site.new ≡ T.told_faults site.old }
-        ensures reads { T.reads site.new ≤ T.reads site.old + 1 }
-        ensures writes { T.writes site.new ≡ T.writes site.old }
+        ensures looks { LooksOnly T.Site (HasCauseWhere CacheStop.Disk) 1 site.old site.new result }
     {
         fetch(&mut self.last, site, file, number)?;
-        // It is there, since it was put there.
         match self.last.peek(&(file, number)) {
             Some(page) => Ok(page),
-            None => Err(CacheStop::Memory),
+            // It was put there.
+            None => unreachable!(),
         }
     }
 
@@ -109,11 +106,9 @@ fn fetch<T: Site>(
     ensures stop { IsTrue T.tells → IfErr result (ExplainsStop ((T.disk site.old).files file) number) }
 
     // Whatever the file holds.
-    ensures disk { IsTrue T.tells → Rests (T.disk site.old) (T.disk site.new) }
-    ensures cause { HasCauseWhere CacheStop.Disk (T.disk_faults site.old) (T.disk_faults site.new) result }
-    ensures told_faults { T.told_faults site.new ≡ T.told_faults site.old }
-    ensures reads { T.reads site.new ≤ T.reads site.old + 1 }
-    ensures writes { T.writes site.new ≡ T.writes site.old }
+    ensures there { OnOk result (IsKept (file, number) last.new) }
+    ensures memory { IsKept (file, number) last.old → IsErrOf result CacheStop.Memory → ⊥ }
+    ensures looks { LooksOnly T.Site (HasCauseWhere CacheStop.Disk) 1 site.old site.new result }
 {
     let mut page = [0; PAGE];
     if site.read(file, PAGE as u64 * number, &mut page)? < PAGE {

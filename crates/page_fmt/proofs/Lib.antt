@@ -2,8 +2,13 @@ pub mod Again
 pub mod Children
 pub mod Entries
 pub mod Fields
+pub mod Judged
 pub mod Laws
 pub mod Loops
-pub mod Vectors
+pub mod PageReads
+pub mod Passes
+pub mod Points
 pub mod Rooms
+pub mod TreeCounts
+pub mod Vectors
 pub mod Writes

@@ -1,7 +1,9 @@
 //! The bytes of a page of a packed tree: writing, reading, and the test that a page is one that was written.
 #![tactic(auto)]
 
+mod broken;
 mod inner;
+mod lawful;
 mod leaf;
 mod page;
 mod put;

@@ -28,7 +28,7 @@ fn coordinates_at(page: &[u8; 4096], arity: u8, at: usize) -> [u64; 8]
     all
 }
 
-fn part_at(page: &[u8; 4096], at: usize) -> Part
+pub(crate) fn part_at(page: &[u8; 4096], at: usize) -> Part
     requires { at + PART ≤ PAGE }
     ensures { result ≡ part_of (drop at page.now) }
 {
@@ -55,24 +55,33 @@ fn parts_at(page: &[u8; 4096], measures: u8, at: usize) -> [Part; 4]
     all
 }
 
-pub(crate) fn entry_at(page: &[u8; 4096], arity: u8, measures: u8, at: usize) -> Entry
+/// The point of the entry that begins at a place.
+pub(crate) fn point_at(page: &[u8; 4096], arity: u8, at: usize) -> Point
     requires arity { arity ≤ 8 }
-    requires measures { measures ≤ 4 }
-    requires place { at + entry_size arity measures ≤ PAGE }
-    ensures { result ≡ entry_of arity measures (drop at page.now) }
+    requires place { at + arity * COORDINATE ≤ PAGE }
+    ensures { (measures : ℕ) → result ≡ (entry_of arity measures (drop at page.now)).point }
 {
-    let after = at + arity as usize * COORDINATE;
-    let point = Point {
+    Point {
         arity,
         at: coordinates_at(page, arity, at),
-    };
+    }
+}
+
+fn entry_at(page: &[u8; 4096], shape: &Shape, arity: u8, at: usize) -> Entry
+    requires arity { arity ≤ 8 }
+    requires measures { shape.now.measures ≤ 4 }
+    requires place { at + entry_size arity shape.now.measures ≤ PAGE }
+    ensures { result ≡ entry_of arity shape.now.measures (drop at page.now) }
+{
+    let after = at + arity as usize * COORDINATE;
+    let point = point_at(page, arity, at);
     let count = take_u64(page, after);
-    let parts = parts_at(page, measures, after + COUNT);
+    let parts = parts_at(page, shape.measures, after + COUNT);
     Entry {
         point,
         cell: Cell {
             count,
-            measures,
+            measures: shape.measures,
             parts,
         },
     }
@@ -106,8 +115,8 @@ pub fn leaf_entry(bytes: &[u8; 4096], shape: &Shape, index: usize) -> Entry
     let arity = bytes[1];
     entry_at(
         bytes,
+        shape,
         arity,
-        shape.measures,
         HEADER + index * size_of_entry(arity, shape.measures),
     )
 }

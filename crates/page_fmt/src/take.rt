@@ -5,11 +5,10 @@ ghost use Rattle.page_fmt.specs.Taking.{judged, head_of, leaf_rules, inner_rules
 ghost use Rattle.page_fmt.specs.Lawful.{Content, IsLawful, IsWritten, content_bytes, content_head, IsHead};
 ghost use Rattle.page_fmt.specs.Writing.{IsPage};
 
+use crate::broken::{rule_of_children, rule_of_entries};
+use crate::lawful::{are_children_lawful, are_entries_lawful};
 use crate::page::{BadPage, Head, INNER, LEAF, Node};
-use crate::rules::{
-    are_all_below, are_all_boxes, are_all_positive, do_children_ascend, do_entries_ascend,
-    have_all_lawful_cells, is_lawful_count, is_padded,
-};
+use crate::rules::{is_lawful_count, is_padded};
 use crate::size::{size_of_child, size_of_entry};
 use byte_formats::take_u16;
 use cube_point::Shape;
@@ -31,14 +30,8 @@ fn take_leaf(bytes: &[u8; 4096], shape: &Shape) -> Result<Head, BadPage>
     if !is_padded(bytes, count as usize * size) {
         return Err(BadPage::Padding);
     }
-    if !are_all_positive(bytes, arity, shape.measures, count) {
-        return Err(BadPage::Zero);
-    }
-    if !do_entries_ascend(bytes, arity, shape.measures, count) {
-        return Err(BadPage::Order);
-    }
-    if !have_all_lawful_cells(bytes, arity, shape.measures, count) {
-        return Err(BadPage::Cell);
+    if !are_entries_lawful(bytes, shape, arity, count) {
+        return Err(rule_of_entries(bytes, shape, arity, count));
     }
     Ok(Head {
         node: Node::Leaf,
@@ -63,14 +56,8 @@ fn take_inner(bytes: &[u8; 4096], shape: &Shape, number: u64) -> Result<Head, Ba
     if !is_padded(bytes, count as usize * size) {
         return Err(BadPage::Padding);
     }
-    if !are_all_boxes(bytes, dims, count) {
-        return Err(BadPage::Order);
-    }
-    if !do_children_ascend(bytes, dims, count) {
-        return Err(BadPage::Child);
-    }
-    if !are_all_below(bytes, dims, count, number) {
-        return Err(BadPage::Child);
+    if !are_children_lawful(bytes, dims, count, number) {
+        return Err(rule_of_children(bytes, dims, count));
     }
     Ok(Head {
         node: Node::Inner,

@@ -18,13 +18,12 @@ Emits-part k bytes a b part = record {
   some = front_of k bytes a.told b.told part.some;
   files = part.files;
   time = record {
-    later = part.time.later;
+    clock = part.time.clock;
     now = part.time.now;
     since = λ t told files le left. elim (part.time.since t told files le left) [
       | inl past ↦ inl past
-      | inr now ↦ inr (front_of k bytes a.told told now.0, now.1)
+      | inr now ↦ inr (now.0, front_of k bytes a.told told now.1, now.2)
     ];
-    keeps = part.time.keeps;
   };
 }
 

@@ -12,7 +12,7 @@ use Rattle.page_fmt.proofs.Laws.{inner-children, is-lawful, leaf-entries}
 use Rattle.tree_pack.specs.Lawful.{AreLawful, content_of}
 use Rattle.tree_pack.specs.Pages.{PointPage, page_bytes}
 use Rattle.tree_pack.proofs.Bytes.{each-long}
-use Rattle.tree_scan.specs.Scanning.{page_at}
+use Rattle.page_fmt.specs.InFiles.{page_at}
 use Rattle.range_scan.specs.Visits.{held, held_if, page_of}
 
 module _ (shape : Shape) (bytes : List ℕ) where

@@ -16,7 +16,7 @@ use Rattle.page_fmt.specs.declared.page.Node.TheVariants as nodes
 use Rattle.page_fmt.specs.declared.page.Place.{Place}
 use Rattle.page_fmt.specs.Taking.{children, taken}
 use Rattle.page_fmt.proofs.Laws.{and-both, children-fall}
-use Rattle.tree_scan.specs.Scanning.{page_at}
+use Rattle.page_fmt.specs.InFiles.{page_at}
 use Rattle.range_scan.specs.Meeting.{is_met}
 use Rattle.range_scan.specs.Searching.{IsAnswer, IsFirstBad, IsSearched, IsSound, NamesPage}
 use Rattle.range_scan.specs.Steps.{ExplainsStop, IsVisited}

@@ -12,7 +12,7 @@ use Rattle.page_fmt.specs.declared.page.Node.TheVariants as nodes
 use Rattle.page_fmt.specs.declared.page.Place.{Place}
 use Rattle.page_fmt.specs.Taking.{children, entries, taken}
 use Rattle.tree_pack.specs.Pages.{PointPage}
-use Rattle.tree_scan.specs.Steps.{IsPageOf}
+use Rattle.page_fmt.specs.InFiles.{IsPageOf}
 use Rattle.range_scan.specs.Meeting.{is_inside}
 use Rattle.range_scan.specs.Searching.{IsSound, children_in}
 use Rattle.range_scan.specs.Steps.{IsVisited}

@@ -12,7 +12,7 @@ use Rattle.page_fmt.specs.declared.page.TheConstants.{PAGE}
 use Rattle.page_fmt.specs.Taking.{taken}
 use Rattle.page_fmt.specs.Writing.{FitsLeaf}
 use Rattle.tree_pack.specs.Pages.{PointPage}
-use Rattle.tree_scan.specs.Scanning.{page_at}
+use Rattle.page_fmt.specs.InFiles.{page_at}
 use Rattle.range_scan.specs.Visits.{found_in, page_of, visits}
 use Rattle.range_scan.specs.declared.walk.SearchStop.{SearchStop}
 use Rattle.range_scan.specs.declared.walk.SearchStop.TheVariants as stops

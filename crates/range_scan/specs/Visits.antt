@@ -12,7 +12,7 @@ use Rattle.page_fmt.specs.declared.page.Node.TheVariants as nodes
 use Rattle.page_fmt.specs.declared.page.Place.{Place}
 use Rattle.page_fmt.specs.Taking.{children, entries, taken}
 use Rattle.tree_pack.specs.Pages.{PointPage}
-use Rattle.tree_scan.specs.Scanning.{page_at}
+use Rattle.page_fmt.specs.InFiles.{page_at}
 use Rattle.range_scan.specs.Meeting.{is_inside, is_met}
 
 -- the entries or the children that a page of this kind holds

@@ -1,9 +1,9 @@
 //! The search: from the top page down to each child whose box meets the region, from left to right.
 
-ghost use Rattle.std.specs.Prelude.{◌≡◌, ◌<◌, ◌≤◌, ◌+◌, ◌^◌, IsTrue, IfOk, IfErr, OnOk, List, filter, length};
-ghost use Rattle.std.specs.List.{All};
-ghost use Rattle.site_core.specs.Calls.{Rests};
-ghost use Rattle.forest_root.specs.Causes.{HasCauseWhere};
+ghost use Rattle.std.specs.Prelude.{◌≡◌, ◌<◌, ◌≤◌, ◌+◌, ◌^◌, IsTrue, IfOk, IfErr, OnOk, List, filter, length, nat_eq};
+ghost use Rattle.std.specs.List.{All, IsDistinct};
+ghost use Rattle.site_core.specs.Causes.{HasCauseWhere};
+ghost use Rattle.site_core.specs.Frames.{LooksOnly};
 ghost use Rattle.cube_point.specs.declared.point.Entry as entries;
 ghost use Rattle.page_fmt.specs.Writing.{IsShape};
 ghost use Rattle.range_scan.specs.Meeting.{is_inside};
@@ -77,16 +77,15 @@ pub fn search<T: Site>(
         → IfOk result (λ found. found ≡ filter (is_inside region.now) points) }
     ensures undamaged { IsTrue T.tells → (points : List entries.Entry)
         → HoldsTree tree.now ((T.disk site.old).files tree.now.file) points → IfErr result IsUndamaged }
+    ensures once { IsTrue T.tells → (points : List entries.Entry)
+        → HoldsTree tree.now ((T.disk site.old).files tree.now.file) points
+        → IsDistinct nat_eq (visits tree.now region.now ((T.disk site.old).files tree.now.file)) }
 
     // Whatever the file holds.
     ensures hits { IfOk result (All (IsHit tree.now.shape region.now)) }
     ensures page { IfErr result (NamesPage tree.now.first tree.now.pages) }
     ensures cache { pages.new ≡ pages.old }
-    ensures disk { IsTrue T.tells → Rests (T.disk site.old) (T.disk site.new) }
-    ensures cause { HasCauseWhere SearchStop.Disk (T.disk_faults site.old) (T.disk_faults site.new) result }
-    ensures told_faults { T.told_faults site.new ≡ T.told_faults site.old }
-    ensures reads { T.reads site.new ≤ T.reads site.old + tree.now.pages }
-    ensures writes { T.writes site.new ≡ T.writes site.old }
+    ensures looks { LooksOnly T.Site (HasCauseWhere SearchStop.Disk) tree.now.pages site.old site.new result }
 {
     walk(alloc, site, pages, &Query { tree, region })
 }
@@ -109,11 +108,7 @@ fn walk<T: Site>(
     ensures hits { IfOk result (All (IsHit query.now.tree.now.shape query.now.region.now)) }
     ensures page { IfErr result (NamesPage query.now.tree.now.first query.now.tree.now.pages) }
     ensures cache { pages.new ≡ pages.old }
-    ensures disk { IsTrue T.tells → Rests (T.disk site.old) (T.disk site.new) }
-    ensures cause { HasCauseWhere SearchStop.Disk (T.disk_faults site.old) (T.disk_faults site.new) result }
-    ensures told_faults { T.told_faults site.new ≡ T.told_faults site.old }
-    ensures reads { T.reads site.new ≤ T.reads site.old + query.now.tree.now.pages }
-    ensures writes { T.writes site.new ≡ T.writes site.old }
+    ensures looks { LooksOnly T.Site (HasCauseWhere SearchStop.Disk) query.now.tree.now.pages site.old site.new result }
 {
     let mut walk = Progress {
         found: Vec::new(alloc),
@@ -169,11 +164,7 @@ fn visit<T: Site>(
     ensures hits { OnOk result (All (IsHit query.now.tree.now.shape query.now.region.now) walk.new.found.items) }
     ensures names { IfErr result (NamesPage number 1) }
     ensures cache { pages.new ≡ pages.old }
-    ensures disk { IsTrue T.tells → Rests (T.disk site.old) (T.disk site.new) }
-    ensures cause { HasCauseWhere SearchStop.Disk (T.disk_faults site.old) (T.disk_faults site.new) result }
-    ensures told_faults { T.told_faults site.new ≡ T.told_faults site.old }
-    ensures reads { T.reads site.new ≤ T.reads site.old + 1 }
-    ensures writes { T.writes site.new ≡ T.writes site.old }
+    ensures looks { LooksOnly T.Site (HasCauseWhere SearchStop.Disk) 1 site.old site.new result }
 {
     let page = match pages.page(site, query.tree.file, number) {
         Ok(page) => page,

@@ -56,6 +56,9 @@ module _ (now : Reading) (over : Bool) (place next : Place) (buffer slice rest f
   pub moved_whole : (more : List ℕ) → whole_with now more ≡ whole_with (reading over next (drop (at + count) fed)) more
   moved_whole more = ap (λ (r : Reading). whole_with r more) (sym view) ∙ from false more
 
+  pub moved_whole_back : (more : List ℕ) → whole_with (reading over next (drop (at + count) fed)) more ≡ whole_with now more
+  moved_whole_back more = sym (moved_whole more)
+
   module _ (inside : at + count ≢ end) (fits : count ≤ length rest) (window : IsReading at end buffer place)
       (last : Place) (command : Option Command) (gives : command ≡ (after_line next.block next.line).0)
       (is : last ≡ record { block = (after_line next.block next.line).1; line = [] }) where
@@ -89,16 +92,16 @@ module _ (now : Reading) (over : Bool) (place next : Place) (buffer slice rest f
         ∙ ap (λ (l : List ℕ). option_to_list command ++ commands_from over last l)
         (append-nil (drop (at + count + 1) fed))
 
--- what is given from there on is given from the start on
-module _ (start now : Reading) (so_far : (more : List ℕ) → to_come start more ≡ to_come now more) where
+-- what is given from there on is given from the start on, and what is kept is kept, for those to come and for those that are whole
+module _ (commands : Reading → List ℕ → List Command) (start now : Reading) (so_far : (more : List ℕ) → commands start more ≡ commands now more) where
   pub then_given : {E : Type 0} (r : Result (Option Command) E) (new : Reading)
-      → IfOk r (λ command. (more : List ℕ) → to_come now more ≡ option_to_list command ++ to_come new more)
-      → IfOk r (λ command. (more : List ℕ) → to_come start more ≡ option_to_list command ++ to_come new more)
+      → IfOk r (λ command. (more : List ℕ) → commands now more ≡ option_to_list command ++ commands new more)
+      → IfOk r (λ command. (more : List ℕ) → commands start more ≡ option_to_list command ++ commands new more)
   then_given (Ok command) new is = λ more. so_far more ∙ is more
   then_given (Err e) new is = tt
 
   pub then_kept : {T E : Type 0} (r : Result T E) (new : Reading)
-      → OnErr r ((more : List ℕ) → to_come new more ≡ to_come now more)
-      → OnErr r ((more : List ℕ) → to_come new more ≡ to_come start more)
+      → OnErr r ((more : List ℕ) → commands new more ≡ commands now more)
+      → OnErr r ((more : List ℕ) → commands new more ≡ commands start more)
   then_kept (Ok x) new is = tt
   then_kept (Err e) new is = λ more. is more ∙ sym (so_far more)

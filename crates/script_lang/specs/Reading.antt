@@ -68,6 +68,10 @@ IsFirstWhole old new command = (more : List ℕ) → whole_with old more ≡ opt
 abbrev pub StillToCome : Reading → Reading → Type 0
 StillToCome old new = (more : List ℕ) → to_come new more ≡ to_come old more
 
+-- the same commands are whole when more bytes are fed
+abbrev pub StillWhole : Reading → Reading → Type 0
+StillWhole old new = (more : List ℕ) → whole_with new more ≡ whole_with old more
+
 -- the same commands are whole
 abbrev pub StillReady : Reading → Reading → Type 0
 StillReady old new = ready new ≡ ready old

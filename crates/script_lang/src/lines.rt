@@ -2,7 +2,7 @@
 ghost use Rattle.std.specs.Prelude.{◌≡◌, ◌==◌, ◌<◌, ◌≤◌, [], true, false, IfOk, IfSome, OnOk, OnErr, length, take, vec_len, None};
 ghost use Rattle.script_lang.specs.Script.{KeepsLimit};
 ghost use Rattle.script_lang.specs.Place.{IsShort};
-ghost use Rattle.script_lang.specs.Reading.{nothing_read, with_more, Gives, IsFirstReady, IsFirstWhole, StillToCome, StillReady, ready};
+ghost use Rattle.script_lang.specs.Reading.{nothing_read, with_more, Gives, IsFirstReady, IsFirstWhole, StillToCome, StillWhole, StillReady, ready};
 
 use crate::command::Command;
 use crate::cuts::{between, front, place_of};
@@ -116,6 +116,7 @@ impl Lines {
         ensures read { IfOk result (λ command. command ≡ None → self.new.rest ≡ []) }
         ensures short { IsShort self.new.place }
         ensures kept { OnErr result (StillToCome self.old self.new) }
+        ensures kept_whole { OnErr result (StillWhole self.old self.new) }
         ensures kept_ready { OnErr result (StillReady self.old self.new) }
     {
         while !self.is_read() {
@@ -149,6 +150,7 @@ impl Lines {
         ensures whole { IfOk result (IsFirstWhole self.old self.new) }
         ensures short { IsShort self.new.place }
         ensures kept { OnErr result (StillToCome self.old self.new) }
+        ensures kept_whole { OnErr result (StillWhole self.old self.new) }
         ensures kept_ready { OnErr result (StillReady self.old self.new) }
     {
         let rest = between(self.fed.as_slice(), self.at, self.end);
@@ -175,6 +177,7 @@ impl Lines {
         ensures read { self.new.rest ≡ [] }
         ensures short { IsShort self.new.place }
         ensures kept { OnErr result (StillToCome self.old self.new) }
+        ensures kept_whole { OnErr result (StillWhole self.old self.new) }
         ensures kept_ready { OnErr result (StillReady self.old self.new) }
     {
         if !self.reader.is_between() {

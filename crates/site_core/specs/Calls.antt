@@ -1,5 +1,5 @@
 -- What the calls of a site do.
-use Rattle.std.specs.Prelude.{◌≡◌, ℕ, ◌-◌, min, List, ◌++◌, length, take, drop}
+use Rattle.std.specs.Prelude.{◌≡◌, ℕ, ◌-◌, min, List, ◌++◌, length, take, drop, Result, OnOk}
 use Rattle.site_core.specs.Disk.{Files, Disk, Torn}
 use Rattle.site_core.specs.Moments.{Elapses}
 
@@ -25,6 +25,12 @@ pub record Changes (step : Files → Files → Type 0) (old new : Disk) : Type 0
 -- nothing is changed
 abbrev pub Rests : Disk → Disk → Type 0
 Rests old new = Changes Stays old new
+
+-- The same of calls of which one is a sync: where it fails, a read gives only what a stop may leave.
+pub record Settles {A E : Type 0} (step : Files → Files → Type 0) (old new : Disk) (result : Result A E) : Type 0 where
+  pub files : OnOk result (step old.files new.files)
+  pub told : new.told ≡ old.told
+  pub time : Elapses TellsNothing step old new
 
 -- a write of these bytes, whether it succeeds or fails: also a read may give anything in the range
 abbrev pub Writes : ℕ → ℕ → List ℕ → Disk → Disk → Type 0

@@ -6,5 +6,5 @@
 mod site;
 mod source;
 
-pub use site::{Fault, Site};
+pub use site::{Fault, NAMES, ROOT, SIDES, Site};
 pub use source::Source;

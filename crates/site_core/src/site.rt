@@ -3,7 +3,16 @@ ghost use Rattle.std.specs.Prelude.{◌≡◌, ◌<◌, ◌≤◌, ◌+◌, ◌�
 ghost use Rattle.site_core.specs.Causes.{HasCause, Rose};
 ghost use Rattle.site_core.specs.Disk.{Files, Disk, with_file, overwritten};
 ghost use Rattle.site_core.specs.Moments.{IsStable};
-ghost use Rattle.site_core.specs.Calls.{Rests, Fills, Writes, Emits};
+ghost use Rattle.site_core.specs.Calls.{Rests, Stays, Settles, Fills, Writes, Emits};
+
+/// The number of the root file.
+pub const ROOT: u32 = 0;
+
+/// The number of the names file.
+pub const NAMES: u32 = 1;
+
+/// The number of the first side file; that of the second is the next one.
+pub const SIDES: u32 = 2;
 
 /// A call failed, and the count of such faults of the object that was asked has risen.
 #[derive(Clone, Copy, Debug, PartialEq, Eq)]
@@ -77,10 +86,10 @@ pub trait Site {
         ensures one { writes self.new ≤ writes self.old + 1 };
 
     /// Makes all that was written stable: a stop right afterwards leaves what a read gives. After a fault nothing has
-    /// become stable.
+    /// become stable, and a read may give any of what a stop may leave: a system may drop what it could not write.
     fn sync(&mut self) -> Result<(), Fault>
         ensures stable { IsTrue tells → OnOk result (IsStable (disk self.new)) }
-        ensures disk { IsTrue tells → Rests (disk self.old) (disk self.new) }
+        ensures disk { IsTrue tells → Settles Stays (disk self.old) (disk self.new) result }
         ensures cause { HasCause (disk_faults self.old) (disk_faults self.new) result }
         ensures told_faults { told_faults self.new ≡ told_faults self.old }
         ensures reads { reads self.new ≡ reads self.old }

@@ -1,10 +1,11 @@
 -- An output in two parts.
-use Rattle.std.proofs.Common.{◌≡◌, ◌+◌, ℕ, List, ◌++◌, take, drop, sym, ◌∙◌, ap, subst, arith, inl, inr}
+use Rattle.std.proofs.Common.{◌≡◌, ◌+◌, ℕ, List, ◌++◌, take, drop, sym, ◌∙◌, ap, subst, arith, inl, inr, ⊎_elim}
 use Rattle.std.proofs.lemmas.List.{append_assoc}
 use Rattle.std.proofs.Math.Seq.{take-add}
 use Rattle.site_core.specs.Disk.{Files, Disk}
 use Rattle.site_core.specs.Calls.{Emits, Stays, TellsFront}
 use Rattle.site_core.specs.Moments.{After}
+use Rattle.site_core.proofs.Run.{GoesOn-then}
 
 -- a front of what is left is told behind the first bytes
 pub front-then : (bytes : List ℕ) (c : ℕ) (a b d : List ℕ) → b ≡ a ++ take c bytes → TellsFront (drop c bytes) b d → TellsFront bytes a d
@@ -25,13 +26,12 @@ Emits-then bytes c part a b d rest is first so_called =
       some = front-then bytes c a.told b.told d.told is second.some;
       files = second.files ∙ first.files;
       time = record {
-        later = omega (arith, first.time.later, second.time.later);
+        clock = GoesOn-then a b d first.time.clock second.time.clock;
         now = λ files left. after files (second.time.now files left);
-        since = λ t told files le left. elim (second.time.since t told files (omega (arith, le, first.time.later)) left) [
-          | inl past ↦ first.time.since t told files le past
-          | inr now ↦ inr (front-then bytes c a.told b.told told is now.0, after files now.1)
+        since = λ t told files le left. elim (second.time.since t told files (omega (arith, le, first.time.clock.later)) left) [
+          | inl past ↦ ⊎_elim inl (λ now. inr (second.time.clock.keeps a.clock told files first.time.clock.later now.0, now.1, now.2)) (first.time.since t told files le past)
+          | inr now ↦ inr (d.earlier a.clock b.clock told files first.time.clock.later now.0, front-then bytes c a.told b.told told is now.1, after files now.2)
         ];
-        keeps = λ t told files le left. second.time.keeps t told files (omega (arith, le, first.time.later)) (first.time.keeps t told files le left);
       };
     }
 

@@ -1,4 +1,6 @@
+pub mod Faults
 pub mod Finding
+pub mod Frames
 pub mod Ledger
 pub mod Names
 pub mod Reads

@@ -1,10 +1,11 @@
 //! What a site asks of its host, in calls of the system.
 ghost use Rattle.std.specs.Prelude.{◌≡◌, ◌<◌, ◌≤◌, ◌+◌, ◌++◌, ◌⊎◌, ◌^◌, ◌↔◌, IsTrue, length, IfOk, OnOk};
 ghost use Rattle.std.specs.IoError.{error_kind};
-ghost use Rattle.site_core.specs.Calls.{Rests, Fills, Writes, Emits};
-ghost use Rattle.site_core.specs.Causes.{HasCause};
+ghost use Rattle.site_core.specs.Calls.{Rests, Settles, Stays, Fills, Writes, Emits};
 ghost use Rattle.site_core.specs.Disk.{with_file, overwritten};
+ghost use Rattle.site_folder.specs.Faults.{FaultsOf};
 ghost use Rattle.site_folder.specs.Finding.{IsFound};
+ghost use Rattle.site_folder.specs.Frames.{LooksOnly};
 ghost use Rattle.site_folder.specs.Ledger.{AreSyncedTo, IsAllSynced, Keeps, KeepsOthers};
 
 use crate::host::Host;
@@ -16,10 +17,7 @@ pub fn find<H: Host>(host: &mut H, file: u32) -> io::Result<bool>
     requires { file < 4 }
     ensures found { IfOk result (IsFound file (H.ledger host.new)) }
     ensures absent { IsTrue H.tells → IfOk result (λ is_there. IsTrue is_there ⊎ (length ((H.disk host.old).files file) ≡ 0)) }
-    ensures keeps { Keeps (H.ledger host.old) (H.ledger host.new) }
-    ensures cause { HasCause (H.disk_faults host.old) (H.disk_faults host.new) result }
-    ensures told_faults { H.told_faults host.new ≡ H.told_faults host.old }
-    ensures disk { IsTrue H.tells → Rests (H.disk host.old) (H.disk host.new) }
+    ensures looks { LooksOnly H.Host host.old host.new result }
 {
     match host.open(file) {
         Ok(()) => Ok(true),
@@ -42,10 +40,7 @@ pub fn fill<H: Host>(host: &mut H, file: u32, at: u64, into: &mut [u8]) -> io::R
     requires open { IsTrue ((H.ledger host.old).opened file) }
     ensures bound { IfOk result (λ count. count ≤ length into.new) }
     ensures answer { IsTrue H.tells → IfOk result (λ count. Fills ((H.disk host.old).files file) at count into.new) }
-    ensures keeps { Keeps (H.ledger host.old) (H.ledger host.new) }
-    ensures cause { HasCause (H.disk_faults host.old) (H.disk_faults host.new) result }
-    ensures told_faults { H.told_faults host.new ≡ H.told_faults host.old }
-    ensures disk { IsTrue H.tells → Rests (H.disk host.old) (H.disk host.new) }
+    ensures looks { LooksOnly H.Host host.old host.new result }
 {
     if is_too_far(at, into.len()) {
         return Err(host.too_far(at, into.len()));
@@ -69,8 +64,7 @@ pub fn put<H: Host>(host: &mut H, file: u32, at: u64, bytes: &[u8]) -> io::Resul
     ensures written { IsTrue H.tells → OnOk result ((H.disk host.new).files
         ≡ with_file (H.disk host.old).files file (overwritten ((H.disk host.old).files file) at bytes.now)) }
     ensures keeps { KeepsOthers file (H.ledger host.old) (H.ledger host.new) }
-    ensures cause { HasCause (H.disk_faults host.old) (H.disk_faults host.new) result }
-    ensures told_faults { H.told_faults host.new ≡ H.told_faults host.old }
+    ensures faults { FaultsOf H.disk_faults H.told_faults host.old host.new result }
     ensures disk { IsTrue H.tells → Writes file at bytes.now (H.disk host.old) (H.disk host.new) }
 {
     if is_too_far(at, bytes.len()) {
@@ -88,8 +82,7 @@ pub fn tell<H: Host>(host: &mut H, bytes: &[u8]) -> io::Result<()>
     ensures told { IsTrue H.tells → OnOk result ((H.disk host.new).told ≡ (H.disk host.old).told ++ bytes.now) }
     ensures flushed { OnOk result (IsTrue (H.ledger host.new).flushed) }
     ensures keeps { Keeps (H.ledger host.old) (H.ledger host.new) }
-    ensures cause { HasCause (H.told_faults host.old) (H.told_faults host.new) result }
-    ensures disk_faults { H.disk_faults host.new ≡ H.disk_faults host.old }
+    ensures faults { FaultsOf H.told_faults H.disk_faults host.old host.new result }
     ensures disk { IsTrue H.tells → Emits bytes.now (H.disk host.old) (H.disk host.new) }
 {
     let mut count = 0;
@@ -103,9 +96,8 @@ pub fn tell<H: Host>(host: &mut H, bytes: &[u8]) -> io::Result<()>
 pub fn sync_files<H: Host>(host: &mut H) -> io::Result<()>
     ensures synced { OnOk result (AreSyncedTo 4 (H.ledger host.new)) }
     ensures keeps { Keeps (H.ledger host.old) (H.ledger host.new) }
-    ensures cause { HasCause (H.disk_faults host.old) (H.disk_faults host.new) result }
-    ensures told_faults { H.told_faults host.new ≡ H.told_faults host.old }
-    ensures disk { IsTrue H.tells → Rests (H.disk host.old) (H.disk host.new) }
+    ensures faults { FaultsOf H.disk_faults H.told_faults host.old host.new result }
+    ensures disk { IsTrue H.tells → Settles Stays (H.disk host.old) (H.disk host.new) result }
 {
     for file in 0..4u32 {
         sync_file(host, file)?;
@@ -118,9 +110,8 @@ fn sync_file<H: Host>(host: &mut H, file: u32) -> io::Result<()>
     requires { file < 4 }
     ensures synced { OnOk result (IsTrue ((H.ledger host.new).synced file)) }
     ensures keeps { Keeps (H.ledger host.old) (H.ledger host.new) }
-    ensures cause { HasCause (H.disk_faults host.old) (H.disk_faults host.new) result }
-    ensures told_faults { H.told_faults host.new ≡ H.told_faults host.old }
-    ensures disk { IsTrue H.tells → Rests (H.disk host.old) (H.disk host.new) }
+    ensures faults { FaultsOf H.disk_faults H.told_faults host.old host.new result }
+    ensures disk { IsTrue H.tells → Settles Stays (H.disk host.old) (H.disk host.new) result }
 {
     if find(host, file)? {
         return host.sync_file(file);

@@ -1,10 +1,11 @@
 //! Where the files lie and the replies go.
 ghost use Rattle.std.specs.Prelude.{◌≡◌, ◌≢◌, ◌<◌, ◌≤◌, ◌+◌, ◌^◌, ◌++◌, ℕ, List, Bool, IsTrue, length, take, IfOk, IfErr, OnOk};
 ghost use Rattle.std.specs.IoError.{error_kind};
-ghost use Rattle.site_core.specs.Calls.{Rests, Writes, Emits};
-ghost use Rattle.site_core.specs.Causes.{HasCause, Rose};
+ghost use Rattle.site_core.specs.Calls.{Rests, Settles, Stays, Writes, Emits};
+ghost use Rattle.site_core.specs.Causes.{Rose};
 ghost use Rattle.site_core.specs.Disk.{Files, Disk, with_file, overwritten};
 ghost use Rattle.site_core.specs.Moments.{IsStable};
+ghost use Rattle.site_folder.specs.Faults.{FaultsOf};
 ghost use Rattle.site_folder.specs.Ledger.{IsAllSynced, Keeps, KeepsFiles, KeepsOthers, Ledger};
 ghost use Rattle.site_folder.specs.Reads.{ReadsAt};
 
@@ -52,8 +53,7 @@ pub trait Host {
         requires { file < 4 }
         ensures opened { OnOk result (IsTrue ((ledger self.new).opened file)) }
         ensures keeps { KeepsFiles (ledger self.old) (ledger self.new) }
-        ensures cause { HasCause (disk_faults self.old) (disk_faults self.new) result }
-        ensures told_faults { told_faults self.new ≡ told_faults self.old }
+        ensures faults { FaultsOf disk_faults told_faults self.old self.new result }
         ensures disk { IsTrue tells → Rests (disk self.old) (disk self.new) };
 
     /// The length of an open file in bytes.
@@ -62,8 +62,7 @@ pub trait Host {
         requires open { IsTrue ((ledger self.old).opened file) }
         ensures answer { IsTrue tells → IfOk result (λ count. count ≡ length ((disk self.old).files file)) }
         ensures keeps { Keeps (ledger self.old) (ledger self.new) }
-        ensures cause { HasCause (disk_faults self.old) (disk_faults self.new) result }
-        ensures told_faults { told_faults self.new ≡ told_faults self.old }
+        ensures faults { FaultsOf disk_faults told_faults self.old self.new result }
         ensures disk { IsTrue tells → Rests (disk self.old) (disk self.new) };
 
     /// One read of an open file from a place on: some of the bytes there, and none only at the file's end.
@@ -74,8 +73,7 @@ pub trait Host {
         ensures bound { IfOk result (λ count. count ≤ length into.new) }
         ensures answer { IsTrue tells → IfOk result (λ count. ReadsAt ((disk self.old).files file) at count into.new) }
         ensures keeps { Keeps (ledger self.old) (ledger self.new) }
-        ensures cause { HasCause (disk_faults self.old) (disk_faults self.new) result }
-        ensures told_faults { told_faults self.new ≡ told_faults self.old }
+        ensures faults { FaultsOf disk_faults told_faults self.old self.new result }
         ensures disk { IsTrue tells → Rests (disk self.old) (disk self.new) };
 
     /// One write of an open file at a place: some of the first of these bytes, and none only in a fault. After a fault any part may have been
@@ -90,8 +88,7 @@ pub trait Host {
         ensures written { IsTrue tells → IfOk result (λ count. (disk self.new).files
             ≡ with_file (disk self.old).files file (overwritten ((disk self.old).files file) at (take count bytes.now))) }
         ensures keeps { KeepsOthers file (ledger self.old) (ledger self.new) }
-        ensures cause { HasCause (disk_faults self.old) (disk_faults self.new) result }
-        ensures told_faults { told_faults self.new ≡ told_faults self.old }
+        ensures faults { FaultsOf disk_faults told_faults self.old self.new result }
         ensures disk { IsTrue tells → Writes file at bytes.now (disk self.old) (disk self.new) };
 
     /// The fault of a place so many bytes behind another that no call can name, since it is no `u64`.
@@ -103,23 +100,21 @@ pub trait Host {
         ensures keeps { Keeps (ledger self.old) (ledger self.new) }
         ensures disk { IsTrue tells → Rests (disk self.old) (disk self.new) };
 
-    /// Syncs an open file.
+    /// Syncs an open file. After a fault a read may give any of what a stop may leave: a system may drop what it could not write.
     fn sync_file(&mut self, file: u32) -> io::Result<()>
         requires file { file < 4 }
         requires open { IsTrue ((ledger self.old).opened file) }
         ensures synced { OnOk result (IsTrue ((ledger self.new).synced file)) }
         ensures keeps { Keeps (ledger self.old) (ledger self.new) }
-        ensures cause { HasCause (disk_faults self.old) (disk_faults self.new) result }
-        ensures told_faults { told_faults self.new ≡ told_faults self.old }
-        ensures disk { IsTrue tells → Rests (disk self.old) (disk self.new) };
+        ensures faults { FaultsOf disk_faults told_faults self.old self.new result }
+        ensures disk { IsTrue tells → Settles Stays (disk self.old) (disk self.new) result };
 
-    /// Syncs the folder, so that files which were made are found again.
+    /// Syncs the folder, so that files which were made are found again. After a fault the same holds as for a file.
     fn sync_folder(&mut self) -> io::Result<()>
         ensures listed { OnOk result (IsTrue (ledger self.new).listed) }
         ensures keeps { Keeps (ledger self.old) (ledger self.new) }
-        ensures cause { HasCause (disk_faults self.old) (disk_faults self.new) result }
-        ensures told_faults { told_faults self.new ≡ told_faults self.old }
-        ensures disk { IsTrue tells → Rests (disk self.old) (disk self.new) };
+        ensures faults { FaultsOf disk_faults told_faults self.old self.new result }
+        ensures disk { IsTrue tells → Settles Stays (disk self.old) (disk self.new) result };
 
     /// One write of the output: some of the first of these bytes, and none only in a fault. The output may hold them back.
     fn put(&mut self, bytes: &[u8]) -> io::Result<usize>
@@ -128,16 +123,14 @@ pub trait Host {
         ensures bound { IfOk result (λ count. count ≤ length bytes.now) }
         ensures told { IsTrue tells → IfOk result (λ count. (disk self.new).told ≡ (disk self.old).told ++ take count bytes.now) }
         ensures keeps { Keeps (ledger self.old) (ledger self.new) }
-        ensures cause { HasCause (told_faults self.old) (told_faults self.new) result }
-        ensures disk_faults { disk_faults self.new ≡ disk_faults self.old }
+        ensures faults { FaultsOf told_faults disk_faults self.old self.new result }
         ensures disk { IsTrue tells → Emits bytes.now (disk self.old) (disk self.new) };
 
     /// Gives out what the output holds back.
     fn flush(&mut self) -> io::Result<()>
         ensures flushed { OnOk result (IsTrue (ledger self.new).flushed) }
         ensures keeps { Keeps (ledger self.old) (ledger self.new) }
-        ensures cause { HasCause (told_faults self.old) (told_faults self.new) result }
-        ensures disk_faults { disk_faults self.new ≡ disk_faults self.old }
+        ensures faults { FaultsOf told_faults disk_faults self.old self.new result }
         ensures disk { IsTrue tells → Rests (disk self.old) (disk self.new) };
 
     /// What a read gives now is among what a stop now may leave.

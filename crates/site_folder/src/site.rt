@@ -1,9 +1,10 @@
 //! The site over a host.
 ghost use Rattle.std.specs.Prelude.{◌≡◌, ◌<◌, ◌≤◌, ◌+◌, ◌++◌, ℕ, IsTrue, length, IfOk, IsErr, OnErr, OnOk};
-ghost use Rattle.site_core.specs.Calls.{Rests, Fills, Writes, Emits};
-ghost use Rattle.site_core.specs.Causes.{HasCause};
+ghost use Rattle.site_core.specs.Calls.{Rests, Settles, Stays, Fills, Writes, Emits};
 ghost use Rattle.site_core.specs.Disk.{with_file, overwritten};
 ghost use Rattle.site_core.specs.Moments.{IsStable};
+ghost use Rattle.site_folder.specs.Faults.{FaultsOf};
+ghost use Rattle.site_folder.specs.Frames.{LooksOnly};
 ghost use Rattle.site_folder.specs.Ledger.{IsAllSynced, Keeps};
 
 use crate::calls::{fill, find, put, sync_files, tell};
@@ -54,10 +55,7 @@ fn answer<T: Drop>(outcome: io::Result<T>) -> Result<T, Fault>
 fn length_of<H: Host>(host: &mut H, file: u32) -> io::Result<u64>
     requires { file < 4 }
     ensures answer { IsTrue H.tells → IfOk result (λ count. count ≡ length ((H.disk host.old).files file)) }
-    ensures keeps { Keeps (H.ledger host.old) (H.ledger host.new) }
-    ensures cause { HasCause (H.disk_faults host.old) (H.disk_faults host.new) result }
-    ensures told_faults { H.told_faults host.new ≡ H.told_faults host.old }
-    ensures disk { IsTrue H.tells → Rests (H.disk host.old) (H.disk host.new) }
+    ensures looks { LooksOnly H.Host host.old host.new result }
 {
     if find(host, file)? {
         return host.length(file);
@@ -70,10 +68,7 @@ fn read_from<H: Host>(host: &mut H, file: u32, at: u64, into: &mut [u8]) -> io::
     requires { file < 4 }
     ensures bound { IfOk result (λ count. count ≤ length into.new) }
     ensures answer { IsTrue H.tells → IfOk result (λ count. Fills ((H.disk host.old).files file) at count into.new) }
-    ensures keeps { Keeps (H.ledger host.old) (H.ledger host.new) }
-    ensures cause { HasCause (H.disk_faults host.old) (H.disk_faults host.new) result }
-    ensures told_faults { H.told_faults host.new ≡ H.told_faults host.old }
-    ensures disk { IsTrue H.tells → Rests (H.disk host.old) (H.disk host.new) }
+    ensures looks { LooksOnly H.Host host.old host.new result }
 {
     if find(host, file)? {
         return fill(host, file, at, into);
@@ -87,8 +82,7 @@ fn find_or_make<H: Host>(host: &mut H, is_listed: &mut bool, file: u32) -> io::R
     requires listed { IsTrue is_listed.old → IsTrue (H.ledger host.old).listed }
     ensures opened { OnOk result (IsTrue ((H.ledger host.new).opened file)) }
     ensures listed { IsTrue is_listed.new → IsTrue (H.ledger host.new).listed }
-    ensures cause { HasCause (H.disk_faults host.old) (H.disk_faults host.new) result }
-    ensures told_faults { H.told_faults host.new ≡ H.told_faults host.old }
+    ensures faults { FaultsOf H.disk_faults H.told_faults host.old host.new result }
     ensures disk { IsTrue H.tells → Rests (H.disk host.old) (H.disk host.new) }
 {
     if find(host, file)? {
@@ -112,8 +106,7 @@ fn write_to<H: Host>(
     ensures written { IsTrue H.tells → OnOk result ((H.disk host.new).files
         ≡ with_file (H.disk host.old).files file (overwritten ((H.disk host.old).files file) at bytes.now)) }
     ensures listed { IsTrue is_listed.new → IsTrue (H.ledger host.new).listed }
-    ensures cause { HasCause (H.disk_faults host.old) (H.disk_faults host.new) result }
-    ensures told_faults { H.told_faults host.new ≡ H.told_faults host.old }
+    ensures faults { FaultsOf H.disk_faults H.told_faults host.old host.new result }
     ensures disk { IsTrue H.tells → Writes file at bytes.now (H.disk host.old) (H.disk host.new) }
 {
     find_or_make(host, is_listed, file)?;
@@ -126,9 +119,8 @@ fn sync_all<H: Host>(host: &mut H, is_listed: &mut bool) -> io::Result<()>
     ensures synced { OnOk result (IsAllSynced (H.ledger host.new)) }
     ensures stable { IsTrue H.tells → OnOk result (IsStable (H.disk host.new)) }
     ensures listed { IsTrue is_listed.new → IsTrue (H.ledger host.new).listed }
-    ensures cause { HasCause (H.disk_faults host.old) (H.disk_faults host.new) result }
-    ensures told_faults { H.told_faults host.new ≡ H.told_faults host.old }
-    ensures disk { IsTrue H.tells → Rests (H.disk host.old) (H.disk host.new) }
+    ensures faults { FaultsOf H.disk_faults H.told_faults host.old host.new result }
+    ensures disk { IsTrue H.tells → Settles Stays (H.disk host.old) (H.disk host.new) result }
 {
     sync_files(host)?;
     if !*is_listed {

@@ -24,13 +24,12 @@ module _ (tells : List ℕ → List ℕ → Type 0) (step : Files → Files → 
 
     elapses : Elapses tells step (changed_disk now out changes) (changed_disk new more (change ∷ changes))
     elapses = record {
-      later = omega arith;
+      clock = record { later = omega arith; keeps = λ t told files le left. inl (forth t told files left) };
       now = λ files left. (now, refl, subst (step now) (sym left) stepped);
       since = λ t told files le left. elim left [
         | inl past ↦ inl (back t told files past)
-        | inr here ↦ inr (subst (tells out) (sym here.1) telling, (now, refl, subst (step now) (sym here.2) stepped))
+        | inr here ↦ inr (inr (omega arith, here.1, here.2), subst (tells out) (sym here.1) telling, (now, refl, subst (step now) (sym here.2) stepped))
       ];
-      keeps = λ t told files le left. inl (forth t told files left);
     }
 
 -- a file that is given back its old bytes

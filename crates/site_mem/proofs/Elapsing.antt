@@ -3,54 +3,61 @@ use Rattle.std.proofs.Common.{◌≡◌, inl, inr, ℕ, List, [], ◌∷◌, ◌
 use Rattle.std.proofs.lemmas.List.{take_all, reverse-append}
 use Rattle.site_core.specs.Disk.{Files, Disk, Torn}
 use Rattle.site_core.specs.Calls.{Rests, Writes, Emits, TellsNothing, TellsFront, Stays}
-use Rattle.site_core.specs.Moments.{Elapses}
+use Rattle.site_core.specs.Moments.{After, Elapses}
 use Rattle.site_core.proofs.Files.{Torn-refl, Torn-overwritten}
+use Rattle.site_core.proofs.Run.{GoesOn-refl}
 use Rattle.site_mem.specs.declared.step.Range.{Range}
 use Rattle.site_mem.specs.declared.step.Step.{Step}
 use Rattle.site_mem.specs.declared.step.Step.TheVariants.{Wrote, Tore, Synced, Told, Untold}
 use Rattle.site_mem.specs.Fields.{Notes, NotesBytes}
-use Rattle.site_mem.specs.History.{read_after, told_after, disk_of}
+use Rattle.site_mem.specs.History.{read_after, told_after, MayLeave, Inside, disk_of}
 use Rattle.site_mem.specs.Laws.{read_now}
 
 -- nothing is recorded
 pub stands : (tells : List ℕ → List ℕ → Type 0) (step : Files → Files → Type 0) → ((files : Files) → step files files) → (disk : Disk) → Elapses tells step disk disk
-stands tells step same disk = record { later = omega arith; now = λ files left. (files, left, same files); since = λ t told files le left. inl left; keeps = λ t told files le left. left }
+stands tells step same disk = record { clock = GoesOn-refl disk; now = λ files left. (files, left, same files); since = λ t told files le left. inl left }
+
+-- one step more, which tells by `tells` and changes files by `changes`
+module _ (first : Files) (steps : List Step) (step : Step) (tells : List ℕ → List ℕ → Type 0) (changes : Files → Files → Type 0)
+    (inside : (told : List ℕ) (files : Files) → Inside first step steps told files → tells (told_after steps) told × After changes (disk_of first steps) files)
+    (telling : tells (told_after steps) (told_after (step ∷ steps)))
+    (after : (files : Files) → MayLeave first (step ∷ steps) files → After changes (disk_of first steps) files)
+  where
+    stepped : Elapses tells changes (disk_of first steps) (disk_of first (step ∷ steps))
+    stepped = record {
+      clock = record { later = omega arith; keeps = λ t told files le left. inl left };
+      now = after;
+      since = λ t told files le left. elim left [
+        | inl past ↦ inl past
+        | inr (inl within) ↦ let is = inside told files within.1 in inr (inr (inl (omega arith, within.1)), is.0, is.1)
+        | inr (inr now) ↦ inr (inr (inr (omega arith, now.1, now.2)), subst (tells (told_after steps)) (sym now.1) telling, after files now.2)
+      ];
+    }
 
 Rests-synced : (first : Files) (steps : List Step) → Rests (disk_of first steps) (disk_of first (Synced ∷ steps))
 Rests-synced first steps = record {
   files = refl;
   told = refl;
-  time = record {
-    later = omega arith;
-    now = λ files left. (read_after first steps, read_now first steps, left);
-    since = λ t told files le left. elim left [ inl past ↦ inl past | inr (inl inside) ↦ absurd inside.1 | inr (inr now) ↦ inr (now.1, (read_after first steps, read_now first steps, now.2)) ];
-    keeps = λ t told files le left. inl left;
-  };
+  time = stepped first steps Synced TellsNothing Stays (λ told files none. absurd none) refl (λ files left. (read_after first steps, read_now first steps, left));
 }
 
 Writes-wrote : (first : Files) (steps : List Step) (r : Range) → Writes r.file r.at r.bytes (disk_of first steps) (disk_of first (Wrote r ∷ steps))
-Writes-wrote first steps r = record {
-  files = Torn-overwritten (read_after first steps) r.file r.at r.bytes;
-  told = refl;
-  time = record {
-    later = omega arith;
-    now = λ files left. left;
-    since = λ t told files le left. elim left [ inl past ↦ inl past | inr (inl inside) ↦ absurd inside.1 | inr (inr now) ↦ inr (now.1, now.2) ];
-    keeps = λ t told files le left. inl left;
-  };
-}
+Writes-wrote first steps r =
+    let step = Torn r.file r.at (length r.bytes) (length (read_after first steps r.file)) in
+    record {
+      files = Torn-overwritten (read_after first steps) r.file r.at r.bytes;
+      told = refl;
+      time = stepped first steps (Wrote r) TellsNothing step (λ told files none. absurd none) refl (λ files left. left);
+    }
 
 Writes-tore : (first : Files) (steps : List Step) (r : Range) → Writes r.file r.at r.bytes (disk_of first steps) (disk_of first (Tore r ∷ steps))
-Writes-tore first steps r = record {
-  files = Torn-refl r.file r.at (length r.bytes) (length (read_after first steps r.file)) (read_after first steps);
-  told = refl;
-  time = record {
-    later = omega arith;
-    now = λ files left. left;
-    since = λ t told files le left. elim left [ inl past ↦ inl past | inr (inl inside) ↦ absurd inside.1 | inr (inr now) ↦ inr (now.1, now.2) ];
-    keeps = λ t told files le left. inl left;
-  };
-}
+Writes-tore first steps r =
+    let step = Torn r.file r.at (length r.bytes) (length (read_after first steps r.file)) in
+    record {
+      files = Torn-refl r.file r.at (length r.bytes) (length (read_after first steps r.file)) (read_after first steps);
+      told = refl;
+      time = stepped first steps (Tore r) TellsNothing step (λ told files none. absurd none) refl (λ files left. left);
+    }
 
 pub all_told : (bytes old : List ℕ) → TellsFront bytes old (old ++ bytes)
 all_told bytes old = (length bytes, ap (λ (l : List ℕ). old ++ l) (sym (take_all (length bytes) bytes (omega arith))))
@@ -62,32 +69,14 @@ Emits-told : (first : Files) (steps : List Step) (bytes : List ℕ) → Emits by
 Emits-told first steps bytes = record {
   some = all_told bytes (told_after steps);
   files = refl;
-  time = record {
-    later = omega arith;
-    now = λ files left. (files, left, refl);
-    since = λ t told files le left. elim left [
-      | inl past ↦ inl past
-      | inr (inl inside) ↦ inr (inside.1.0, (files, inside.1.1, refl))
-      | inr (inr now) ↦ inr (subst (TellsFront bytes (told_after steps)) (sym now.1) (all_told bytes (told_after steps)), (files, now.2, refl))
-    ];
-    keeps = λ t told files le left. inl left;
-  };
+  time = stepped first steps (Told bytes) (TellsFront bytes) Stays (λ told files part. (part.0, (files, part.1, refl))) (all_told bytes (told_after steps)) (λ files left. (files, left, refl));
 }
 
 Emits-untold : (first : Files) (steps : List Step) (bytes : List ℕ) → Emits bytes (disk_of first steps) (disk_of first (Untold bytes ∷ steps))
 Emits-untold first steps bytes = record {
   some = none_told bytes (told_after steps);
   files = refl;
-  time = record {
-    later = omega arith;
-    now = λ files left. (files, left, refl);
-    since = λ t told files le left. elim left [
-      | inl past ↦ inl past
-      | inr (inl inside) ↦ inr (inside.1.0, (files, inside.1.1, refl))
-      | inr (inr now) ↦ inr (subst (TellsFront bytes (told_after steps)) (sym now.1) (none_told bytes (told_after steps)), (files, now.2, refl))
-    ];
-    keeps = λ t told files le left. inl left;
-  };
+  time = stepped first steps (Untold bytes) (TellsFront bytes) Stays (λ told files part. (part.0, (files, part.1, refl))) (none_told bytes (told_after steps)) (λ files left. (files, left, refl));
 }
 
 -- a list that was pushed to, from its end

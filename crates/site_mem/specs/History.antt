@@ -1,5 +1,6 @@
 -- The files, the output and the moments of a site, from its files at the start and the steps of its calls, the newest first.
 use Rattle.std.specs.Prelude.{◌≡◌, ◌⊎◌, ℕ, zero, suc, ◌+◌, ◌≤◌, List, [], ◌∷◌, ◌++◌, length, Vec}
+use Rattle.std.proofs.Common.{inl, inr, le_trans}
 use Rattle.std.specs.declared.alloc.Global.{Global}
 use Rattle.site_core.specs.Disk.{Files, Disk, Torn, with_file, overwritten}
 use Rattle.site_core.specs.Calls.{TellsFront}
@@ -66,6 +67,14 @@ LeftSince first (step ∷ earlier) t told files =
     ⊎ (((t ≤ length earlier) × Inside first step earlier told files)
     ⊎ ((t ≤ length earlier + 1) × (told ≡ told_after (step ∷ earlier)) × MayLeave first (step ∷ earlier) files))
 
+-- which it left after each fewer steps, or later, too
+pub left_earlier : (first : Files) (steps : List Step) (t u : ℕ) (told : List ℕ) (files : Files) → t ≤ u
+    → LeftSince first steps u told files → LeftSince first steps t told files
+left_earlier first [] t u told files le left = (le_trans le left.0, left.1, left.2)
+left_earlier first (step ∷ earlier) t u told files le (inl past) = inl (left_earlier first earlier t u told files le past)
+left_earlier first (step ∷ earlier) t u told files le (inr (inl inside)) = inr (inl (le_trans le inside.0, inside.1))
+left_earlier first (step ∷ earlier) t u told files le (inr (inr now)) = inr (inr (le_trans le now.0, now.1, now.2))
+
 -- the clock is the number of steps
 abbrev pub disk_of : Files → List Step → Disk
 disk_of first steps = record {
@@ -74,4 +83,5 @@ disk_of first steps = record {
   may_leave = MayLeave first steps;
   clock = length steps;
   left_since = LeftSince first steps;
+  earlier = left_earlier first steps;
 }

@@ -2,12 +2,17 @@
 use Rattle.std.specs.Prelude.{ℕ, ◌-◌, if◌then◌else◌, Option}
 use Rattle.site_mem.specs.declared.site.MemorySite.{MemorySite}
 use Rattle.site_mem.specs.declared.site.short.ShortSite.{ShortSite}
-use Rattle.site_mem.specs.Site.{site_number}
+use Rattle.site_mem.specs.Counts.{Tally}
+use Rattle.site_mem.specs.Site.{site_number, site_tally}
 use Rattle.site_mem.specs.Turn.{is_asked}
 
 -- the site below
 abbrev pub site_below : ShortSite → MemorySite
 site_below short = short.site
+
+-- its counts of faults, reads and writes
+abbrev pub tally_below : ShortSite → Tally
+tally_below short = site_tally (site_below short)
 
 -- the number of the call that is to give a byte fewer, if there is one
 abbrev pub short_call : ShortSite → Option ℕ

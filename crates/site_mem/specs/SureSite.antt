@@ -2,11 +2,16 @@
 use Rattle.std.specs.Prelude.{◌≡◌, ℕ, reverse}
 use Rattle.site_core.specs.Disk.{Disk}
 use Rattle.site_mem.specs.declared.sure_site.SureSite.{SureSite}
+use Rattle.site_mem.specs.Counts.{Tally}
 use Rattle.site_mem.specs.History.{texts_of}
 use Rattle.site_mem.specs.Changes.{changed_disk}
 
 abbrev pub sure_disk : SureSite → Disk
 sure_disk site = changed_disk (texts_of site.files) site.told.items (reverse site.past.items)
+
+-- its counts of faults, reads and writes
+abbrev pub sure_tally : SureSite → Tally
+sure_tally site = record { disk_faults = site.disk_faults; told_faults = site.told_faults; reads = site.reads; writes = site.writes }
 
 -- how often a call found no memory
 abbrev pub sure_starved : SureSite → ℕ

@@ -95,7 +95,7 @@ impl SureSource {
 
 impl Source for MemorySource {
     ghost use Rattle.site_mem.specs.Counts.{risen};
-    ghost use Rattle.site_mem.specs.Source.{source_bytes, source_left, source_faults, source_piece, source_number, source_fails, source_ends, pulled, IsPullNamed};
+    ghost use Rattle.site_mem.specs.Source.{source_left, source_faults, source_piece, source_number, source_ends, pulled, IsPull};
 
     ghost tells = { true };
 
@@ -117,17 +117,10 @@ impl Source for MemorySource {
         ensures cause { HasCause (source_faults self.old) (source_faults self.new) result }
         ensures count { IfOk result
             (λ count. count ≡ pulled (source_piece self.old) (length into.old) (source_left self.old)) }
-        ensures named { IsPullNamed self.old → IsErr result }
-        ensures unnamed { OnErr result (IsPullNamed self.old) }
-        ensures once { OnErr result (source_fails self.new ≡ None) }
-        ensures fails { OnOk result (source_fails self.new ≡ source_fails self.old) }
-        ensures faults { OnErr result (source_faults self.new ≡ risen (source_faults self.old)) }
-        ensures number { source_number self.new ≡ risen (source_number self.old) }
+        ensures call { IsPull self.old self.new result }
         ensures one { source_number self.new ≤ source_number self.old + 1 }
         ensures end { MeetsEnd (source_ends self.old) (source_ends self.new) result }
         ensures met { IfOk result (λ count. count ≡ 0 → source_ends self.new ≡ risen (source_ends self.old)) }
-        ensures all { source_bytes self.new ≡ source_bytes self.old }
-        ensures piece { source_piece self.new ≡ source_piece self.old }
     {
         let number = self.next;
         self.next = number.saturating_add(1);
@@ -162,10 +155,6 @@ impl Source for SureSource {
         ensures bound { IfOk result (λ count. count ≤ length into.new) }
         ensures bytes { IfOk result
             (λ count. Gives (sure_left self.old) (sure_left self.new) count into.new) }
-        ensures failed { OnErr result (sure_left self.new ≡ sure_left self.old) }
-        ensures cause { HasCause 0 0 result }
-        ensures one { 0 ≤ 0 + 1 }
-        ensures end { MeetsEnd 0 0 result }
         ensures count { IfOk result
             (λ count. count ≡ pulled (sure_piece self.old) (length into.old) (sure_left self.old)) }
         ensures sure { IsOk result }

@@ -1,14 +1,14 @@
 //! A site in memory of which no call fails.
 ghost use Rattle.std.specs.Prelude.{◌≡◌, ◌<◌, ◌≤◌, ◌+◌, ◌++◌, [], true, length, IfOk, IsOk, OnOk, OnErr, reverse};
-ghost use Rattle.site_core.specs.Causes.{HasCause};
 ghost use Rattle.site_core.specs.Disk.{with_file, overwritten};
 ghost use Rattle.site_core.specs.Moments.{IsStable};
-ghost use Rattle.site_core.specs.Calls.{Rests, Fills, Writes, Emits};
-ghost use Rattle.site_mem.specs.Counts.{risen};
+ghost use Rattle.site_core.specs.Calls.{Rests, Settles, Stays, Fills, Writes, Emits};
+ghost use Rattle.site_mem.specs.Counts.{risen, Counts};
 ghost use Rattle.site_mem.specs.History.{texts_of};
 
 mod changes;
 
+use crate::call::Call;
 use crate::site::answers::{fill, starved};
 use changes::{put, say};
 use fact_model::Text;
@@ -86,7 +86,7 @@ impl SureSite {
 
 impl Site for SureSite {
     ghost use Rattle.site_mem.specs.ChangesLaws.{sure_counts_now, sure_only_now};
-    ghost use Rattle.site_mem.specs.SureSite.{sure_disk, sure_starved};
+    ghost use Rattle.site_mem.specs.SureSite.{sure_disk, sure_starved, sure_tally};
     ghost use Rattle.std.specs.Prelude.{refl};
 
     ghost tells = { true };
@@ -111,10 +111,7 @@ impl Site for SureSite {
         requires { file < 4 }
         ensures answer { IfOk result (λ count. count ≡ length ((sure_disk self.old).files file)) }
         ensures disk { Rests (sure_disk self.old) (sure_disk self.new) }
-        ensures cause { HasCause self.old.disk_faults self.new.disk_faults result }
-        ensures told_faults { self.new.told_faults ≡ self.old.told_faults }
-        ensures reads { self.new.reads ≡ self.old.reads }
-        ensures writes { self.new.writes ≡ self.old.writes }
+        ensures counts { Counts (Call.Length file) (sure_tally self.old) (sure_tally self.new) result }
         ensures sure { IsOk result }
         ensures starved { sure_starved self.new ≡ sure_starved self.old }
     {
@@ -128,12 +125,7 @@ impl Site for SureSite {
         ensures bound { IfOk result (λ count. count ≤ length into.new) }
         ensures answer { IfOk result (λ count. Fills ((sure_disk self.old).files file) at count into.new) }
         ensures disk { Rests (sure_disk self.old) (sure_disk self.new) }
-        ensures cause { HasCause self.old.disk_faults self.new.disk_faults result }
-        ensures told_faults { self.new.told_faults ≡ self.old.told_faults }
-        ensures reads { self.old.reads ≤ self.new.reads }
-        ensures one { self.new.reads ≤ self.old.reads + 1 }
-        ensures counted { self.new.reads ≡ risen self.old.reads }
-        ensures writes { self.new.writes ≡ self.old.writes }
+        ensures counts { Counts (Call.Read file at (length into.old)) (sure_tally self.old) (sure_tally self.new) result }
         ensures sure { IsOk result }
         ensures starved { sure_starved self.new ≡ sure_starved self.old }
     {
@@ -149,12 +141,7 @@ impl Site for SureSite {
             ≡ with_file (sure_disk self.old).files file (overwritten ((sure_disk self.old).files file) at bytes.now)) }
         ensures unwritten { OnErr result ((sure_disk self.new).files ≡ (sure_disk self.old).files) }
         ensures disk { Writes file at bytes.now (sure_disk self.old) (sure_disk self.new) }
-        ensures cause { HasCause self.old.disk_faults self.new.disk_faults result }
-        ensures told_faults { self.new.told_faults ≡ self.old.told_faults }
-        ensures reads { self.new.reads ≡ self.old.reads }
-        ensures writes { self.old.writes ≤ self.new.writes }
-        ensures one { self.new.writes ≤ self.old.writes + 1 }
-        ensures counted { self.new.writes ≡ risen self.old.writes }
+        ensures counts { Counts (Call.Write file at (length bytes.now)) (sure_tally self.old) (sure_tally self.new) result }
         ensures starved { OnErr result (sure_starved self.new ≡ risen (sure_starved self.old)) }
         ensures fed { OnOk result (sure_starved self.new ≡ sure_starved self.old) }
     {
@@ -167,11 +154,9 @@ impl Site for SureSite {
 
     fn sync(&mut self) -> Result<(), Fault>
         ensures stable { OnOk result (IsStable (sure_disk self.new)) }
-        ensures disk { Rests (sure_disk self.old) (sure_disk self.new) }
-        ensures cause { HasCause self.old.disk_faults self.new.disk_faults result }
-        ensures told_faults { self.new.told_faults ≡ self.old.told_faults }
-        ensures reads { self.new.reads ≡ self.old.reads }
-        ensures writes { self.new.writes ≡ self.old.writes }
+        ensures disk { Settles Stays (sure_disk self.old) (sure_disk self.new) result }
+        ensures rests { Rests (sure_disk self.old) (sure_disk self.new) }
+        ensures counts { Counts (Call.Sync) (sure_tally self.old) (sure_tally self.new) result }
         ensures sure { IsOk result }
         ensures starved { sure_starved self.new ≡ sure_starved self.old }
     {
@@ -182,10 +167,7 @@ impl Site for SureSite {
         ensures told { OnOk result ((sure_disk self.new).told ≡ (sure_disk self.old).told ++ bytes.now) }
         ensures untold { OnErr result ((sure_disk self.new).told ≡ (sure_disk self.old).told) }
         ensures disk { Emits bytes.now (sure_disk self.old) (sure_disk self.new) }
-        ensures cause { HasCause self.old.told_faults self.new.told_faults result }
-        ensures disk_faults { self.new.disk_faults ≡ self.old.disk_faults }
-        ensures reads { self.new.reads ≡ self.old.reads }
-        ensures writes { self.new.writes ≡ self.old.writes }
+        ensures counts { Counts (Call.Emit (length bytes.now)) (sure_tally self.old) (sure_tally self.new) result }
         ensures starved { OnErr result (sure_starved self.new ≡ risen (sure_starved self.old)) }
         ensures fed { OnOk result (sure_starved self.new ≡ sure_starved self.old) }
     {

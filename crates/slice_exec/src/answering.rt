@@ -2,10 +2,10 @@
 ghost use Rattle.std.specs.Prelude.{◌≡◌, ◌≤◌, ◌+◌, ◌%◌, ◌↔◌, ℕ, IsTrue, IfOk, IfErr, List, length};
 ghost use Rattle.std.specs.List.{All};
 ghost use Rattle.std.specs.Result.{IsErrOf};
-ghost use Rattle.site_core.specs.Calls.{Rests};
 ghost use Rattle.fact_model.specs.declared.fact.Fact as facts;
 ghost use Rattle.fact_model.specs.Rows.{rows};
-ghost use Rattle.forest_root.specs.Causes.{HasCauseWhere};
+ghost use Rattle.site_core.specs.Causes.{HasCauseWhere};
+ghost use Rattle.site_core.specs.Frames.{Looks, LooksOnly};
 ghost use Rattle.forest_pages.specs.Forest.{body_counts};
 ghost use Rattle.forest_store.specs.Stored.{IsStoreOf};
 ghost use Rattle.slice_lang.specs.Agreeing.{SliceAgrees};
@@ -60,12 +60,9 @@ pub fn answer<T: Site>(
     ensures form { IfOk result (All (HasForm store.now.dicts slice.now)) }
     ensures place { IfErr result (NamesSide store.now.forest.body) }
     ensures cache { pages.new ≡ pages.old }
-    ensures disk { IsTrue T.tells → Rests (T.disk site.old) (T.disk site.new) }
-    ensures cause { HasCauseWhere AnswerStop.Disk (T.disk_faults site.old) (T.disk_faults site.new) result }
-    ensures told_faults { T.told_faults site.new ≡ T.told_faults site.old }
+    ensures looks { Looks T.Site (HasCauseWhere AnswerStop.Disk) site.old site.new result }
     ensures reads { (view : ℕ) → IsRoute store.now.forest.schema.views store.now.forest.body.counts slice.now view
         → T.reads site.new ≤ T.reads site.old + (tree_of_view store.now view).pages }
-    ensures writes { T.writes site.new ≡ T.writes site.old }
 {
     let forest = &store.forest;
     match route(&forest.schema, &forest.body.counts, slice) {
@@ -98,11 +95,7 @@ fn answer_from<T: Site>(
     ensures place { IfErr result (NamesSide store.now.forest.body) }
     ensures covered { IsErrOf result AnswerStop.NotCovered → ⊥ }
     ensures cache { pages.new ≡ pages.old }
-    ensures disk { IsTrue T.tells → Rests (T.disk site.old) (T.disk site.new) }
-    ensures cause { HasCauseWhere AnswerStop.Disk (T.disk_faults site.old) (T.disk_faults site.new) result }
-    ensures told_faults { T.told_faults site.new ≡ T.told_faults site.old }
-    ensures reads { T.reads site.new ≤ T.reads site.old + (tree_of_view store.now view).pages }
-    ensures writes { T.writes site.new ≡ T.writes site.old }
+    ensures looks { LooksOnly T.Site (HasCauseWhere AnswerStop.Disk) ((tree_of_view store.now view).pages) site.old site.new result }
 {
     let points = find(alloc, site, pages, store, slice, view)?;
     let attrs = store.forest.schema.views.as_slice()[view as usize].as_slice();

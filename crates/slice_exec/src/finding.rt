@@ -4,7 +4,8 @@ ghost use Rattle.std.specs.Result.{IsErrOf};
 ghost use Rattle.site_core.specs.Calls.{Rests};
 ghost use Rattle.fact_model.specs.declared.fact.Fact as facts;
 ghost use Rattle.cube_schema.specs.Kinds.{measure_count};
-ghost use Rattle.forest_root.specs.Causes.{HasCauseWhere};
+ghost use Rattle.site_core.specs.Causes.{HasCauseWhere};
+ghost use Rattle.site_core.specs.Frames.{LooksOnly};
 ghost use Rattle.forest_store.specs.Stored.{IsStoreOf};
 ghost use Rattle.slice_lang.specs.Agreeing.{SliceAgrees};
 ghost use Rattle.view_rows.specs.Grouped.{points_inside};
@@ -45,11 +46,7 @@ pub(crate) fn find<T: Site>(
     ensures place { IfErr result (NamesSide store.now.forest.body) }
     ensures covered { IsErrOf result AnswerStop.NotCovered → ⊥ }
     ensures cache { pages.new ≡ pages.old }
-    ensures disk { IsTrue T.tells → Rests (T.disk site.old) (T.disk site.new) }
-    ensures cause { HasCauseWhere AnswerStop.Disk (T.disk_faults site.old) (T.disk_faults site.new) result }
-    ensures told_faults { T.told_faults site.new ≡ T.told_faults site.old }
-    ensures reads { T.reads site.new ≤ T.reads site.old + (tree_of_view store.now view).pages }
-    ensures writes { T.writes site.new ≡ T.writes site.old }
+    ensures looks { LooksOnly T.Site (HasCauseWhere AnswerStop.Disk) ((tree_of_view store.now view).pages) site.old site.new result }
 {
     let forest = &store.forest;
     let attrs = forest.schema.views.as_slice()[view as usize].as_slice();

@@ -5,11 +5,12 @@ use Rattle.std.proofs.lemmas.Bool.{cases_lt}
 use Rattle.std.proofs.lemmas.List.{append-nil}
 use Rattle.cube_point.specs.declared.point.Entry.{Entry}
 use Rattle.cube_point.specs.declared.point.Shape.{Shape}
+use Rattle.page_fmt.specs.InFiles.{HasRead, IsPageOf, page_at}
 use Rattle.page_fmt.specs.Taking.{ascend, entry_before, taken}
 use Rattle.tree_scan.specs.declared.scan.ScanStop.{ScanStop}
 use Rattle.tree_scan.specs.declared.scan.ScanStop.TheVariants as stops
-use Rattle.tree_scan.specs.Scanning.{AreGood, IsFirstBad, IsGood, IsScanned, NamesPage, entries_of, leaf_entries, page_at}
-use Rattle.tree_scan.specs.Steps.{HasRead, IsPageOf, MayFollow}
+use Rattle.tree_scan.specs.Scanning.{AreGood, IsFirstBad, IsGood, IsScanned, NamesPage, entries_of, leaf_entries}
+use Rattle.tree_scan.specs.Steps.{MayFollow}
 
 -- the entries of the first pages, and those of the pages behind them
 pub entries-split : (shape : Shape) (bytes : List ℕ) (first count more behind total : ℕ) → first + count ≡ behind → count + more ≡ total
@@ -78,12 +79,12 @@ module _ (shape : Shape) (bytes : List ℕ) (first number : ℕ) (page : List �
   }))
 
   -- a page that is not read is too
-  pub stop-scanned : (pages : ℕ) (into : List ℕ) (stop : ScanStop) → first ≤ number → number < first + pages → HasRead bytes number into (Err stop) → NamesPage number 1 stop
+  pub stop-scanned : (pages : ℕ) (into : List ℕ) (stop : ScanStop) → first ≤ number → number < first + pages → HasRead (stops.Damaged number) bytes number into (Err stop) → NamesPage number 1 stop
       → (found : List Entry) → IsScanned shape bytes first pages found (Err stop)
-  stop-scanned pages into (stops.Damaged told) low high short names found =
+  stop-scanned pages into (stops.Damaged told) low high read names found =
       let same : number ≡ told = omega (arith, names.0, names.1) in
-      subst (IsFirstBad shape bytes first pages) same (first-bad pages low high (λ good. omega (arith, short, good.whole)))
-  stop-scanned pages into stops.Disk low high short names found = tt
+      subst (IsFirstBad shape bytes first pages) same (first-bad pages low high (λ good. omega (arith, read.short (ap (λ n. Err (stops.Damaged n)) (sym same)), good.whole)))
+  stop-scanned pages into stops.Disk low high read names found = tt
 
 -- what is answered is this stop
 pub answered : (shape : Shape) (bytes : List ℕ) (first pages : ℕ) (found : List Entry) (stop : ScanStop) (result : Result (Unit {0}) ScanStop) → IsErrAnd result (λ told. told ≡ stop)

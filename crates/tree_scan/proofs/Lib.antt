@@ -2,4 +2,3 @@ pub mod Extending
 pub mod Following
 pub mod Orders
 pub mod Packed
-pub mod Reading

@@ -1,18 +1,15 @@
 -- What the pages of a tree in a file hold, and the first of them that is damaged.
-use Rattle.std.specs.Prelude.{◌≡◌, ℕ, ◌+◌, ◌*◌, ◌<◌, ◌≤◌, ◌==◌, true, List, [], length, take, drop, flat_map, slice_index, if◌then◌else◌, Result, Ok, Err, IsOk}
+use Rattle.std.specs.Prelude.{◌≡◌, ℕ, ◌+◌, ◌*◌, ◌<◌, ◌≤◌, ◌==◌, true, List, [], length, flat_map, slice_index, if◌then◌else◌, Result, Ok, Err, IsOk}
 use Rattle.std.specs.List.{All, range_with_len}
 use Rattle.cube_point.specs.declared.point.Entry.{Entry}
 use Rattle.cube_point.specs.declared.point.Shape.{Shape}
 use Rattle.page_fmt.specs.declared.page.TheConstants.{PAGE}
+use Rattle.page_fmt.specs.InFiles.{page_at}
 use Rattle.page_fmt.specs.Lawful.{Content, LeafOf, InnerOf}
 use Rattle.page_fmt.specs.Taking.{ascend, entries, entry_before, taken}
 use Rattle.page_fmt.specs.Writing.{FitsLeaf}
 use Rattle.tree_scan.specs.declared.scan.ScanStop.{ScanStop}
 use Rattle.tree_scan.specs.declared.scan.ScanStop.TheVariants as stops
-
--- the page with this number in the bytes of a file
-abbrev pub page_at : List ℕ → ℕ → List ℕ
-page_at bytes number = take PAGE (drop (PAGE * number) bytes)
 
 -- the most entries of a page: those of a leaf whose points have no coordinates and one measure
 abbrev pub page_points : ℕ

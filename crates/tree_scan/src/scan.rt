@@ -1,11 +1,11 @@
 //! All points of a tree, read page by page.
 
 ghost use Rattle.std.specs.Prelude.{◌≡◌, ◌<◌, ◌≤◌, ◌+◌, ◌*◌, ◌^◌, IsTrue, IfErr, OnOk, length, vec_capacity};
-ghost use Rattle.site_core.specs.Calls.{Rests};
-ghost use Rattle.forest_root.specs.Causes.{HasCauseWhere};
+ghost use Rattle.site_core.specs.Causes.{HasCauseWhere};
+ghost use Rattle.site_core.specs.Frames.{LooksOnly};
+ghost use Rattle.page_fmt.specs.InFiles.{HasRead};
 ghost use Rattle.page_fmt.specs.Writing.{IsShape};
 ghost use Rattle.tree_scan.specs.Scanning.{ArePoints, IsScanned, NamesPage, page_points};
-ghost use Rattle.tree_scan.specs.Steps.{HasRead};
 
 use crate::points::take_in;
 use cube_point::Entry;
@@ -50,11 +50,7 @@ pub fn read_tree<T: Site>(
     ensures few { OnOk result (length into.new.items ≤ page_points * place.now.pages) }
     ensures capacity { vec_capacity into.old ≤ vec_capacity into.new }
     ensures page { IfErr result (NamesPage place.now.first place.now.pages) }
-    ensures disk { IsTrue T.tells → Rests (T.disk site.old) (T.disk site.new) }
-    ensures cause { HasCauseWhere ScanStop.Disk (T.disk_faults site.old) (T.disk_faults site.new) result }
-    ensures told_faults { T.told_faults site.new ≡ T.told_faults site.old }
-    ensures reads { T.reads site.new ≤ T.reads site.old + place.now.pages }
-    ensures writes { T.writes site.new ≡ T.writes site.old }
+    ensures looks { LooksOnly T.Site (HasCauseWhere ScanStop.Disk) place.now.pages site.old site.new result }
 {
     into.clear();
     let mut page = [0; PAGE];
@@ -77,13 +73,9 @@ fn read_page<T: Site>(
     requires file { file < 4 }
     requires few { number ≤ 2 ^ 50 }
 
-    ensures page { IsTrue T.tells → HasRead ((T.disk site.old).files file) number into.new result }
+    ensures page { IsTrue T.tells → HasRead (ScanStop.Damaged number) ((T.disk site.old).files file) number into.new result }
     ensures names { IfErr result (NamesPage number 1) }
-    ensures disk { IsTrue T.tells → Rests (T.disk site.old) (T.disk site.new) }
-    ensures cause { HasCauseWhere ScanStop.Disk (T.disk_faults site.old) (T.disk_faults site.new) result }
-    ensures told_faults { T.told_faults site.new ≡ T.told_faults site.old }
-    ensures reads { T.reads site.new ≤ T.reads site.old + 1 }
-    ensures writes { T.writes site.new ≡ T.writes site.old }
+    ensures looks { LooksOnly T.Site (HasCauseWhere ScanStop.Disk) 1 site.old site.new result }
 {
     if site.read(file, PAGE as u64 * number, into)? < PAGE {
         return Err(ScanStop::Damaged { page: number });

@@ -1,11 +1,10 @@
 //! What a site in memory answers.
 ghost use Rattle.std.specs.Prelude.{◌≡◌, ◌<◌, ◌≤◌, ◌+◌, ◌++◌, true, length, IfOk, OnOk, OnErr, reverse};
-ghost use Rattle.site_core.specs.Causes.{HasCause};
 ghost use Rattle.site_core.specs.Moments.{IsStable};
-ghost use Rattle.site_core.specs.Calls.{Rests, Fills, Writes, Emits};
+ghost use Rattle.site_core.specs.Calls.{Rests, Settles, Stays, Fills, Writes, Emits};
 ghost use Rattle.site_mem.specs.History.{files_of};
 ghost use Rattle.site_mem.specs.Laws.{read_now, counts_now, only_now};
-ghost use Rattle.site_mem.specs.Counts.{risen};
+ghost use Rattle.site_mem.specs.Counts.{risen, Counts};
 ghost use Rattle.site_mem.specs.Tape.{tape_disk, IsWritten, ReachesTorn, ReachesPrefixes, LeavesAsBefore};
 
 use crate::call::Call;
@@ -14,7 +13,7 @@ use crate::site::MemorySite;
 use site_core::{Fault, Site};
 
 impl Site for MemorySite {
-    ghost use Rattle.site_mem.specs.Site.{site_disk, site_tape, stable_files, IsCall, IsNamed, IsStopped, StarvesInNote, Unless};
+    ghost use Rattle.site_mem.specs.Site.{site_disk, site_tally, site_tape, stable_files, IsCall, IsNamed, IsStopped, StarvesInNote, Unless};
 
     ghost tells = { true };
 
@@ -38,11 +37,7 @@ impl Site for MemorySite {
         requires { file < 4 }
         ensures answer { IfOk result (λ count. count ≡ length ((site_disk self.old).files file)) }
         ensures disk { Rests (site_disk self.old) (site_disk self.new) }
-        ensures cause { HasCause self.old.disk_faults self.new.disk_faults result }
-        ensures fault { OnErr result (self.new.disk_faults ≡ risen self.old.disk_faults) }
-        ensures told_faults { self.new.told_faults ≡ self.old.told_faults }
-        ensures reads { self.new.reads ≡ self.old.reads }
-        ensures writes { self.new.writes ≡ self.old.writes }
+        ensures counts { Counts (Call.Length file) (site_tally self.old) (site_tally self.new) result }
         ensures call { IsCall (Call.Length file) self.old self.new result }
         ensures memory { StarvesInNote self.old self.new }
         ensures tape { site_tape self.new ≡ site_tape self.old }
@@ -63,16 +58,10 @@ impl Site for MemorySite {
         ensures answer { IfOk result (λ count. Fills ((site_disk self.old).files file) at count into.new) }
         ensures unfilled { OnErr result (into.new ≡ into.old) }
         ensures disk { Rests (site_disk self.old) (site_disk self.new) }
-        ensures cause { HasCause self.old.disk_faults self.new.disk_faults result }
-        ensures fault { OnErr result (self.new.disk_faults ≡ risen self.old.disk_faults) }
-        ensures told_faults { self.new.told_faults ≡ self.old.told_faults }
-        ensures reads { self.old.reads ≤ self.new.reads }
-        ensures one { self.new.reads ≤ self.old.reads + 1 }
-        ensures writes { self.new.writes ≡ self.old.writes }
+        ensures counts { Counts (Call.Read file at (length into.old)) (site_tally self.old) (site_tally self.new) result }
         ensures call { IsCall (Call.Read file at (length into.old)) self.old self.new result }
         ensures memory { StarvesInNote self.old self.new }
         ensures tape { site_tape self.new ≡ site_tape self.old }
-        ensures counted { self.new.reads ≡ risen self.old.reads }
     {
         self.reads = self.reads.saturating_add(1);
         let len = into.len() as u64;
@@ -92,12 +81,7 @@ impl Site for MemorySite {
             (site_disk self.old).files (site_disk self.new).files) }
         ensures unread { OnErr result ((site_disk self.new).files ≡ (site_disk self.old).files) }
         ensures disk { Writes file at bytes.now (site_disk self.old) (site_disk self.new) }
-        ensures cause { HasCause self.old.disk_faults self.new.disk_faults result }
-        ensures fault { OnErr result (self.new.disk_faults ≡ risen self.old.disk_faults) }
-        ensures told_faults { self.new.told_faults ≡ self.old.told_faults }
-        ensures reads { self.new.reads ≡ self.old.reads }
-        ensures writes { self.old.writes ≤ self.new.writes }
-        ensures one { self.new.writes ≤ self.old.writes + 1 }
+        ensures counts { Counts (Call.Write file at (length bytes.now)) (site_tally self.old) (site_tally self.new) result }
         ensures call { IsCall (Call.Write file at (length bytes.now)) self.old self.new result }
         ensures memory { IsStopped self.old → StarvesInNote self.old self.new }
         ensures stopped { IsStopped self.old → site_tape self.new ≡ site_tape self.old }
@@ -105,7 +89,6 @@ impl Site for MemorySite {
             (ReachesTorn file at bytes.now (site_disk self.old) (site_disk self.new)) }
         ensures left { LeavesAsBefore (site_disk self.old) (site_disk self.new) }
         ensures kept { stable_files self.new ≡ stable_files self.old }
-        ensures counted { self.new.writes ≡ risen self.old.writes }
     {
         self.writes = self.writes.saturating_add(1);
         let len = bytes.len() as u64;
@@ -126,12 +109,9 @@ impl Site for MemorySite {
 
     fn sync(&mut self) -> Result<(), Fault>
         ensures stable { OnOk result (IsStable (site_disk self.new)) }
-        ensures disk { Rests (site_disk self.old) (site_disk self.new) }
-        ensures cause { HasCause self.old.disk_faults self.new.disk_faults result }
-        ensures fault { OnErr result (self.new.disk_faults ≡ risen self.old.disk_faults) }
-        ensures told_faults { self.new.told_faults ≡ self.old.told_faults }
-        ensures reads { self.new.reads ≡ self.old.reads }
-        ensures writes { self.new.writes ≡ self.old.writes }
+        ensures disk { Settles Stays (site_disk self.old) (site_disk self.new) result }
+        ensures rests { Rests (site_disk self.old) (site_disk self.new) }
+        ensures counts { Counts (Call.Sync) (site_tally self.old) (site_tally self.new) result }
         ensures call { IsCall (Call.Sync) self.old self.new result }
         ensures memory { IsNamed self.old → StarvesInNote self.old self.new }
         ensures stopped { IsStopped self.old → site_tape self.new ≡ site_tape self.old }
@@ -154,11 +134,7 @@ impl Site for MemorySite {
         ensures told { OnOk result ((site_disk self.new).told ≡ (site_disk self.old).told ++ bytes.now) }
         ensures untold { OnErr result ((site_disk self.new).told ≡ (site_disk self.old).told) }
         ensures disk { Emits bytes.now (site_disk self.old) (site_disk self.new) }
-        ensures cause { HasCause self.old.told_faults self.new.told_faults result }
-        ensures fault { OnErr result (self.new.told_faults ≡ risen self.old.told_faults) }
-        ensures disk_faults { self.new.disk_faults ≡ self.old.disk_faults }
-        ensures reads { self.new.reads ≡ self.old.reads }
-        ensures writes { self.new.writes ≡ self.old.writes }
+        ensures counts { Counts (Call.Emit (length bytes.now)) (site_tally self.old) (site_tally self.new) result }
         ensures call { IsCall (Call.Emit (length bytes.now)) self.old self.new result }
         ensures memory { IsStopped self.old → StarvesInNote self.old self.new }
         ensures stopped { IsStopped self.old → site_tape self.new ≡ site_tape self.old }

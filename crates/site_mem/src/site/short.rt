@@ -1,10 +1,9 @@
 //! A site in memory of which one read gives a byte fewer.
 ghost use Rattle.std.specs.Prelude.{◌≡◌, ◌<◌, ◌≤◌, ◌+◌, ◌++◌, ℕ, false, length, IfOk, IsErr, OnOk, OnErr};
 ghost use Rattle.site_core.specs.Calls.{Fills, Writes};
-ghost use Rattle.site_core.specs.Causes.{HasCause};
 ghost use Rattle.site_core.specs.Moments.{IsStable};
 ghost use Rattle.site_core.specs.Silent.{no_disk, no_left};
-ghost use Rattle.site_mem.specs.Counts.{risen};
+ghost use Rattle.site_mem.specs.Counts.{Counts};
 ghost use Rattle.site_mem.specs.Tape.{IsWritten};
 ghost use Rattle.site_mem.specs.Turn.{is_asked};
 
@@ -50,7 +49,7 @@ impl ShortSite {
 
 impl Site for ShortSite {
     ghost use Rattle.site_mem.specs.Site.{site_disk, site_tape, site_calls, stable_files, IsCall};
-    ghost use Rattle.site_mem.specs.Short.{site_below, short_call, shortened};
+    ghost use Rattle.site_mem.specs.Short.{site_below, short_call, shortened, tally_below};
 
     ghost tells = { false };
 
@@ -72,10 +71,7 @@ impl Site for ShortSite {
 
     fn length(&mut self, file: u32) -> Result<u64, Fault>
         requires { file < 4 }
-        ensures cause { HasCause self.old.site.disk_faults self.new.site.disk_faults result }
-        ensures told_faults { self.new.site.told_faults ≡ self.old.site.told_faults }
-        ensures reads { self.new.site.reads ≡ self.old.site.reads }
-        ensures writes { self.new.site.writes ≡ self.old.site.writes }
+        ensures counts { Counts (Call.Length file) (tally_below self.old) (tally_below self.new) result }
         ensures answer { IfOk result (λ count. count ≡ length ((site_disk (site_below self.old)).files file)) }
         ensures call { IsCall (Call.Length file) (site_below self.old) (site_below self.new) result }
         ensures tape { site_tape (site_below self.new) ≡ site_tape (site_below self.old) }
@@ -89,12 +85,7 @@ impl Site for ShortSite {
         requires some { 0 < length into.old }
         requires few { length into.old ≤ 4096 }
         ensures bound { IfOk result (λ count. count ≤ length into.new) }
-        ensures cause { HasCause self.old.site.disk_faults self.new.site.disk_faults result }
-        ensures told_faults { self.new.site.told_faults ≡ self.old.site.told_faults }
-        ensures reads { self.old.site.reads ≤ self.new.site.reads }
-        ensures one { self.new.site.reads ≤ self.old.site.reads + 1 }
-        ensures counted { self.new.site.reads ≡ risen self.old.site.reads }
-        ensures writes { self.new.site.writes ≡ self.old.site.writes }
+        ensures counts { Counts (Call.Read file at (length into.old)) (tally_below self.old) (tally_below self.new) result }
         ensures answer { IfOk result (λ count. (whole : ℕ) × (count ≡ shortened self.old whole)
             × Fills ((site_disk (site_below self.old)).files file) at whole into.new) }
         ensures unfilled { OnErr result (into.new ≡ into.old) }
@@ -114,12 +105,7 @@ impl Site for ShortSite {
     fn write(&mut self, file: u32, at: u64, bytes: &[u8]) -> Result<(), Fault>
         requires file { file < 4 }
         requires some { 0 < length bytes.now }
-        ensures cause { HasCause self.old.site.disk_faults self.new.site.disk_faults result }
-        ensures told_faults { self.new.site.told_faults ≡ self.old.site.told_faults }
-        ensures reads { self.new.site.reads ≡ self.old.site.reads }
-        ensures writes { self.old.site.writes ≤ self.new.site.writes }
-        ensures one { self.new.site.writes ≤ self.old.site.writes + 1 }
-        ensures counted { self.new.site.writes ≡ risen self.old.site.writes }
+        ensures counts { Counts (Call.Write file at (length bytes.now)) (tally_below self.old) (tally_below self.new) result }
         ensures written { OnOk result (IsWritten file at bytes.now
             (site_disk (site_below self.old)).files (site_disk (site_below self.new)).files) }
         ensures unread { OnErr result ((site_disk (site_below self.new)).files ≡ (site_disk (site_below self.old)).files) }
@@ -141,10 +127,7 @@ impl Site for ShortSite {
     }
 
     fn sync(&mut self) -> Result<(), Fault>
-        ensures cause { HasCause self.old.site.disk_faults self.new.site.disk_faults result }
-        ensures told_faults { self.new.site.told_faults ≡ self.old.site.told_faults }
-        ensures reads { self.new.site.reads ≡ self.old.site.reads }
-        ensures writes { self.new.site.writes ≡ self.old.site.writes }
+        ensures counts { Counts (Call.Sync) (tally_below self.old) (tally_below self.new) result }
         ensures stable { OnOk result (IsStable (site_disk (site_below self.new))) }
         ensures call { IsCall (Call.Sync) (site_below self.old) (site_below self.new) result }
         ensures kept { OnErr result (stable_files (site_below self.new) ≡ stable_files (site_below self.old)) }
@@ -155,10 +138,7 @@ impl Site for ShortSite {
     }
 
     fn emit(&mut self, bytes: &[u8]) -> Result<(), Fault>
-        ensures cause { HasCause self.old.site.told_faults self.new.site.told_faults result }
-        ensures disk_faults { self.new.site.disk_faults ≡ self.old.site.disk_faults }
-        ensures reads { self.new.site.reads ≡ self.old.site.reads }
-        ensures writes { self.new.site.writes ≡ self.old.site.writes }
+        ensures counts { Counts (Call.Emit (length bytes.now)) (tally_below self.old) (tally_below self.new) result }
         ensures told { OnOk result ((site_disk (site_below self.new)).told ≡ (site_disk (site_below self.old)).told ++ bytes.now) }
         ensures untold { OnErr result ((site_disk (site_below self.new)).told ≡ (site_disk (site_below self.old)).told) }
         ensures call { IsCall (Call.Emit (length bytes.now)) (site_below self.old) (site_below self.new) result }

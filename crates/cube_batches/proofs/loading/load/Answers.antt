@@ -1,7 +1,36 @@
-use Rattle.plain_machine.specs.Machine.{load}
-use Rattle.cube_state.proofs.Answering.{quiet}
+use Rattle.std.proofs.Common.{subst}
+use Rattle.plain_machine.specs.Machine.{committed, load}
+use Rattle.plain_machine.specs.World.{begun_with}
+use Rattle.cube_batches.specs.Taking.{IsTaken, Takes, Touches}
+use Rattle.cube_batches.proofs.Gives.{load_gives}
+use Rattle.cube_batches.proofs.Takings.{between_then, load_moments}
+use Rattle.cube_batches.proofs.Told.{load_tells}
 use Rattle.cube_batches.proofs.loading.load.Goals as goal
 
-pub returns-in-Pending-clause-any_moment : goal.returns-in-Pending-clause-any_moment
-returns-in-Pending-clause-any_moment g c = λ t world stands.
-    quiet c.args.state (g.T.Site.disk c.args.site.now) world (load world c.args.source).0 stands (λ told files. g.met.T.Site.only_now c.args.site.now told files t)
+pub returns-in-Refused-clause-answer : goal.returns-in-Refused-clause-answer
+returns-in-Refused-clause-answer g c = λ t world stands.
+    let taken = subst (IsTaken (g.T.Site.disk c.take_in.new.site) world c.args.source) c.in-Refused.is (c.in_ok-done.ensures.taken t world stands) in taken committed
+
+pub returns-in-Refused-clause-any_moment : goal.returns-in-Refused-clause-any_moment
+returns-in-Refused-clause-any_moment g c = λ t world stands. c.take_in.ensures.any_moment t world (load world c.args.source).0 stands
+
+pub returns-in-Begun-clause-any_moment : goal.returns-in-Begun-clause-any_moment
+returns-in-Begun-clause-any_moment g c = λ t world stands.
+    let old = g.T.Site.disk c.args.site.now in
+    let mid = g.T.Site.disk c.take_in.new.site in
+    let new = g.T.Site.disk c.finish.new.site in
+    let is = subst (IsTaken mid world c.args.source) c.in-Begun.is (c.in_ok-done.ensures.taken t world stands) in
+    between_then old mid new world (load world c.args.source).0 (c.take_in.ensures.quiet.told t) (c.take_in.ensures.any_moment t world (load world c.args.source).0 stands)
+    (load_moments mid new world c.args.source c.in-Begun.state is (c.finish.ensures.any_moment t (begun_with is.warehouse is.batch) is.stands))
+
+pub returns-in-Begun-clause-damage : goal.returns-in-Begun-clause-damage
+returns-in-Begun-clause-damage g c = λ t.
+    load_tells g.T.Site c.args.site.now c.take_in.new.site t c.args.state c.args.source c.in-Begun.state c.finish.result
+    (subst (Takes c.args.state c.args.source) c.in-Begun.is c.in_ok-done.ensures.takes)
+    (subst (Touches g.T.Site c.args.site.now c.take_in.new.site) c.in-Begun.is c.in_ok-done.ensures.touches) (c.finish.ensures.damage t)
+
+pub returns-in-Begun-clause-answered : goal.returns-in-Begun-clause-answered
+returns-in-Begun-clause-answered g c = λ t.
+    load_gives g.T.Site c.args.site.now c.take_in.new.site t c.args.state c.args.source c.in-Begun.state c.finish.result
+    (subst (Takes c.args.state c.args.source) c.in-Begun.is c.in_ok-done.ensures.takes)
+    (subst (Touches g.T.Site c.args.site.now c.take_in.new.site) c.in-Begun.is c.in_ok-done.ensures.touches) (c.finish.ensures.answered t)

@@ -1,7 +1,15 @@
-use Rattle.plain_machine.specs.Machine.{begin}
-use Rattle.cube_state.proofs.Answering.{quiet}
+use Rattle.std.proofs.Common.{subst}
+use Rattle.plain_machine.specs.Machine.{begin, begun}
+use Rattle.plain_machine.specs.declared.batch_source.BatchSource.TheVariants.{Rows}
+use Rattle.cube_batches.specs.Taking.{IsTaken}
 use Rattle.cube_batches.proofs.pending.begin.Goals as goal
 
-pub returns-in-Pending-clause-any_moment : goal.returns-in-Pending-clause-any_moment
-returns-in-Pending-clause-any_moment g c = λ t world stands.
-    quiet c.args.state (g.T.Site.disk c.args.site.now) world (begin world c.args.block).0 stands (λ told files. g.met.T.Site.only_now c.args.site.now told files t)
+pub returns-in-Refused-clause-answer : goal.returns-in-Refused-clause-answer
+returns-in-Refused-clause-answer g c = λ t world stands.
+    let taken = subst (IsTaken (g.T.Site.disk c.take_in.new.site) world (Rows c.args.block)) c.in-Refused.is (c.in_ok-done.ensures.taken t world stands) in taken begun
+
+pub returns-in-Refused-clause-any_moment : goal.returns-in-Refused-clause-any_moment
+returns-in-Refused-clause-any_moment g c = λ t world stands. c.take_in.ensures.any_moment t world (begin world c.args.block).0 stands
+
+pub returns-in-Begun-clause-any_moment : goal.returns-in-Begun-clause-any_moment
+returns-in-Begun-clause-any_moment g c = λ t world stands. c.take_in.ensures.any_moment t world (begin world c.args.block).0 stands

@@ -9,8 +9,7 @@ use Rattle.cube_shell.proofs.serve.carry_out.Goals as goal
 
 pub loop-command-init : goal.loop-command-init
 loop-command-init g c = record {
-  running = c.requires.running;
-  fit = c.requires.fit;
+  runs = c.requires.runs;
   over = refl;
   nothing = λ none. none;
   onward = λ t world more stands.
@@ -27,8 +26,7 @@ loop-command-init g c = record {
 
 pub loop-command-preserved : goal.loop-command-preserved
 loop-command-preserved g c = record {
-  running = c.in_ok-command-2.ensures.running;
-  fit = λ t. c.in_ok-command-2.ensures.fit t;
+  runs = c.in_ok-command-2.ensures.runs;
   over = c.next_command.ensures.over ∙ c.loop-command.invariant.over;
   nothing = λ none. absurd (none_given c.loop-command.lines c.next_command.new.self _ c.in-Some.command (c.loop-command.invariant.nothing none) c.in_ok-command.ensures.ready c.in-Some.is);
   onward = λ t world more stands.
@@ -48,10 +46,10 @@ loop-command-preserved g c = record {
       c.command.new.self.state (c.in_ok-command-2.ensures.stands t o.now o.stands) (c.in_ok-command-2.ensures.told t o.now o.stands);
   replied = λ t more.
       let rest = to_come c.next_command.new.self more in
-      one_replied _ _ _ _ c.in-Some.command rest _ c.loop-command.session.state (g.T.Site.disk c.loop-command.site).files
+      one_replied _ _ _ _ c.in-Some.command rest _ g.T.Site c.loop-command.site c.loop-command.session.state (g.T.Site.disk c.loop-command.site).files
       (c.loop-command.invariant.replied t more)
       (c.in_ok-command.ensures.given more ∙ ap (λ (o : Option Command). option_to_list o ++ rest) c.in-Some.is)
-      c.loop-command.invariant.running (c.in_ok-command-2.ensures.answered t);
+      c.loop-command.invariant.runs (c.in_ok-command-2.ensures.answered t);
   any_moment = λ t world more stands.
       let o = c.loop-command.invariant.onward t world more stands in
       let rest = to_come c.next_command.new.self more in
@@ -59,8 +57,8 @@ loop-command-preserved g c = record {
       c.in-Some.command _ rest o
       (c.in_ok-command.ensures.given more ∙ ap (λ (o : Option Command). option_to_list o ++ rest) c.in-Some.is)
       (c.loop-command.invariant.any_moment t world more stands) (c.command.ensures.any_moment t o.now o.stands);
-  disk_faults = c.in_ok-command-2.ensures.disk_faults ∙ c.loop-command.invariant.disk_faults;
-  told_faults = c.in_ok-command-2.ensures.told_faults ∙ c.loop-command.invariant.told_faults;
+  disk_faults = c.in_ok-command-2.ensures.stops.disk_faults ∙ c.loop-command.invariant.disk_faults;
+  told_faults = c.in_ok-command-2.ensures.stops.told_faults ∙ c.loop-command.invariant.told_faults;
 }
 
 pub returns-in_err-command-2-clause-any_moment : goal.returns-in_err-command-2-clause-any_moment

@@ -8,7 +8,7 @@ use Rattle.cube_shell.specs.Onward.{Onward}
 use Rattle.cube_shell.proofs.Going.{all_done, started_moments, started_onward, then_moments, then_onward}
 use Rattle.cube_shell.proofs.Pieces.{given_more, piece_left, piece_taken, piece_to_come, end_to_come}
 use Rattle.cube_shell.proofs.Replied.{last_replied, more_replied, none_replied}
-use Rattle.cube_shell.proofs.Statuses.{not_input, not_too_long, undamaged_as}
+use Rattle.cube_shell.proofs.Statuses.{input_only, not_input, not_too_long, undamaged_as}
 use Rattle.cube_shell.proofs.serve.serve.Goals as goal
 
 pub loop-lines-init : goal.loop-lines-init
@@ -16,8 +16,7 @@ loop-lines-init g c =
     let disk = g.T.Site.disk c.args.site.now in
     let left = g.S.Source.left c.args.source.now in
     record {
-      running = c.requires.running;
-      fit = c.requires.fit;
+      runs = c.requires.runs;
       over = ap (λ (r : Reading). r.over) c.new-lines.ensures;
       read = ap (λ (r : Reading). r.rest) c.new-lines.ensures;
       start = λ none. c.new-lines.ensures;
@@ -59,8 +58,7 @@ returns-then-count-eq0-clause-any_moment g c = λ s t world stands.
 
 pub loop-lines-preserved : goal.loop-lines-preserved
 loop-lines-preserved g c = record {
-  running = c.in_ok-take_piece.ensures.running;
-  fit = λ t. c.in_ok-take_piece.ensures.fit t;
+  runs = c.in_ok-take_piece.ensures.runs;
   over = c.take_piece.ensures.goes_on;
   read = c.in_ok-take_piece.ensures.read;
   start = λ none. absurd (omega (arith, none, c.if-count-eq0.false));
@@ -100,8 +98,8 @@ loop-lines-preserved g c = record {
       (c.take_piece.ensures.any_moment t o.now (g.S.Source.left c.pull.new.source) o.stands);
   ends = c.in_ok-count.ensures.end.some (omega (arith, c.if-count-eq0.false)) ∙ c.loop-lines.invariant.ends;
   faults = c.in_ok-count.ensures.cause.ok ∙ c.loop-lines.invariant.faults;
-  disk_faults = c.in_ok-take_piece.ensures.disk_faults ∙ c.loop-lines.invariant.disk_faults;
-  told_faults = c.in_ok-take_piece.ensures.told_faults ∙ c.loop-lines.invariant.told_faults;
+  disk_faults = c.in_ok-take_piece.ensures.stops.disk_faults ∙ c.loop-lines.invariant.disk_faults;
+  told_faults = c.in_ok-take_piece.ensures.stops.told_faults ∙ c.loop-lines.invariant.told_faults;
 }
 
 pub returns-in_err-take_piece-clause-any_moment : goal.returns-in_err-take_piece-clause-any_moment
@@ -112,34 +110,45 @@ returns-in_err-take_piece-clause-any_moment g c = λ s t world stands.
     (c.loop-lines.invariant.any_moment s t world stands)
     (c.take_piece.ensures.any_moment t o.now (g.S.Source.left c.pull.new.source) o.stands)
 
-pub returns-in_err-take_piece-clause-too_long : goal.returns-in_err-take_piece-clause-too_long
-returns-in_err-take_piece-clause-too_long g c = λ s.
+pub returns-in_err-take_piece-clause-limit : goal.returns-in_err-take_piece-clause-limit
+returns-in_err-take_piece-clause-limit g c = λ s.
     let given = given_more _ _ _ c.in_ok-count.count (c.in_ok-count.ensures.bytes s) c.loop-lines.taken _
-    (omega (arith, c.in_ok-count.ensures.bound)) (c.loop-lines.invariant.given s) in (
-      λ h. absurd (not_too_long _ c.in_err-take_piece.field-0.0 c.from_residual-in_err-take_piece.ensures.1 h),
-      λ h. absurd (omega (arith, given, h, c.if-taken-limit.false)),
-    )
+    (omega (arith, c.in_ok-count.ensures.bound)) (c.loop-lines.invariant.given s) in
+    record {
+      too_long = (
+        λ h. absurd (not_too_long _ c.in_err-take_piece.field-0.0 c.from_residual-in_err-take_piece.ensures.1 h),
+        λ h. absurd (omega (arith, given, h, c.if-taken-limit.false)),
+      );
+      bounded = omega (arith, given, c.if-taken-limit.false);
+    }
 
-pub returns-then-taken-limit-clause-left_off : goal.returns-then-taken-limit-clause-left_off
-returns-then-taken-limit-clause-left_off g c = λ s t world stands is.
+pub returns-then-taken-limit-clause-short : goal.returns-then-taken-limit-clause-short
+returns-then-taken-limit-clause-short g c = λ s t world stands.
     let script = g.S.Source.left c.args.source.now in
     let seen = take c.loop-lines.taken script in
     let o = c.loop-lines.invariant.whole s t world [] stands in
     record {
-      looked_at = c.loop-lines.taken;
-      within = c.loop-lines.invariant.taken;
-      last_pull = omega (arith, c.if-taken-limit.true, c.in_ok-count.ensures.bound, c.pull.ensures.room, c.in_ok-buffer.ensures.piece);
-      finished = subst (λ (bytes : List ℕ). Finished (g.T.Site.disk c.loop-lines.site) world (whole bytes) (g.T.Site.disk c.args.site.now).told)
-          (append-nil seen) (all_done _ (g.T.Site.disk c.loop-lines.site) world (whole (seen ++ [])) _ _ o c.loop-lines.invariant.none);
+      left_off = λ is. record {
+        looked_at = c.loop-lines.taken;
+        within = c.loop-lines.invariant.taken;
+        last_pull = omega (arith, c.if-taken-limit.true, c.in_ok-count.ensures.bound, c.pull.ensures.room, c.in_ok-buffer.ensures.piece);
+        finished = subst (λ (bytes : List ℕ). Finished (g.T.Site.disk c.loop-lines.site) world (whole bytes) (g.T.Site.disk c.args.site.now).told)
+            (append-nil seen) (all_done _ (g.T.Site.disk c.loop-lines.site) world (whole (seen ++ [])) _ _ o c.loop-lines.invariant.none);
+      };
+      cut_off = λ is. cc;
     }
 
-pub returns-in_err-take_end-clause-left_off : goal.returns-in_err-take_end-clause-left_off
-returns-in_err-take_end-clause-left_off g c = λ s t world stands is.
-    absurd (not_too_long _ c.in_err-take_end.field-0.0 c.from_residual-in_err-take_end.ensures.1 is)
+pub returns-in_err-take_end-clause-short : goal.returns-in_err-take_end-clause-short
+returns-in_err-take_end-clause-short g c = λ s t world stands. record {
+  left_off = λ is. absurd (not_too_long _ c.in_err-take_end.field-0.0 c.from_residual-in_err-take_end.ensures.1 is);
+  cut_off = λ is. absurd (not_input _ c.in_err-take_end.field-0.0 c.from_residual-in_err-take_end.ensures.1 is);
+}
 
-pub returns-in_err-take_piece-clause-left_off : goal.returns-in_err-take_piece-clause-left_off
-returns-in_err-take_piece-clause-left_off g c = λ s t world stands is.
-    absurd (not_too_long _ c.in_err-take_piece.field-0.0 c.from_residual-in_err-take_piece.ensures.1 is)
+pub returns-in_err-take_piece-clause-short : goal.returns-in_err-take_piece-clause-short
+returns-in_err-take_piece-clause-short g c = λ s t world stands. record {
+  left_off = λ is. absurd (not_too_long _ c.in_err-take_piece.field-0.0 c.from_residual-in_err-take_piece.ensures.1 is);
+  cut_off = λ is. absurd (not_input _ c.in_err-take_piece.field-0.0 c.from_residual-in_err-take_piece.ensures.1 is);
+}
 
 pub returns-in_err-take_end-clause-unpulled : goal.returns-in_err-take_end-clause-unpulled
 returns-in_err-take_end-clause-unpulled g c = λ s none.
@@ -154,25 +163,20 @@ returns-in_err-take_piece-clause-unpulled g c = λ s none.
     (omega (arith, c.in_ok-count.ensures.bound)) (c.loop-lines.invariant.given s) in
     absurd (omega (arith, given, none, c.if-count-eq0.false))
 
-pub returns-in_err-count-clause-cut_off : goal.returns-in_err-count-clause-cut_off
-returns-in_err-count-clause-cut_off g c = λ s t world stands is.
+pub returns-in_err-count-clause-short : goal.returns-in_err-count-clause-short
+returns-in_err-count-clause-short g c = λ s t world stands.
     let script = g.S.Source.left c.args.source.now in
     let seen = take c.loop-lines.taken script in
     let o = c.loop-lines.invariant.whole s t world [] stands in
     record {
-      given = seen;
-      cut = c.loop-lines.invariant.left s ∙ ap (λ (l : List ℕ). seen ++ l) (sym (c.in_err-count.ensures.failed s));
-      finished = subst (λ (bytes : List ℕ). Finished (g.T.Site.disk c.loop-lines.site) world (whole bytes) (g.T.Site.disk c.args.site.now).told)
-          (append-nil seen) (all_done _ (g.T.Site.disk c.loop-lines.site) world (whole (seen ++ [])) _ _ o c.loop-lines.invariant.none);
+      left_off = λ is. absurd (input_only _ c.in_err-count.field-0.0 c.from_residual-in_err-count.ensures.1 c.in_err-count.ensures.input is);
+      cut_off = λ is. record {
+        given = seen;
+        cut = c.loop-lines.invariant.left s ∙ ap (λ (l : List ℕ). seen ++ l) (sym (c.in_err-count.ensures.failed s));
+        finished = subst (λ (bytes : List ℕ). Finished (g.T.Site.disk c.loop-lines.site) world (whole bytes) (g.T.Site.disk c.args.site.now).told)
+            (append-nil seen) (all_done _ (g.T.Site.disk c.loop-lines.site) world (whole (seen ++ [])) _ _ o c.loop-lines.invariant.none);
+      };
     }
-
-pub returns-in_err-take_end-clause-cut_off : goal.returns-in_err-take_end-clause-cut_off
-returns-in_err-take_end-clause-cut_off g c = λ s t world stands is.
-    absurd (not_input _ c.in_err-take_end.field-0.0 c.from_residual-in_err-take_end.ensures.1 is)
-
-pub returns-in_err-take_piece-clause-cut_off : goal.returns-in_err-take_piece-clause-cut_off
-returns-in_err-take_piece-clause-cut_off g c = λ s t world stands is.
-    absurd (not_input _ c.in_err-take_piece.field-0.0 c.from_residual-in_err-take_piece.ensures.1 is)
 
 pub returns-then-count-eq0-clause-replied : goal.returns-then-count-eq0-clause-replied
 returns-then-count-eq0-clause-replied g c = λ s t.

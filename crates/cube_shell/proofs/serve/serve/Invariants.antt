@@ -4,7 +4,7 @@ use Rattle.script_lang.specs.Reading.{nothing_read, to_come, whole_with}
 use Rattle.script_lang.specs.Script.{commands, whole}
 use Rattle.plain_machine.specs.Stages.{AfterStop}
 use Rattle.plain_machine.specs.World.{World}
-use Rattle.cube_state.specs.Session.{IsFit, IsRunning, Stands}
+use Rattle.cube_session.specs.Session.{Runs, StandsFor}
 use Rattle.cube_shell.specs.Replied.{AreLeft}
 use Rattle.cube_shell.specs.Onward.{Onward}
 use Rattle.cube_shell.proofs.serve.serve.Given as goal
@@ -12,29 +12,28 @@ use Rattle.cube_shell.proofs.serve.serve.Given as goal
 -- so many bytes were taken, and with those that are left in the source the other commands are still to come
 abbrev pub invariant-loop-lines : goal.invariant-loop-lines
 invariant-loop-lines g l = record {
-  running : IsRunning l.session.state;
-  fit : IsTrue g.T.Site.tells → IsFit l.session.state (g.T.Site.disk l.site);
+  runs : Runs g.T.Site l.site l.session.state;
   over : l.lines.over ≡ false;
   read : l.lines.rest ≡ [];
   start : l.taken ≡ 0 → l.lines ≡ nothing_read;
   taken : l.taken ≤ l.limit;
   given : IsTrue g.S.Source.tells → length (g.S.Source.left l.fn.source) ≡ l.taken + length (g.S.Source.left l.source);
-  stands : IsTrue g.T.Site.tells → (world : World) → Stands l.fn.session.state (g.T.Site.disk l.fn.site) world
-      → (now : World) × Stands l.session.state (g.T.Site.disk l.site) now;
+  stands : IsTrue g.T.Site.tells → (world : World) → StandsFor l.fn.session.state (g.T.Site.disk l.fn.site) world
+      → (now : World) × StandsFor l.session.state (g.T.Site.disk l.site) now;
   onward : IsTrue g.S.Source.tells → IsTrue g.T.Site.tells → (world : World)
-      → Stands l.fn.session.state (g.T.Site.disk l.fn.site) world
+      → StandsFor l.fn.session.state (g.T.Site.disk l.fn.site) world
       → Onward l.session.state (g.T.Site.disk l.site) world (commands (g.S.Source.left l.fn.source))
       (g.T.Site.disk l.fn.site).told (to_come l.lines (g.S.Source.left l.source));
   replied : IsTrue g.S.Source.tells → IsTrue g.T.Site.tells → AreLeft (commands (g.S.Source.left l.fn.source)) (g.T.Site.disk l.fn.site).told
       (to_come l.lines (g.S.Source.left l.source)) (g.T.Site.disk l.site).told;
   left : IsTrue g.S.Source.tells → g.S.Source.left l.fn.source ≡ take l.taken (g.S.Source.left l.fn.source) ++ g.S.Source.left l.source;
   whole : IsTrue g.S.Source.tells → IsTrue g.T.Site.tells → (world : World) (more : List ℕ)
-      → Stands l.fn.session.state (g.T.Site.disk l.fn.site) world
+      → StandsFor l.fn.session.state (g.T.Site.disk l.fn.site) world
       → Onward l.session.state (g.T.Site.disk l.site) world (whole (take l.taken (g.S.Source.left l.fn.source) ++ more))
       (g.T.Site.disk l.fn.site).told (whole_with l.lines more);
   none : whole_with l.lines [] ≡ [];
   any_moment : IsTrue g.S.Source.tells → IsTrue g.T.Site.tells → (world : World)
-      → Stands l.fn.session.state (g.T.Site.disk l.fn.site) world
+      → StandsFor l.fn.session.state (g.T.Site.disk l.fn.site) world
       → LeavesOnly (g.T.Site.disk l.fn.site) (g.T.Site.disk l.site)
       (AfterStop world (commands (g.S.Source.left l.fn.source)) (g.T.Site.disk l.fn.site).told);
   ends : g.S.Source.ends l.source ≡ g.S.Source.ends l.fn.source;

@@ -1,42 +1,46 @@
-use Rattle.std.proofs.Common.{◌≡◌, ℕ, List, OnOk, ap, subst, Err}
+use Rattle.std.proofs.Common.{◌≡◌, ℕ, List, OnOk, ap, refl, subst, Err}
+use Rattle.site_core.specs.Calls.{Stays}
+use Rattle.site_core.proofs.Run.{Settles-ok}
 use Rattle.script_lang.specs.Script.{commands}
 use Rattle.plain_machine.specs.World.{bare}
 use Rattle.cube_shell.specs.Damage.{EndsAt, EndsForBreak}
 use Rattle.cube_shell.specs.Ends.{IsUndamaged, IsUsageOrMemory}
 use Rattle.cube_shell.specs.declared.status.Status.TheVariants.{Usage}
 use Rattle.cube_shell.specs.Replied.{HasReplied}
-use Rattle.cube_shell.proofs.Going.{opened_moments, settled_behind, unopened_moments}
-use Rattle.cube_shell.proofs.Statuses.{broken_as, either_way, ended_by_words, named, none_told_as, not_ended_so, unopened, unread_words}
+use Rattle.cube_shell.proofs.Going.{opened_behind, opened_moments, opening_moments, unopened_moments}
+use Rattle.cube_shell.proofs.Statuses.{broken_as, either_way, ended_by_words, named, none_told_as, not_ended_so, unopened, unread_words, where_ended}
 use Rattle.cube_shell.proofs.top_call.attempt.Goals as goal
 
 pub returns-in_err-session-clause-broken : goal.returns-in_err-session-clause-broken
-returns-in_err-session-clause-broken g c = λ t valid place breaks.
-    named _ c.in_err-session.field-0.0 place c.from_residual-in_err-session.ensures.1 (c.in_err-session.ensures.broken t place breaks).0
+returns-in_err-session-clause-broken g c = λ t valid place breaks. record {
+  end = named _ c.in_err-session.field-0.0 place c.from_residual-in_err-session.ensures.1 (c.in_err-session.ensures.broken t place breaks).0;
+  unpulled = refl;
+  untold = (c.start.ensures.quiet.told t);
+}
 
 pub returns-clause-broken : goal.returns-clause-broken
 returns-clause-broken g c = λ t valid place breaks. absurd (c.in_ok-session.ensures.broken t place breaks).1
 
-pub returns-clause-unpulled : goal.returns-clause-unpulled
-returns-clause-unpulled g c = λ t valid place breaks. absurd (c.in_ok-session.ensures.broken t place breaks).1
-
-pub returns-clause-untold : goal.returns-clause-untold
-returns-clause-untold g c = λ t valid place breaks. absurd (c.in_ok-session.ensures.broken t place breaks).1
-
 pub returns-clause-any_moment : goal.returns-clause-any_moment
 returns-clause-any_moment g c = λ s t kept keeps.
-    opened_moments (g.T.Site.disk c.args.site.now) (g.T.Site.disk c.start.new.site) (g.T.Site.disk c.serve.new.site) (bare kept) (commands (g.S.Source.left c.args.source.now)) (c.in_ok-session.ensures.disk t)
-    (λ told files. g.met.T.Site.only_now c.args.site.now told files t) (c.serve.ensures.any_moment s t (bare kept) (c.in_ok-session.ensures.opened t kept keeps))
+    opened_moments (g.T.Site.disk c.args.site.now) (g.T.Site.disk c.start.new.site) (g.T.Site.disk c.serve.new.site) (bare kept) (commands (g.S.Source.left c.args.source.now))
+    (Settles-ok Stays _ _ _ (c.in_ok-session.ensures.disk t)) (λ told files. g.met.T.Site.only_now c.args.site.now told files t) (c.serve.ensures.any_moment s t (bare kept) (c.in_ok-session.ensures.opened t kept keeps))
 
-pub returns-clause-settled : goal.returns-clause-settled
-returns-clause-settled g c = λ s t kept keeps.
+pub returns-clause-opened : goal.returns-clause-opened
+returns-clause-opened g c = λ s t kept keeps.
     let run = c.serve.ensures.any_moment s t (bare kept) (c.in_ok-session.ensures.opened t kept keeps) in
     either_way _ _ _
-    (settled_behind (g.T.Site.disk c.args.site.now) (g.T.Site.disk c.start.new.site) (g.T.Site.disk c.serve.new.site) (bare kept)
-    (commands (g.S.Source.left c.args.source.now)) (c.in_ok-session.ensures.disk t) run
-    (λ files. g.met.T.Site.counts_now c.serve.new.site (g.T.Site.disk c.start.new.site).clock files t run.later))
+    (opened_behind (g.T.Site.disk c.args.site.now) (g.T.Site.disk c.start.new.site) (g.T.Site.disk c.serve.new.site) (bare kept)
+    (commands (g.S.Source.left c.args.source.now)) (Settles-ok Stays _ _ _ (c.in_ok-session.ensures.disk t)) (λ told files. g.met.T.Site.only_now c.args.site.now told files t) run
+    (λ files. g.met.T.Site.counts_now c.serve.new.site (g.T.Site.disk c.start.new.site).clock files t run.clock.later))
 
-pub returns-in_err-session-clause-settled : goal.returns-in_err-session-clause-settled
-returns-in_err-session-clause-settled g c = λ s t kept keeps.
+pub returns-in_err-session-clause-any_moment : goal.returns-in_err-session-clause-any_moment
+returns-in_err-session-clause-any_moment g c = λ s t kept keeps.
+    opening_moments (g.T.Site.disk c.args.site.now) (g.T.Site.disk c.start.new.site) (bare kept) (commands (g.S.Source.left c.args.source.now))
+    (λ told files. g.met.T.Site.only_now c.args.site.now told files t) (c.start.ensures.disk t).time
+
+pub returns-in_err-session-clause-opened : goal.returns-in_err-session-clause-opened
+returns-in_err-session-clause-opened g c = λ s t kept keeps.
     unopened _ _ _ c.in_err-session.field-0.0 c.from_residual-in_err-session.ensures.1
     (λ same. c.in_err-session.ensures.no_output (ap Err same))
 
@@ -58,24 +62,33 @@ pub returns-in_err-cache-clause-any_moment : goal.returns-in_err-cache-clause-an
 returns-in_err-cache-clause-any_moment g c = λ s t kept keeps.
     unopened_moments (g.T.Site.disk c.args.site.now) (bare kept) (commands (g.S.Source.left c.args.source.now)) (λ told files. g.met.T.Site.only_now c.args.site.now told files t)
 
-pub returns-in_err-cache-clause-settled : goal.returns-in_err-cache-clause-settled
-returns-in_err-cache-clause-settled g c = λ s t kept keeps. unread_words _ _ _ c.in_err-cache.field-0.0 c.from_residual.ensures.1
+pub returns-in_err-cache-clause-opened : goal.returns-in_err-cache-clause-opened
+returns-in_err-cache-clause-opened g c = λ s t kept keeps. unread_words _ _ _ c.in_err-cache.field-0.0 c.from_residual.ensures.1
 
 pub returns-in_err-cache-clause-undamaged : goal.returns-in_err-cache-clause-undamaged
-returns-in_err-cache-clause-undamaged g c = λ t kept keeps. (ended_by_words IsUndamaged _ c.in_err-cache.field-0.0 c.from_residual.ensures.1 (λ is. tt) tt).0
+returns-in_err-cache-clause-undamaged g c = λ t kept keeps.
+    where_ended IsUndamaged _ (ended_by_words IsUndamaged _ c.in_err-cache.field-0.0 c.from_residual.ensures.1 (λ is. tt) tt)
 
 pub returns-in_err-cache-clause-broken : goal.returns-in_err-cache-clause-broken
-returns-in_err-cache-clause-broken g c = λ t valid place breaks.
-    ended_by_words (EndsAt place) _ c.in_err-cache.field-0.0 c.from_residual.ensures.1 (λ is. absurd (c.in_err-cache.ensures.usage is valid)) tt
+returns-in_err-cache-clause-broken g c = λ t valid place breaks. record {
+  end = ended_by_words (EndsAt place) _ c.in_err-cache.field-0.0 c.from_residual.ensures.1 (λ is. absurd (c.in_err-cache.ensures.usage is valid)) tt;
+  unpulled = refl;
+  untold = refl;
+}
 
 pub returns-in_err-cache-clause-damaged : goal.returns-in_err-cache-clause-damaged
 returns-in_err-cache-clause-damaged g c = λ s t none.
-    (ended_by_words (EndsForBreak (g.T.Site.disk c.args.site.now).files) _ c.in_err-cache.field-0.0 c.from_residual.ensures.1 (λ is. tt) tt).0
+    where_ended (EndsForBreak (g.T.Site.disk c.args.site.now).files) _
+    (ended_by_words (EndsForBreak (g.T.Site.disk c.args.site.now).files) _ c.in_err-cache.field-0.0 c.from_residual.ensures.1 (λ is. tt) tt)
 
 pub returns-in_err-cache-clause-usage : goal.returns-in_err-cache-clause-usage
 returns-in_err-cache-clause-usage g c = λ is valid.
-    not_ended_so _ Usage (ended_by_words (λ status. status ≡ Usage → ⊥) _ c.in_err-cache.field-0.0 c.from_residual.ensures.1
-    (λ usage same. c.in_err-cache.ensures.usage usage valid) (λ same. cc)).0 is
+    not_ended_so _ Usage (where_ended (λ status. status ≡ Usage → ⊥) _ (ended_by_words (λ status. status ≡ Usage → ⊥) _ c.in_err-cache.field-0.0
+    c.from_residual.ensures.1 (λ usage same. c.in_err-cache.ensures.usage usage valid) (λ same. cc))) is
 
 pub returns-in_err-cache-clause-faulty : goal.returns-in_err-cache-clause-faulty
-returns-in_err-cache-clause-faulty g c = λ faulty. ended_by_words IsUsageOrMemory _ c.in_err-cache.field-0.0 c.from_residual.ensures.1 (λ is. tt) tt
+returns-in_err-cache-clause-faulty g c = λ faulty. record {
+  end = ended_by_words IsUsageOrMemory _ c.in_err-cache.field-0.0 c.from_residual.ensures.1 (λ is. tt) tt;
+  unread = refl;
+  untouched = refl;
+}

@@ -17,12 +17,12 @@ returns-in-Ok-clause-headline g c = λ s t kept keeps.
     record {
       prefix = told_front (g.T.Site.disk c.args.site.now) (g.T.Site.disk c.attempt.new.site) (bare kept)
           (commands (g.S.Source.left c.args.source.now)) run
-          (g.met.T.Site.counts_now c.attempt.new.site (g.T.Site.disk c.args.site.now).clock (g.T.Site.disk c.attempt.new.site).files t run.later
+          (g.met.T.Site.counts_now c.attempt.new.site (g.T.Site.disk c.args.site.now).clock (g.T.Site.disk c.attempt.new.site).files t run.clock.later
           (g.met.T.Site.read_now c.attempt.new.site t));
       whole = λ is. c.in-Ok.ensures.finished s t kept keeps;
       read = λ is. c.in-Ok.ensures.read s;
       any_stop = run;
-      settled = λ opened. (c.in-Ok.ensures.settled s t kept keeps).0;
+      opened = λ opened. (c.in-Ok.ensures.opened s t kept keeps).0;
     }
 
 pub returns-in-Err-clause-headline : goal.returns-in-Err-clause-headline
@@ -31,22 +31,25 @@ returns-in-Err-clause-headline g c = λ s t kept keeps.
     record {
       prefix = told_front (g.T.Site.disk c.args.site.now) (g.T.Site.disk c.attempt.new.site) (bare kept)
           (commands (g.S.Source.left c.args.source.now)) run
-          (g.met.T.Site.counts_now c.attempt.new.site (g.T.Site.disk c.args.site.now).clock (g.T.Site.disk c.attempt.new.site).files t run.later
+          (g.met.T.Site.counts_now c.attempt.new.site (g.T.Site.disk c.args.site.now).clock (g.T.Site.disk c.attempt.new.site).files t run.clock.later
           (g.met.T.Site.read_now c.attempt.new.site t));
-      whole = λ is. absurd (not_done _ _ _ c.in-Err.ensures.cause is);
-      read = λ is. absurd (not_done _ _ _ c.in-Err.ensures.cause is);
+      whole = λ is. absurd (not_done _ _ _ c.in-Err.ensures.cause.0 is);
+      read = λ is. absurd (not_done _ _ _ c.in-Err.ensures.cause.0 is);
       any_stop = run;
-      settled = (c.in-Err.ensures.settled s t kept keeps).1;
+      opened = (c.in-Err.ensures.opened s t kept keeps).1;
     }
 
 pub returns-in-Ok-clause-broken : goal.returns-in-Ok-clause-broken
-returns-in-Ok-clause-broken g c = λ t valid place breaks. absurd (c.in-Ok.ensures.broken t valid place breaks).1
+returns-in-Ok-clause-broken g c = λ t valid place breaks. absurd (c.in-Ok.ensures.broken t valid place breaks).end
 
 pub returns-in-Err-clause-broken : goal.returns-in-Err-clause-broken
-returns-in-Err-clause-broken g c = λ t valid place breaks. (c.in-Err.ensures.broken t valid place breaks).0
+returns-in-Err-clause-broken g c = λ t valid place breaks. c.in-Err.ensures.broken t valid place breaks
 
 pub returns-in-Ok-clause-replied : goal.returns-in-Ok-clause-replied
 returns-in-Ok-clause-replied g c = λ s t is. c.in-Ok.ensures.replied s t
 
 pub returns-in-Err-clause-replied : goal.returns-in-Err-clause-replied
-returns-in-Err-clause-replied g c = λ s t is. absurd (not_done _ _ _ c.in-Err.ensures.cause is)
+returns-in-Err-clause-replied g c = λ s t is. absurd (not_done _ _ _ c.in-Err.ensures.cause.0 is)
+
+pub returns-in-Err-clause-read : goal.returns-in-Err-clause-read
+returns-in-Err-clause-read g c = λ s is. absurd (not_done _ _ _ c.in-Err.ensures.cause.0 is)

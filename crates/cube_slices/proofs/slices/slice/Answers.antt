@@ -20,7 +20,7 @@ returns-in_ok-reply-in-Pending-clause-answer g c = λ t world stands.
     let r = c.in-Pending.refresh in
     let text = c.args.text.now in
     let is : Stands (Pending r) old world = subst (λ (s : State). Stands s old world) c.in-Pending.is stands in
-    let stored = subst (λ (kept : Store). IsStoreOf kept is.0.facts old.files) (sym c.store.ensures) (attends_belongs r old is.0 is.1 is.3).stored in
+    let stored = subst (λ (kept : Store). IsStoreOf kept is.0.facts old.files) (sym c.store.ensures) (attends_belongs r old is.0 is.1 is.3).stored.read in
     record {
       stands = stands_rests (Pending r) old new world (c.reply_to-in-Pending.ensures.disk t) is;
       reply = pending_slice r old world text c.in_ok-reply-in-Pending.reply.items is
@@ -37,7 +37,7 @@ returns-in_err-reply-in-Pending-clause-undamaged g c = λ t world stands.
     let old = g.T.Site.disk c.args.site.now in
     let r = c.in-Pending.refresh in
     let is : Stands (Pending r) old world = subst (λ (s : State). Stands s old world) c.in-Pending.is stands in
-    let stored = subst (λ (kept : Store). IsStoreOf kept is.0.facts old.files) (sym c.store.ensures) (attends_belongs r old is.0 is.1 is.3).stored in
+    let stored = subst (λ (kept : Store). IsStoreOf kept is.0.facts old.files) (sym c.store.ensures) (attends_belongs r old is.0 is.1 is.3).stored.read in
     let none : IsNoDamage c.in_err-reply-in-Pending.field-0.0 = c.in_err-reply-in-Pending.ensures.undamaged t is.0.facts stored in
     search rules
 
@@ -51,7 +51,7 @@ returns-in_err-reply-in-Pending-clause-cost g c = λ t world most stands may.
     let r = c.in-Pending.refresh in
     let text = c.args.text.now in
     let is : Stands (Pending r) old world = subst (λ (s : State). Stands s old world) c.in-Pending.is stands in
-    let stored = subst (λ (kept : Store). IsStoreOf kept is.0.facts old.files) (sym c.store.ensures) (attends_belongs r old is.0 is.1 is.3).stored in
+    let stored = subst (λ (kept : Store). IsStoreOf kept is.0.facts old.files) (sym c.store.ensures) (attends_belongs r old is.0 is.1 is.3).stored.read in
     c.reply_to-in-Pending.ensures.cost t is.0.facts most stored
     (subst (λ (kept : Store). MayRead kept.forest.schema is.0.facts (slice_of kept.forest.schema text) most) (sym c.store.ensures) (pending_cost r old world text most is may))
 
@@ -61,6 +61,14 @@ returns-in_ok-reply-in-Pending-clause-cost g c = λ t world most stands may.
     let r = c.in-Pending.refresh in
     let text = c.args.text.now in
     let is : Stands (Pending r) old world = subst (λ (s : State). Stands s old world) c.in-Pending.is stands in
-    let stored = subst (λ (kept : Store). IsStoreOf kept is.0.facts old.files) (sym c.store.ensures) (attends_belongs r old is.0 is.1 is.3).stored in
+    let stored = subst (λ (kept : Store). IsStoreOf kept is.0.facts old.files) (sym c.store.ensures) (attends_belongs r old is.0 is.1 is.3).stored.read in
     c.reply_to-in-Pending.ensures.cost t is.0.facts most stored
     (subst (λ (kept : Store). MayRead kept.forest.schema is.0.facts (slice_of kept.forest.schema text) most) (sym c.store.ensures) (pending_cost r old world text most is may))
+
+pub returns-in_ok-reply-in-Idle-clause-any_moment : goal.returns-in_ok-reply-in-Idle-clause-any_moment
+returns-in_ok-reply-in-Idle-clause-any_moment g c = λ t world stands.
+    resting c.args.state _ _ world world stands (λ told files. g.met.T.Site.only_now c.args.site.now told files t) (c.reply_to.ensures.disk t)
+
+pub returns-in_ok-reply-in-Hollow-clause-any_moment : goal.returns-in_ok-reply-in-Hollow-clause-any_moment
+returns-in_ok-reply-in-Hollow-clause-any_moment g c = λ t world stands.
+    resting c.args.state _ _ world world stands (λ told files. g.met.T.Site.only_now c.args.site.now told files t) (c.reply_to-in-Hollow.ensures.disk t)

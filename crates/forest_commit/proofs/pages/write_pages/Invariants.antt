@@ -1,6 +1,7 @@
 use Rattle.std.proofs.Common.{◌≡◌, ◌≤◌, ◌+◌, ◌*◌, ◌++◌, IsTrue, length, take}
 use Rattle.site_core.specs.Calls.{Changes}
-use Rattle.forest_commit.specs.Commit.{DiffersPast, page_size}
+use Rattle.site_core.specs.Disk.{DiffersPast}
+use Rattle.forest_commit.specs.Commit.{page_size}
 use Rattle.forest_commit.proofs.pages.write_pages.Given as goal
 
 abbrev pub invariant-loop-number : goal.invariant-loop-number

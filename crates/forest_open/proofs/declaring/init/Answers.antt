@@ -33,6 +33,7 @@ pub invariant_of-result : goal.invariant_of-result
 invariant_of-result g c = record {
   text = ap (λ (b : Body). b.schema_len) c.first_body-body.ensures;
   kinds = ap (λ (b : Book). b.kinds) c.in_ok-dicts.ensures;
+  names = omega (arith, ap (λ (b : Body). b.names_len) c.first_body-body.ensures);
 }
 
 pub returns-clause-declared : goal.returns-clause-declared

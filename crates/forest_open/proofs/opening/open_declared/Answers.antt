@@ -5,7 +5,9 @@ use Rattle.select_map.specs.declared.mapping.Mapping.{Mapping}
 use Rattle.forest_root.specs.Forest.{pages_of_all}
 use Rattle.attr_dict.specs.Book.{Book}
 use Rattle.attr_dict.specs.Entering.{HasRead}
+use Rattle.attr_dict.specs.Room.{entries_len}
 use Rattle.attr_dict.proofs.Kept.{kinds-after}
+use Rattle.attr_dict.proofs.Lens.{len-none, shown-all}
 use Rattle.forest_open.specs.Opening.{is_of_schema, is_zero}
 use Rattle.forest_open.proofs.Openings.{has_views, side_short}
 use Rattle.forest_open.proofs.opening.open_declared.Goals as goal
@@ -24,6 +26,15 @@ invariant_of-result g c =
     record {
       text = c.requires.text;
       kinds = ap (λ (b : Book). b.kinds) read.book ∙ (kinds-after _ read.es ∙ ap (λ (b : Book). b.kinds) c.in_ok-dicts.ensures);
+      names = omega (
+        arith,
+        c.requires.names,
+        c.requires.text,
+        c.in-Ok.ensures.len,
+        ap entries_len c.in_ok-dicts.ensures,
+        len-none c.args.schema,
+        shown-all c.read_names.new.self c.lengths-shown.result.at c.lengths-shown.ensures,
+      );
     }
 
 pub returns-then-end-all_pages-clause-judged : goal.returns-then-end-all_pages-clause-judged

@@ -1,4 +1,5 @@
-use Rattle.std.proofs.Common.{refl}
+use Rattle.std.proofs.Common.{arith, refl}
+use Rattle.attr_dict.proofs.Lens.{shown-all}
 use Rattle.forest_store.specs.Held.{held}
 use Rattle.forest_refresh.proofs.Committed.{either_facts, refresh_of}
 use Rattle.forest_refresh.proofs.committing.commit.Goals as goal
@@ -29,3 +30,6 @@ returns-clause-any_moment g c = λ t accepted all old now fine is text pages.
     let live = c.args.store.forest.body in
     either_facts schema accepted all _ _ fine (c.finish.ensures.any_moment t (held schema accepted) (held schema all) old live
     (refresh_of schema accepted all old live c.args.names.now c.args.next _ _ now c.requires.next is text refl refl c.as_bytes.ensures) pages)
+
+pub invariant_of-result-clause-names : goal.invariant_of-result-clause-names
+invariant_of-result-clause-names g c = omega (arith, c.requires.names, shown-all c.args.store.dicts c.lengths-shown.result.at c.lengths-shown.ensures)

@@ -26,13 +26,13 @@ merge_points-requires-clause-measures g c = subst (All (λ (o : Entry). All (λ 
     (λ i o lt. λ j d low. (c.in_ok-tree_points.ensures.each.good i o lt).measures ∙ sym (c.requires.added.1.points.good j d low).measures)
 
 pub merge_points-requires-clause-room : goal.merge_points-requires-clause-room
-merge_points-requires-clause-room g c = omega (arith, ap length c.deref.ensures.value, c.in_ok-tree_points.ensures.few, c.requires.room, c.tree_points.ensures)
+merge_points-requires-clause-room g c = omega (arith, ap length c.deref.ensures.value, c.in_ok-tree_points.ensures.few, c.requires.room.merged, c.tree_points.ensures)
 
 pub returns-in-Ok-clause-points : goal.returns-in-Ok-clause-points
-returns-in-Ok-clause-points g c = λ t accepted batch fine all live delta.
+returns-in-Ok-clause-points g c = λ t accepted batch adds.
     let forest = c.args.forest.now in
-    let old = c.deref.ensures.value ∙ c.in_ok-tree_points.ensures.points t accepted fine live in
-    c.in-Ok.ensures.merged ∙ ((λ i. merged_entries (old i) (delta i)) ∙ facts-merged forest.schema forest.lawful accepted batch forest.mapping forest.mapped c.args.tree)
+    let old = c.deref.ensures.value ∙ c.in_ok-tree_points.ensures.points t accepted adds.accepted adds.live in
+    c.in-Ok.ensures.merged ∙ ((λ i. merged_entries (old i) (adds.points i)) ∙ facts-merged forest.schema forest.lawful accepted batch forest.mapping forest.mapped c.args.tree)
 
 pub returns-in-Ok-clause-each : goal.returns-in-Ok-clause-each
 returns-in-Ok-clause-each g c =
@@ -58,11 +58,11 @@ returns-in-Ok-clause-few g c = λ most are a low.
     )
 
 pub returns-in-Err-clause-undamaged : goal.returns-in-Err-clause-undamaged
-returns-in-Err-clause-undamaged g c = λ t accepted batch fine all live delta.
+returns-in-Err-clause-undamaged g c = λ t accepted batch adds.
     let forest = c.args.forest.now in
-    let old = c.deref.ensures.value ∙ c.in_ok-tree_points.ensures.points t accepted fine live in
-    let joins : AllJoin c.deref.result.now c.args.delta.now = subst (λ (es : List Entry). AllJoin es c.args.delta.now) (sym old) (subst (AllJoin (tree_entries forest.schema accepted (tree_of forest.mapping c.args.tree))) (sym delta)
-    (facts-join forest.schema forest.lawful accepted batch forest.mapping forest.mapped c.args.tree all)) in
+    let old = c.deref.ensures.value ∙ c.in_ok-tree_points.ensures.points t accepted adds.accepted adds.live in
+    let joins : AllJoin c.deref.result.now c.args.delta.now = subst (λ (es : List Entry). AllJoin es c.args.delta.now) (sym old) (subst (AllJoin (tree_entries forest.schema accepted (tree_of forest.mapping c.args.tree))) (sym adds.points)
+    (facts-join forest.schema forest.lawful accepted batch forest.mapping forest.mapped c.args.tree adds.all)) in
     absurd (c.in-Err.ensures.apart joins)
 
 pub returns-in-Err-clause-place : goal.returns-in-Err-clause-place

@@ -5,18 +5,20 @@ use Rattle.view_points.specs.Codes.{names}
 use Rattle.view_points.specs.Points.{Names}
 use Rattle.attr_dict.specs.Admitting.{codes_of}
 use Rattle.attr_dict.proofs.Kept.{lists-own}
+use Rattle.attr_dict.proofs.Lens.{shown-all}
 use Rattle.forest_root.specs.Body.{max_facts}
 use Rattle.forest_store.proofs.SchemaKinds.{agree_with}
 use Rattle.forest_store.proofs.Shown.{whole_named}
 use Rattle.forest_refresh.specs.Limits.{TellsLimit}
 use Rattle.forest_refresh.specs.Trees.{deltas_by}
 use Rattle.forest_refresh.proofs.Named.{adds_names, all_kinds, all_named, attributes, coordinates, full_stop, names_grow, none_full, view_kinds}
+use Rattle.forest_refresh.proofs.NamesRoom.{admitted_room, forgotten_room}
 use Rattle.forest_refresh.proofs.Prepared.{front_is, shown_kept}
 use Rattle.forest_refresh.proofs.Ready.{both_agree, err_if, err_then}
 use Rattle.forest_refresh.proofs.preparing.prepare.Goals as goal
 
 pub admit-requires : goal.admit-requires
-admit-requires c = agree_with c.args.store.now.forest.schema c.args.store.now.dicts c.args.store.now.kinds c.args.facts.now c.requires.agree
+admit-requires c = agree_with c.args.store.now.forest.schema c.args.store.now.dicts c.args.store.now.kinds c.args.facts.now c.requires.batch.agree
 
 pub returns-in_err-admitted-clause-limit : goal.returns-in_err-admitted-clause-limit
 returns-in_err-admitted-clause-limit c = λ accepted files is.
@@ -54,7 +56,7 @@ returns-in-Ok-clause-adds c = λ accepted files is.
     let b = store.dicts in
     let batch = c.args.facts.now in
     let own = whole_named store accepted files c.requires.whole is in
-    let agree = both_agree schema accepted batch is.accepted.each c.requires.agree in
+    let agree = both_agree schema accepted batch is.accepted.each c.requires.batch.agree in
     c.in-Ok.ensures.adds accepted files is.accepted is.live (shown_kept store batch accepted files c.admit.new.self c.requires.whole is c.in_ok-admitted.ensures.names)
     (all_named schema b store.kinds accepted batch own c.admit.new.self c.in_ok-admitted.ensures.names)
     (none_full schema b store.kinds accepted batch own c.in_ok-admitted.ensures.none agree)
@@ -65,7 +67,7 @@ returns-in-Err-clause-limit c = λ accepted files is.
     let store = c.args.store.now in
     let schema = store.forest.schema in
     let batch = c.args.facts.now in
-    let agree = both_agree schema accepted batch is.accepted.each c.requires.agree in
+    let agree = both_agree schema accepted batch is.accepted.each c.requires.batch.agree in
     c.in-Err.ensures.limit accepted files is.accepted is.live
     (none_full schema store.dicts store.kinds accepted batch (whole_named store accepted files c.requires.whole is) c.in_ok-admitted.ensures.none agree)
 
@@ -86,3 +88,18 @@ pub returns-in-Ok-clause-front : goal.returns-in-Ok-clause-front
 returns-in-Ok-clause-front c = λ a.
     let store = c.args.store.now in
     front_is store.dicts c.args.facts.now c.admit.new.self c.in_ok-admitted.ensures.names (slice_index store.shown.at a) a (c.requires.whole a)
+
+pub invariant_of-store-clause-names : goal.invariant_of-store-clause-names
+invariant_of-store-clause-names c =
+    admitted_room c.args.store.now c.admit.new.self c.args.facts.now c.admit.result c.requires.whole c.admit.ensures.kinds c.admit.ensures.names c.admit.ensures.unchanged
+
+pub prepare_with-requires-clause-names : goal.prepare_with-requires-clause-names
+prepare_with-requires-clause-names c =
+    let store = c.args.store.now in
+    omega (arith, store.names, shown-all store.dicts store.shown.at c.requires.whole, c.in_ok-admitted.ensures.len)
+
+pub invariant_of-store-in-Err-clause-names : goal.invariant_of-store-in-Err-clause-names
+invariant_of-store-in-Err-clause-names c =
+    let store = c.args.store.now in
+    forgotten_room store c.forget.new.self (c.forget.ensures.kinds ∙ c.in_ok-admitted.ensures.kinds) (λ a. c.forget.ensures.names a
+    ∙ front_is store.dicts c.args.facts.now c.admit.new.self c.in_ok-admitted.ensures.names (slice_index c.lengths-before.result.at a) a (c.lengths-before.ensures a))

@@ -8,6 +8,7 @@ use Rattle.forest_refresh.specs.Begun.{IsBegun, IsRefreshOf}
 use Rattle.forest_refresh.specs.Limits.{TellsLimit}
 use Rattle.forest_refresh.specs.Next.{HasMass, added}
 use Rattle.forest_refresh.proofs.Added.{deltas-by}
+use Rattle.forest_refresh.proofs.NamesRoom.{names_fit}
 use Rattle.forest_refresh.proofs.Prepared.{is_begun, is_refresh}
 use Rattle.forest_refresh.proofs.Ready.{err_if, err_then, refused_mass}
 use Rattle.forest_refresh.proofs.preparing.prepare_with.Goals as goal
@@ -29,9 +30,10 @@ returns-clause-prepared c =
     let batch = c.args.facts.now in
     let up : c.in_ok-masses.masses ≡ added store.forest.body.masses batch = c.in_ok-masses.ensures.all ∙ ap (added store.forest.body.masses) c.as_slice.ensures in
     subst (λ (n : Body). IsBegun (record { store = store; deltas = c.in_ok-deltas.deltas; entries = c.args.admitted.names; next = n })) (sym c.next_body.ensures)
-    (is_begun store batch c.args.admitted.coded c.in_ok-deltas.deltas c.args.admitted.names c.in_ok-names_len.names_len c.args.count c.in_ok-masses.masses
+    (is_begun store batch c.args.admitted.coded c.in_ok-deltas.deltas c.args.admitted.names c.names_len-names_len.result c.args.count c.in_ok-masses.masses
     c.requires.agree c.requires.coded (c.in_ok-deltas.ensures.named (names_at store.dicts) c.requires.coded.viewed) c.requires.total c.requires.few up c.in_ok-masses.ensures.within
-    c.requires.some c.in_ok-names_len.ensures.sum c.in_ok-names_len.ensures.within c.requires.shown)
+    c.requires.some c.names_len-names_len.ensures (omega (arith, c.names_len-names_len.ensures, names_fit c.args.store.now c.requires.limit, c.requires.names)) c.requires.shown
+    (omega (arith, c.names_len-names_len.ensures, c.requires.names)))
 
 pub returns-clause-adds : goal.returns-clause-adds
 returns-clause-adds c = λ accepted files fine live shown names fit adds.
@@ -39,7 +41,7 @@ returns-clause-adds c = λ accepted files fine live shown names fit adds.
     let batch = c.args.facts.now in
     let up : c.in_ok-masses.masses ≡ added store.forest.body.masses batch = c.in_ok-masses.ensures.all ∙ ap (added store.forest.body.masses) c.as_slice.ensures in
     subst (λ (n : Body). IsRefreshOf (record { store = store; deltas = c.in_ok-deltas.deltas; entries = c.args.admitted.names; next = n }) accepted batch files) (sym c.next_body.ensures)
-    (is_refresh store batch c.args.admitted.coded c.in_ok-deltas.deltas c.args.admitted.names c.in_ok-names_len.names_len c.args.count c.in_ok-masses.masses
+    (is_refresh store batch c.args.admitted.coded c.in_ok-deltas.deltas c.args.admitted.names c.names_len-names_len.result c.args.count c.in_ok-masses.masses
     c.requires.agree c.requires.coded (c.in_ok-deltas.ensures.named (names_at store.dicts) c.requires.coded.viewed) c.requires.total c.requires.few up c.in_ok-masses.ensures.within
     accepted files fine live shown names fit adds)
 
@@ -47,3 +49,6 @@ pub returns-clause-points : goal.returns-clause-points
 returns-clause-points c =
     let store = c.args.store.now in
     deltas-by store.forest (names_at store.dicts) c.args.facts.now c.in_ok-deltas.deltas (c.in_ok-deltas.ensures.named (names_at store.dicts) c.requires.coded.viewed)
+
+pub names_len-names_len-requires : goal.names_len-names_len-requires
+names_len-names_len-requires c = omega (arith, names_fit c.args.store.now c.requires.limit, c.requires.names)

@@ -10,7 +10,7 @@ pub write_pages-requires-clause-few : goal.write_pages-requires-clause-few
 write_pages-requires-clause-few g c =
     let so_far = c.loop-page.invariant.written in
     let few = tree-few c.args.shape c.requires.shape c.args.entries.now c.requires.points c.args.first so_far.0 c.loop-page.packer c.loop-page.invariant.shape so_far.1 in
-    omega (arith, few, so_far.2, c.requires.few)
+    omega (arith, few, so_far.2, c.requires.first.few)
 
 pub returns-in_err-write_pages-clause-disk : goal.returns-in_err-write_pages-clause-disk
 returns-in_err-write_pages-clause-disk g c = λ tells.
@@ -22,13 +22,13 @@ returns-in_err-write_pages-clause-writes g c = λ views are.
     let so_far = c.loop-page.invariant.written in
     let page = c.next_page.ensures.page c.loop-page-test.true in
     let few = packed-few c.args.shape c.requires.shape views c.args.entries.now are c.args.first (so_far.0 ++ page.0 ∷ []) c.next_page.new.self (c.next_page.ensures.shape ∙ c.loop-page.invariant.shape) (page.2 c.args.first so_far.0 so_far.1) in
-    omega (arith, few, so_far.4, length-append so_far.0 (page.0 ∷ []), c.write_pages.ensures.writes, c.next_page.array_long)
+    omega (arith, few, so_far.4, length-append so_far.0 (page.0 ∷ []), c.write_pages.ensures.calls.writes, c.next_page.array_long)
 
 pub overflow_add-number : goal.overflow_add-number
 overflow_add-number g c =
     let so_far = c.loop-page.invariant.written in
     let few = tree-few c.args.shape c.requires.shape c.args.entries.now c.requires.points c.args.first so_far.0 c.loop-page.packer c.loop-page.invariant.shape so_far.1 in
-    omega (arith, few, so_far.2, c.requires.few)
+    omega (arith, few, so_far.2, c.requires.first.few)
 
 pub loop-page-smaller : goal.loop-page-smaller
 loop-page-smaller g c =
@@ -47,7 +47,7 @@ loop-page-preserved g c =
         page.2 c.args.first so_far.0 so_far.1,
         omega (arith, so_far.2, length-append so_far.0 (page.0 ∷ [])),
         (λ tells. page-behind c.args.shape c.loop-page.number (c.loop-page.number + 1) _ c.next_page.new.into _ _ so_far.0 page.0 bytes c.next_page.array_long (omega arith) (c.loop-page.invariant.place tells) (c.in_ok-write_pages.ensures.written tells) (so_far.3 tells)),
-        omega (arith, so_far.4, length-append so_far.0 (page.0 ∷ []), c.write_pages.ensures.writes, c.next_page.array_long),
+        omega (arith, so_far.4, length-append so_far.0 (page.0 ∷ []), c.write_pages.ensures.calls.writes, c.next_page.array_long),
       );
       shape = c.next_page.ensures.shape ∙ c.loop-page.invariant.shape;
       place = λ tells. page-reached c.args.shape c.loop-page.number (c.loop-page.number + 1) [] c.next_page.new.into _ _ so_far.0 page.0 bytes c.next_page.array_long (omega arith) (c.loop-page.invariant.place tells) (c.in_ok-write_pages.ensures.written tells);
@@ -71,11 +71,16 @@ returns-clause-number g c = λ views are.
     let all : so_far.0 ≡ pages_of c.args.shape c.args.first views = packed-all c.args.shape c.requires.shape views c.args.entries.now are c.args.first so_far.0 c.loop-page.packer c.loop-page.invariant.shape so_far.1 done in
     omega (arith, so_far.2, ap length all)
 
-pub returns-clause-few : goal.returns-clause-few
-returns-clause-few g c =
+pub returns-clause-next : goal.returns-clause-next
+returns-clause-next g c =
     let so_far = c.loop-page.invariant.written in
     let few = tree-few c.args.shape c.requires.shape c.args.entries.now c.requires.points c.args.first so_far.0 c.loop-page.packer c.loop-page.invariant.shape so_far.1 in
-    (omega (arith, so_far.2), omega (arith, few, so_far.2))
+    record {
+      behind = omega (arith, so_far.2);
+      few = omega (arith, few, so_far.2);
+      place = c.loop-page.invariant.place;
+      wrote = omega (arith, so_far.2, so_far.4);
+    }
 
 pub returns-clause-writes : goal.returns-clause-writes
 returns-clause-writes g c = λ views are.

@@ -2,7 +2,8 @@ use Rattle.std.proofs.Common.{◌≡◌, ◌≤◌, ◌+◌, ◌-◌, ◌*◌, �
 use Rattle.site_core.specs.Calls.{Changes}
 use Rattle.tree_pack.specs.Packing.{IsPacking}
 use Rattle.tree_pack.specs.Pages.{PointPage, page_bytes}
-use Rattle.forest_commit.specs.Commit.{DiffersPast, page_size}
+use Rattle.site_core.specs.Disk.{DiffersPast}
+use Rattle.forest_commit.specs.Commit.{page_size}
 use Rattle.forest_refresh.proofs.writing.write_tree.Given as goal
 
 -- the pages that the packer has written stand on the side behind those of the trees before

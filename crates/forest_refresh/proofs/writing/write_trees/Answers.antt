@@ -1,14 +1,16 @@
-use Rattle.std.proofs.Common.{rules, ◌≡◌, ◌∙◌, ◌<◌, ◌≤◌, ◌+◌, ◌*◌, ◌++◌, ℕ, List, [], length, get_or, sym, ap, subst, arith}
+use Rattle.std.proofs.Common.{rules, ◌≡◌, ◌∙◌, ◌<◌, ◌≤◌, ◌+◌, ◌*◌, ◌++◌, ℕ, IsTrue, List, [], length, get_or, sym, ap, subst, arith}
+use Rattle.fact_model.specs.declared.fact.Fact.{Fact}
 use Rattle.cube_point.specs.declared.point.Entry.{Entry}
 use Rattle.select_map.specs.declared.mapping.Mapping.{Mapping}
 use Rattle.forest_commit.specs.Commit.{page_size}
+use Rattle.forest_refresh.specs.Additions.{IsAddition, IsAdditionAt}
 use Rattle.forest_refresh.specs.Next.{HasNumbers, counts_from}
 use Rattle.forest_refresh.specs.Refreshed.{IsNoDamage, NamesPageIn}
 use Rattle.forest_refresh.specs.Trees.{IsWholeFor, TellsDamageFor, TellsFirstDamage, by_arity}
 use Rattle.forest_refresh.proofs.Damages.{first-damage, one-more, page-in}
-use Rattle.forest_refresh.proofs.Packings.{AreFew, at-tree, counted-all, delta-added, delta-named, has-numbers, row-few, rows-few}
+use Rattle.forest_refresh.proofs.Packings.{AreFew, at-tree, counted-all, delta-added, has-numbers, row-few, rows-few}
 use Rattle.forest_refresh.proofs.Ready.{err_if, err_then}
-use Rattle.forest_refresh.proofs.Sides.{damage-before, live-on, side-all, side-few, side-long, side-more, whole-before}
+use Rattle.forest_refresh.proofs.Sides.{addition-at, damage-before, side-all, side-few, side-long, side-more, whole-before}
 use Rattle.forest_refresh.proofs.Writings.{written-on}
 use Rattle.forest_store.proofs.Places.{few-trees, pages-more, part-total, selection}
 use Rattle.forest_store.proofs.Schemas.{few_views}
@@ -27,37 +29,64 @@ low g c = omega (arith, below g c, c.requires.lists)
 is : (g : Over) (c : After-as_slice-delta g) → c.as_slice-delta.result.now ≡ get_or c.args.deltas.now c.loop-tree.tree c.index-as_slice-tree.result
 is g c = c.as_slice-delta.ensures ∙ (c.index-as_slice-tree.is ∙ ap (λ (ds : List (List Entry)). get_or ds c.loop-tree.tree c.index-as_slice-tree.result) c.as_slice.ensures)
 
+-- what is added to all trees is added to this one
+adds-here : (g : Over) (c : After-as_slice-delta g) → IsTrue g.T.Site.tells → (accepted batch : List Fact)
+    → IsAddition c.args.forest.now (g.T.Site.disk c.args.site.now).files c.args.deltas.now accepted batch
+    → IsAdditionAt c.args.forest.now (g.T.Site.disk c.loop-tree.site).files c.loop-tree.tree c.as_slice-delta.result.now accepted batch
+adds-here g c tells accepted batch adds =
+    addition-at c.args.slot _ _ (c.loop-tree.invariant.disk tells).files c.requires.slot c.args.forest.now c.requires.other c.args.deltas.now c.loop-tree.tree
+    c.index-as_slice-tree.result c.as_slice-delta.result.now (below g c) (is g c) c.requires.lists accepted batch adds
+
 pub overflow_cast-tree : goal.overflow_cast-tree
 overflow_cast-tree g c =
     omega (arith, c.loop-tree-test.true, ap length c.as_slice-tree-end.ensures, c.requires.lists, few-trees c.args.forest.now)
 
-pub add_tree-requires-clause-few : goal.add_tree-requires-clause-few
-add_tree-requires-clause-few g c = omega (arith, c.loop-tree.invariant.low, low g (goal.at.add_tree-requires-clause-few g c).After-as_slice-delta, few-trees c.args.forest.now)
+pub add_tree-requires-clause-room : goal.add_tree-requires-clause-room
+add_tree-requires-clause-room g c =
+    let at = (goal.at.add_tree-requires-clause-room g c).After-as_slice-delta in
+    let t : ℕ = c.loop-tree.tree in
+    let inv = c.loop-tree.invariant in
+    let room = c.requires.room in
+    record {
+      points = record {
+        old = omega (arith, room.old t (below g at), inv.room.before);
+        merged = omega (arith, room.merged t (below g at), inv.room.merged, ap length (at-tree c.args.forest.now c.args.deltas.now t c.index-as_slice-tree.result c.as_slice-delta.result.now (below g at) (is g at)));
+      };
+      row = omega (arith, inv.rows, below g at, room.counts, inv.room.rows);
+    }
+
+pub add_tree-requires-clause-first : goal.add_tree-requires-clause-first
+add_tree-requires-clause-first g c = record {
+  low = c.requires.slot;
+  few = omega (arith, c.loop-tree.invariant.low, low g (goal.at.add_tree-requires-clause-first g c).After-as_slice-delta, few-trees c.args.forest.now);
+  place = c.loop-tree.invariant.place;
+}
 
 pub returns-in_err-first-clause-disk : goal.returns-in_err-first-clause-disk
 returns-in_err-first-clause-disk g c = λ tells. written-on (2 + c.args.slot) 0 (page_size * c.loop-tree.first) _ _ _ (omega arith) (c.loop-tree.invariant.disk tells) (c.add_tree.ensures.disk tells)
 
-pub returns-in_err-first-clause-reads : goal.returns-in_err-first-clause-reads
-returns-in_err-first-clause-reads g c =
-    let at = (goal.at.returns-in_err-first-clause-reads g c).After-as_slice-delta in
-    omega (arith, c.loop-tree.invariant.reads, c.add_tree.ensures.reads, part-total c.args.forest.now c.loop-tree.tree (low g at))
+pub returns-in_err-first-clause-calls : goal.returns-in_err-first-clause-calls
+returns-in_err-first-clause-calls g c =
+    let at = (goal.at.returns-in_err-first-clause-calls g c).After-as_slice-delta in
+    record {
+      cause = search rules;
+      told_faults = search rules;
+      reads = omega (arith, c.loop-tree.invariant.reads, c.add_tree.ensures.calls.reads, part-total c.args.forest.now c.loop-tree.tree (low g at));
+    }
 
 pub returns-in_err-first-clause-undamaged : goal.returns-in_err-first-clause-undamaged
-returns-in_err-first-clause-undamaged g c = λ tells accepted batch fine all live same.
-    let forest = c.args.forest.now in
+returns-in_err-first-clause-undamaged g c = λ tells accepted batch adds.
     let at = (goal.at.returns-in_err-first-clause-undamaged g c).After-as_slice-delta in
-    let now = live-on c.args.slot 0 _ _ (c.loop-tree.invariant.disk tells).files c.requires.slot forest.schema forest.body accepted c.requires.other live in
-    let sound = c.in_err-first.ensures.undamaged tells accepted batch fine all now (delta-named forest c.args.deltas.now c.loop-tree.tree c.index-as_slice-tree.result c.as_slice-delta.result.now (below g at) (is g at) c.requires.lists (accepted ++ batch) batch same) in
+    let sound = c.in_err-first.ensures.undamaged tells accepted batch (adds-here g at tells accepted batch adds) in
     err_then c.from_residual.result _ IsNoDamage (err_if c.from_residual.result _ c.from_residual.ensures.1) (λ stop is. subst IsNoDamage (sym is) sound)
 
 pub returns-in_err-first-clause-writes : goal.returns-in_err-first-clause-writes
-returns-in_err-first-clause-writes g c = λ tells accepted batch fine all live same.
+returns-in_err-first-clause-writes g c = λ tells accepted batch adds.
     let forest = c.args.forest.now in
     let inv = c.loop-tree.invariant in
     let at = (goal.at.returns-in_err-first-clause-writes g c).After-as_slice-delta in
-    let now = live-on c.args.slot 0 _ _ (inv.disk tells).files c.requires.slot forest.schema forest.body accepted c.requires.other live in
-    let wrote = c.add_tree.ensures.writes tells accepted batch fine all now (delta-named forest c.args.deltas.now c.loop-tree.tree c.index-as_slice-tree.result c.as_slice-delta.result.now (below g at) (is g at) c.requires.lists (accepted ++ batch) batch same) in
-    omega (arith, wrote, inv.writes, side-few forest (accepted ++ batch) all c.loop-tree.tree c.loop-tree.first _ c.loop-tree.room.rows.items (inv.place tells) (inv.packed tells accepted batch fine all live same) (low g at))
+    let wrote = c.add_tree.ensures.writes tells accepted batch (adds-here g at tells accepted batch adds) in
+    omega (arith, wrote, inv.writes, side-few forest (accepted ++ batch) adds.all c.loop-tree.tree c.loop-tree.first _ c.loop-tree.room.rows.items (inv.place tells) (inv.packed tells accepted batch adds) (low g at))
 
 pub returns-in_err-first-clause-place : goal.returns-in_err-first-clause-place
 returns-in_err-first-clause-place g c =
@@ -91,19 +120,17 @@ loop-tree-preserved g c =
     let at = (goal.at.loop-tree-preserved g c).After-as_slice-delta in
     record {
       within = omega (arith, below g at);
-      rows = omega (arith, c.in_ok-first.ensures.rows, inv.rows);
-      few = λ most are. subst (AreFew (forest.body.facts + most) (t + 1)) (sym c.in_ok-first.ensures.row)
+      rows = omega (arith, c.in_ok-first.ensures.row.len, inv.rows);
+      few = λ most are. subst (AreFew (forest.body.facts + most) (t + 1)) (sym c.in_ok-first.ensures.row.items)
           (rows-few (forest.body.facts + most) t c.loop-tree.room.rows.items (by_arity c.add_tree.new.room.merged.items) (omega (arith, inv.rows)) (inv.few most are)
           (row-few (forest.body.facts + most) c.add_tree.new.room.merged.items
-          (c.in_ok-first.ensures.numbers most (delta-added forest deltas t c.index-as_slice-tree.result delta (below g at) (is g at) c.requires.lists most are))));
-      low = omega (arith, inv.low, c.in_ok-first.ensures.few);
-      place = λ tells. c.in_ok-first.ensures.place tells;
-      packed = λ tells accepted batch fine all live same.
-          let now = live-on c.args.slot 0 _ _ (inv.disk tells).files c.requires.slot forest.schema forest.body accepted c.requires.other live in
-          let named = delta-named forest deltas t c.index-as_slice-tree.result delta (below g at) (is g at) c.requires.lists (accepted ++ batch) batch same in
-          side-more forest (accepted ++ batch) all t c.loop-tree.first _ c.loop-tree.room.rows.items (inv.place tells) (inv.packed tells accepted batch fine all live same) (low g at)
-          c.in_ok-first.first _ c.add_tree.new.room.rows.items c.add_tree.new.room.merged.items (c.in_ok-first.ensures.written tells accepted batch fine all now named)
-          (c.in_ok-first.ensures.points tells accepted batch fine all now named) c.in_ok-first.ensures.row;
+          (c.in_ok-first.ensures.row.few most (delta-added forest deltas t c.index-as_slice-tree.result delta (below g at) (is g at) c.requires.lists most are))));
+      low = omega (arith, inv.low, c.in_ok-first.ensures.next.few);
+      place = c.in_ok-first.ensures.next.place;
+      packed = λ tells accepted batch adds.
+          let written = c.in_ok-first.ensures.written tells accepted batch (adds-here g at tells accepted batch adds) in
+          side-more forest (accepted ++ batch) adds.all t c.loop-tree.first _ c.loop-tree.room.rows.items (inv.place tells) (inv.packed tells accepted batch adds) (low g at)
+          c.in_ok-first.first _ c.add_tree.new.room.rows.items c.add_tree.new.room.merged.items written.bytes written.points c.in_ok-first.ensures.row.items;
       joined = λ tells.
           let whole = whole-before c.args.slot 0 files _ (inv.disk tells).files forest c.requires.other t delta (c.in_ok-first.ensures.joined tells) in
           one-more (λ s. IsWholeFor forest files s (get_or deltas s [])) t (inv.joined tells)
@@ -111,11 +138,13 @@ loop-tree-preserved g c =
       disk = λ tells. written-on (2 + c.args.slot) 0 (page_size * c.loop-tree.first) _ _ _ (omega arith) (inv.disk tells) (c.add_tree.ensures.disk tells);
       faults = search rules;
       told_faults = search rules;
-      reads = omega (arith, inv.reads, c.add_tree.ensures.reads, pages-more forest t (low g at));
-      writes = omega (arith, inv.writes, c.in_ok-first.ensures.wrote);
-      before = omega (arith, inv.before, c.add_tree.ensures.old_capacity);
-      merged = omega (arith, inv.merged, c.add_tree.ensures.capacity);
-      row_room = omega (arith, inv.row_room, c.add_tree.ensures.row_capacity);
+      reads = omega (arith, inv.reads, c.add_tree.ensures.calls.reads, pages-more forest t (low g at));
+      writes = omega (arith, inv.writes, c.in_ok-first.ensures.next.wrote);
+      room = record {
+        before = omega (arith, inv.room.before, c.add_tree.ensures.room.before);
+        merged = omega (arith, inv.room.merged, c.add_tree.ensures.room.merged);
+        rows = omega (arith, inv.room.rows, c.add_tree.ensures.room.rows);
+      };
     }
 
 -- all trees
@@ -126,22 +155,21 @@ told : (g : Over) (c : After-view_counts g) → c.view_counts.result ≡ counts_
 told g c = c.view_counts.ensures ∙ ap (counts_from c.args.forest.now.schema.views) c.deref.ensures.value
 
 pub returns-clause-written : goal.returns-clause-written
-returns-clause-written g c = λ tells accepted batch fine all live same.
-    side-all c.args.forest.now (accepted ++ batch) all c.loop-tree.tree c.loop-tree.first _ c.loop-tree.room.rows.items (c.loop-tree.invariant.place tells)
-    (c.loop-tree.invariant.packed tells accepted batch fine all live same) (end g (goal.at.returns-clause-written g c).After-view_counts)
+returns-clause-written g c = λ tells accepted batch adds.
+    let forest = c.args.forest.now in
+    let at = (goal.at.returns-clause-written g c).After-view_counts in
+    let packed = c.loop-tree.invariant.packed tells accepted batch adds in
+    record {
+      bytes = side-all forest (accepted ++ batch) adds.all c.loop-tree.tree c.loop-tree.first _ c.loop-tree.room.rows.items (c.loop-tree.invariant.place tells) packed (end g at);
+      counts = counted-all forest.schema forest.lawful (accepted ++ batch) (storable forest.schema (accepted ++ batch) forest.lawful adds.all) c.loop-tree.tree _ c.loop-tree.room.rows.items _
+          (subst (λ (m : Mapping). length m.trees ≤ c.loop-tree.tree) forest.mapped (end g at)) packed (told g at);
+    }
 
 pub returns-clause-writes : goal.returns-clause-writes
-returns-clause-writes g c = λ tells accepted batch fine all live same.
-    let long = side-long c.args.forest.now (accepted ++ batch) all c.loop-tree.tree c.loop-tree.first _ c.loop-tree.room.rows.items (c.loop-tree.invariant.place tells)
-    (c.loop-tree.invariant.packed tells accepted batch fine all live same) (end g (goal.at.returns-clause-writes g c).After-view_counts) in
+returns-clause-writes g c = λ tells accepted batch adds.
+    let long = side-long c.args.forest.now (accepted ++ batch) adds.all c.loop-tree.tree c.loop-tree.first _ c.loop-tree.room.rows.items (c.loop-tree.invariant.place tells)
+    (c.loop-tree.invariant.packed tells accepted batch adds) (end g (goal.at.returns-clause-writes g c).After-view_counts) in
     omega (arith, c.loop-tree.invariant.writes, long)
-
-pub returns-clause-counts : goal.returns-clause-counts
-returns-clause-counts g c = λ tells accepted batch fine all live same.
-    let forest = c.args.forest.now in
-    let at = (goal.at.returns-clause-counts g c).After-view_counts in
-    counted-all forest.schema forest.lawful (accepted ++ batch) (storable forest.schema (accepted ++ batch) forest.lawful all) c.loop-tree.tree _ c.loop-tree.room.rows.items _
-    (subst (λ (m : Mapping). length m.trees ≤ c.loop-tree.tree) forest.mapped (end g at)) (c.loop-tree.invariant.packed tells accepted batch fine all live same) (told g at)
 
 pub returns-clause-few : goal.returns-clause-few
 returns-clause-few g c = λ most are.

@@ -1,4 +1,5 @@
 use Rattle.std.proofs.Common.{arith}
+use Rattle.range_scan.proofs.Once.{visits-once}
 use Rattle.range_scan.proofs.Packed.{packed-searched}
 use Rattle.range_scan.proofs.walk.search.Goals as goal
 
@@ -7,3 +8,6 @@ returns-clause-points g c = λ tells points holds. (packed-searched c.args.tree.
 
 pub returns-clause-undamaged : goal.returns-clause-undamaged
 returns-clause-undamaged g c = λ tells points holds. (packed-searched c.args.tree.now c.requires.shape (omega (arith, c.requires.few)) c.args.region.now ((g.T.Site.disk c.args.site.now).files c.args.tree.now.file) points holds c.walk.result (c.walk.ensures.searched tells)).1
+
+pub returns-clause-once : goal.returns-clause-once
+returns-clause-once g c = λ tells points holds. visits-once c.args.tree.now c.requires.shape (omega (arith, c.requires.few)) c.args.region.now ((g.T.Site.disk c.args.site.now).files c.args.tree.now.file) points holds

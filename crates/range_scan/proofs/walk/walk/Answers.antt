@@ -55,7 +55,7 @@ returns-in_err-visit-in-Some-clause-visits g c = λ tells.
     let tree = c.args.query.now.tree.now in
     let so_far = c.loop.invariant.so_far tells in
     let more = more-asked tree c.args.query.now.region.now ((g.T.Site.disk c.args.site.now).files tree.file) so_far.0 c.loop.walk.found.items c.loop.walk.ahead.items c.pop.new.self.items c.in-Some.number c.in-Some.ensures.items so_far.2 in
-    omega (arith, more, so_far.1, c.in_err-visit-in-Some.ensures.reads, c.loop.invariant.reads)
+    omega (arith, more, so_far.1, c.in_err-visit-in-Some.ensures.looks.reads, c.loop.invariant.reads)
 
 pub loop-preserved : goal.loop-preserved
 loop-preserved g c =
@@ -73,11 +73,11 @@ loop-preserved g c =
       hits = c.in_ok-visit-in-Some.ensures.hits;
       ahead = c.in_ok-visit-in-Some.ensures.ahead;
       cache = c.in_ok-visit-in-Some.ensures.cache ∙ c.loop.invariant.cache;
-      disk = λ tells. Rests-then (g.T.Site.disk c.args.site.now) (g.T.Site.disk c.loop.site) (g.T.Site.disk c.visit.new.site) (c.loop.invariant.disk tells) (c.in_ok-visit-in-Some.ensures.disk tells);
-      faults = c.in_ok-visit-in-Some.ensures.cause.ok ∙ c.loop.invariant.faults;
-      told_faults = c.in_ok-visit-in-Some.ensures.told_faults ∙ c.loop.invariant.told_faults;
-      reads = omega (arith, c.in_ok-visit-in-Some.ensures.reads, c.loop.invariant.reads);
-      writes = c.in_ok-visit-in-Some.ensures.writes ∙ c.loop.invariant.writes;
+      disk = λ tells. Rests-then (g.T.Site.disk c.args.site.now) (g.T.Site.disk c.loop.site) (g.T.Site.disk c.visit.new.site) (c.loop.invariant.disk tells) (c.in_ok-visit-in-Some.ensures.looks.disk tells);
+      faults = c.in_ok-visit-in-Some.ensures.looks.cause.ok ∙ c.loop.invariant.faults;
+      told_faults = c.in_ok-visit-in-Some.ensures.looks.told_faults ∙ c.loop.invariant.told_faults;
+      reads = omega (arith, c.in_ok-visit-in-Some.ensures.looks.reads, c.loop.invariant.reads);
+      writes = c.in_ok-visit-in-Some.ensures.looks.writes ∙ c.loop.invariant.writes;
     }
 
 pub returns-in-Some-pop-clause-page : goal.returns-in-Some-pop-clause-page

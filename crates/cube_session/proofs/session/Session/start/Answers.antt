@@ -3,7 +3,7 @@ use Rattle.cube_session.proofs.session.Session.start.Goals as goal
 
 pub returns-in-Ok-Some-clause-opened : goal.returns-in-Ok-Some-clause-opened
 returns-in-Ok-Some-clause-opened g c = λ t world keeps.
-    opened_stands c.in-Ok-Some.field-0 c.in-Ok-Some.store (g.T.Site.disk c.args.site.now).files (g.T.Site.disk c.open_store.new.site) world c.in-Ok-Some.field-0-is (c.in-Ok-Some.ensures.opened t)
+    opened_stands c.in-Ok-Some.field-0 c.in-Ok-Some.store (g.T.Site.disk c.args.site.now).files (g.T.Site.disk c.open_store.new.site) world c.in-Ok-Some.field-0-is (c.in-Ok-Some.ensures.opened t) (c.in-Ok-Some.ensures.stable t)
     keeps (λ none. (c.in-Ok-Some.ensures.none t none).0) (λ schema facts. c.in-Ok-Some.ensures.warehouse t schema facts)
 
 pub returns-in-Err-clause-broken : goal.returns-in-Err-clause-broken

@@ -1,3 +1,5 @@
+use Rattle.site_core.proofs.Run.{holds_to}
+use Rattle.forest_store.specs.Stored.{IsStoreOf}
 use Rattle.forest_refresh.specs.Prepared.{begun_with}
 use Rattle.forest_refresh.proofs.Begins.{begun_on, cut_back, kept_by}
 use Rattle.forest_refresh.proofs.refresh.Refresh.begin.Goals as goal
@@ -10,7 +12,7 @@ returns-in-Ok-clause-begun g c = λ t accepted is.
 pub returns-in-Ok-clause-any_moment : goal.returns-in-Ok-clause-any_moment
 returns-in-Ok-clause-any_moment g c = λ t accepted is.
     kept_by c.args.store.forest c.prepare.new.store.forest c.prepare.ensures.forest (g.T.Site.disk c.args.site.now) (g.T.Site.disk c.shut_gate.new.site) accepted
-    (c.shut_gate.ensures.any_moment t accepted (c.in-Ok.ensures.adds accepted _ is).live)
+    (c.shut_gate.ensures.any_moment t accepted (holds_to (IsStoreOf c.args.store accepted) _ _ (λ files was. (c.in-Ok.ensures.adds accepted files was).live) is))
 
 pub returns-in-Ok-clause-back : goal.returns-in-Ok-clause-back
 returns-in-Ok-clause-back g c =

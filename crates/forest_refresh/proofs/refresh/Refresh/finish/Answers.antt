@@ -1,10 +1,11 @@
-use Rattle.std.proofs.Common.{◌++◌, sym, ap, subst, arith}
-use Rattle.forest_store.specs.Sides.{page_count}
+use Rattle.std.proofs.Common.{rules, ◌++◌, sym, ap, subst, arith}
+use Rattle.site_core.specs.Moments.{HoldsNow}
+use Rattle.forest_store.specs.Sides.{page_count, page_total}
 use Rattle.forest_refresh.specs.declared.refresh.Refresh.TheInside.{Inside}
-use Rattle.forest_refresh.specs.Begun.{Begun, IsReady, IsRefreshOf, batch_size}
+use Rattle.forest_refresh.specs.Begun.{Begun, IsRefreshOf, batch_size}
 use Rattle.forest_refresh.specs.Refreshed.{IsNoDamage}
 use Rattle.forest_refresh.specs.Trees.{AreAllWhole, TellsFirstDamage}
-use Rattle.forest_refresh.proofs.Finishes.{body_of_all, damage_by, either_by, few_facts, next_with, on_side, still_live, store_of, then_committed, while_written}
+use Rattle.forest_refresh.proofs.Finishes.{addition_of, body_of_all, damage_by, either_by, few_facts, next_with, on_side, still_live, store_of, then_committed, while_written}
 use Rattle.forest_refresh.proofs.Ready.{err_if, err_then, more_names}
 use Rattle.forest_refresh.proofs.refresh.Refresh.finish.Goals as goal
 
@@ -18,23 +19,23 @@ pub returns-in_err-counts-clause-undamaged : goal.returns-in_err-counts-clause-u
 returns-in_err-counts-clause-undamaged g c = λ t accepted batch was.
     let is = subst (λ (r : Begun). IsRefreshOf r accepted batch (g.T.Site.disk c.args.site.now).files) (sym c.self.view_is) was in
     err_then c.from_residual.result _ IsNoDamage (err_if c.from_residual.result _ c.from_residual.ensures.1)
-    (λ stop same. subst IsNoDamage (sym same) (c.in_err-counts.ensures.undamaged t accepted batch is.accepted is.all is.live is.deltas))
+    (λ stop same. subst IsNoDamage (sym same) (c.in_err-counts.ensures.undamaged t accepted batch (addition_of (seen c.self.inside) accepted batch _ is)))
 
 pub returns-in_err-counts-clause-any_moment : goal.returns-in_err-counts-clause-any_moment
 returns-in_err-counts-clause-any_moment g c = λ t accepted batch was.
     let old = g.T.Site.disk c.args.site.now in
     let r = seen c.self.inside in
-    let is = subst (λ (b : Begun). IsRefreshOf b accepted batch old.files) (sym c.self.view_is) was in
-    let ready = subst (λ (b : Begun). IsReady b old) (sym c.self.view_is) (c.requires.ready t) in
+    let both = subst (λ (b : Begun). HoldsNow (IsRefreshOf b accepted batch) old) (sym c.self.view_is) was in
+    let is = both.read in
     either_by r c.args.self c.self.view_is accepted (accepted ++ batch) old (g.T.Site.disk c.write_trees.new.site)
-    (while_written r c.self.invariant.begun accepted batch old (g.T.Site.disk c.write_trees.new.site) is ready c.slot.result c.slot.ensures (c.write_trees.ensures.disk t) (λ told files. g.met.T.Site.only_now c.args.site.now told files t))
+    (while_written r c.self.invariant.begun accepted batch old (g.T.Site.disk c.write_trees.new.site) both c.slot.result c.slot.ensures (c.write_trees.ensures.disk t) (λ told files. g.met.T.Site.only_now c.args.site.now told files t))
 
 pub returns-in_err-counts-clause-writes : goal.returns-in_err-counts-clause-writes
 returns-in_err-counts-clause-writes g c = λ t accepted batch was.
     let is = subst (λ (r : Begun). IsRefreshOf r accepted batch (g.T.Site.disk c.args.site.now).files) (sym c.self.view_is) was in
     omega (
       arith,
-      c.write_trees.ensures.writes t accepted batch is.accepted is.all is.live is.deltas,
+      c.write_trees.ensures.writes t accepted batch (addition_of (seen c.self.inside) accepted batch _ is),
       ap (λ (r : Begun). page_count r.store.forest.schema (accepted ++ batch)) c.self.view_is,
     )
 
@@ -56,14 +57,14 @@ returns-in-Ok-clause-finished g c = λ t accepted batch was.
     let r = seen c.self.inside in
     let schema = r.store.forest.schema in
     let begun = c.self.invariant.begun in
-    let is = subst (λ (b : Begun). IsRefreshOf b accepted batch old.files) (sym c.self.view_is) was in
-    let ready = subst (λ (b : Begun). IsReady b old) (sym c.self.view_is) (c.requires.ready t) in
+    let both = subst (λ (b : Begun). HoldsNow (IsRefreshOf b accepted batch) old) (sym c.self.view_is) was in
+    let is = both.read in
+    let live = still_live r begun accepted batch old mid both c.slot.result c.slot.ensures (c.write_trees.ensures.disk t) in
     store_of r accepted batch old.files new.files c.in-Ok.store is c.in-Ok.ensures.schema c.in-Ok.ensures.names c.in-Ok.ensures.whole
-    (c.in-Ok.ensures.committed t accepted (accepted ++ batch) is.live.slot
-    (still_live r begun accepted batch old mid is ready c.slot.result c.slot.ensures (c.write_trees.ensures.disk t))
-    (body_of_all r begun accepted batch old.files is c.in_ok-counts.counts (c.in_ok-counts.ensures.counts t accepted batch is.accepted is.all is.live is.deltas))
+    (c.in-Ok.ensures.committed t accepted (accepted ++ batch) live.0 live.1
+    (body_of_all r begun accepted batch old.files is c.in_ok-counts.counts (c.in_ok-counts.ensures.written t accepted batch (addition_of r accepted batch _ is)).counts)
     (more_names schema accepted batch r.entries is.entries)
-    (on_side schema (accepted ++ batch) c.slot.result _ mid.files c.slot.ensures (c.in_ok-counts.ensures.written t accepted batch is.accepted is.all is.live is.deltas)))
+    (on_side schema (accepted ++ batch) c.slot.result _ mid.files c.slot.ensures (c.in_ok-counts.ensures.written t accepted batch (addition_of r accepted batch _ is)).bytes))
 
 pub returns-in-Ok-clause-joined : goal.returns-in-Ok-clause-joined
 returns-in-Ok-clause-joined g c = λ t.
@@ -77,24 +78,24 @@ returns-in-Ok-clause-any_moment g c = λ t accepted batch was.
     let r = seen c.self.inside in
     let schema = r.store.forest.schema in
     let begun = c.self.invariant.begun in
-    let is = subst (λ (b : Begun). IsRefreshOf b accepted batch old.files) (sym c.self.view_is) was in
-    let ready = subst (λ (b : Begun). IsReady b old) (sym c.self.view_is) (c.requires.ready t) in
+    let both = subst (λ (b : Begun). HoldsNow (IsRefreshOf b accepted batch) old) (sym c.self.view_is) was in
+    let is = both.read in
     let run = c.write_trees.ensures.disk t in
+    let live = still_live r begun accepted batch old mid both c.slot.result c.slot.ensures run in
     either_by r c.args.self c.self.view_is accepted (accepted ++ batch) old new
-    (then_committed r begun accepted batch old mid is ready c.slot.result c.slot.ensures run new (λ told files. g.met.T.Site.only_now c.args.site.now told files t)
-    (c.commit.ensures.any_moment t accepted (accepted ++ batch) is.live.slot
-    (still_live r begun accepted batch old mid is ready c.slot.result c.slot.ensures run) is.all
-    (body_of_all r begun accepted batch old.files is c.in_ok-counts.counts (c.in_ok-counts.ensures.counts t accepted batch is.accepted is.all is.live is.deltas))
+    (then_committed r begun accepted batch old mid both c.slot.result c.slot.ensures run new (λ told files. g.met.T.Site.only_now c.args.site.now told files t)
+    (c.commit.ensures.any_moment t accepted (accepted ++ batch) live.0 live.1 is.all
+    (body_of_all r begun accepted batch old.files is c.in_ok-counts.counts (c.in_ok-counts.ensures.written t accepted batch (addition_of r accepted batch _ is)).counts)
     (more_names schema accepted batch r.entries is.entries)
-    (on_side schema (accepted ++ batch) c.slot.result _ mid.files c.slot.ensures (c.in_ok-counts.ensures.written t accepted batch is.accepted is.all is.live is.deltas))))
+    (on_side schema (accepted ++ batch) c.slot.result _ mid.files c.slot.ensures (c.in_ok-counts.ensures.written t accepted batch (addition_of r accepted batch _ is)).bytes)))
 
 pub returns-in-Ok-clause-writes : goal.returns-in-Ok-clause-writes
 returns-in-Ok-clause-writes g c = λ t accepted batch was.
     let is = subst (λ (r : Begun). IsRefreshOf r accepted batch (g.T.Site.disk c.args.site.now).files) (sym c.self.view_is) was in
     omega (
       arith,
-      c.write_trees.ensures.writes t accepted batch is.accepted is.all is.live is.deltas,
-      c.commit.ensures.writes,
+      c.write_trees.ensures.writes t accepted batch (addition_of (seen c.self.inside) accepted batch _ is),
+      c.commit.ensures.calls.writes,
       ap (λ (r : Begun). page_count r.store.forest.schema (accepted ++ batch)) c.self.view_is,
     )
 
@@ -106,23 +107,33 @@ returns-clause-any_moment g c = λ t accepted batch was.
     let r = seen c.self.inside in
     let schema = r.store.forest.schema in
     let begun = c.self.invariant.begun in
-    let is = subst (λ (b : Begun). IsRefreshOf b accepted batch old.files) (sym c.self.view_is) was in
-    let ready = subst (λ (b : Begun). IsReady b old) (sym c.self.view_is) (c.requires.ready t) in
+    let both = subst (λ (b : Begun). HoldsNow (IsRefreshOf b accepted batch) old) (sym c.self.view_is) was in
+    let is = both.read in
     let run = c.write_trees.ensures.disk t in
+    let live = still_live r begun accepted batch old mid both c.slot.result c.slot.ensures run in
     either_by r c.args.self c.self.view_is accepted (accepted ++ batch) old new
-    (then_committed r begun accepted batch old mid is ready c.slot.result c.slot.ensures run new (λ told files. g.met.T.Site.only_now c.args.site.now told files t)
-    (c.commit.ensures.any_moment t accepted (accepted ++ batch) is.live.slot
-    (still_live r begun accepted batch old mid is ready c.slot.result c.slot.ensures run) is.all
-    (body_of_all r begun accepted batch old.files is c.in_ok-counts.counts (c.in_ok-counts.ensures.counts t accepted batch is.accepted is.all is.live is.deltas))
+    (then_committed r begun accepted batch old mid both c.slot.result c.slot.ensures run new (λ told files. g.met.T.Site.only_now c.args.site.now told files t)
+    (c.commit.ensures.any_moment t accepted (accepted ++ batch) live.0 live.1 is.all
+    (body_of_all r begun accepted batch old.files is c.in_ok-counts.counts (c.in_ok-counts.ensures.written t accepted batch (addition_of r accepted batch _ is)).counts)
     (more_names schema accepted batch r.entries is.entries)
-    (on_side schema (accepted ++ batch) c.slot.result _ mid.files c.slot.ensures (c.in_ok-counts.ensures.written t accepted batch is.accepted is.all is.live is.deltas))))
+    (on_side schema (accepted ++ batch) c.slot.result _ mid.files c.slot.ensures (c.in_ok-counts.ensures.written t accepted batch (addition_of r accepted batch _ is)).bytes)))
 
 pub returns-clause-writes : goal.returns-clause-writes
 returns-clause-writes g c = λ t accepted batch was.
     let is = subst (λ (r : Begun). IsRefreshOf r accepted batch (g.T.Site.disk c.args.site.now).files) (sym c.self.view_is) was in
     omega (
       arith,
-      c.write_trees.ensures.writes t accepted batch is.accepted is.all is.live is.deltas,
-      c.commit.ensures.writes,
+      c.write_trees.ensures.writes t accepted batch (addition_of (seen c.self.inside) accepted batch _ is),
+      c.commit.ensures.calls.writes,
       ap (λ (r : Begun). page_count r.store.forest.schema (accepted ++ batch)) c.self.view_is,
     )
+
+pub returns-in_err-counts-clause-calls : goal.returns-in_err-counts-clause-calls
+returns-in_err-counts-clause-calls g c = record {
+  cause = search rules;
+  told_faults = search rules;
+  reads = omega (arith, c.write_trees.ensures.calls.reads, ap (λ (r : Begun). page_total r.store.forest.body r.store.forest.schema) c.self.view_is);
+}
+
+pub commit-requires-clause-names : goal.commit-requires-clause-names
+commit-requires-clause-names g c = c.self.invariant.begun.names_len

@@ -1,5 +1,5 @@
 use Rattle.std.proofs.Common.{sym}
-use Rattle.script_lang.proofs.LineReads.{on_err, as_before, moved, moved_back, moved_ready, moved_whole, gave, gave_ready, gave_whole}
+use Rattle.script_lang.proofs.LineReads.{on_err, as_before, moved, moved_back, moved_ready, moved_whole, moved_whole_back, gave, gave_ready, gave_whole}
 use Rattle.script_lang.proofs.lines.Lines.read_line.Goals as goal
 
 pub returns-then-self-clause-given : goal.returns-then-self-clause-given
@@ -20,6 +20,11 @@ returns-then-self-clause-whole c =
 pub returns-in_err-command-clause-kept : goal.returns-in_err-command-clause-kept
 returns-in_err-command-clause-kept c =
     on_err _ _ (moved_back _ _ _ _ _ _ _ _ _ _ _ c.self.view_is c.as_slice.ensures.value c.between-rest.ensures
+    c.place_of-count.ensures.place c.front.ensures (as_before _ _ _ c.in_err-command.ensures.err c.in_ok-extend.ensures.ok))
+
+pub returns-in_err-command-clause-kept_whole : goal.returns-in_err-command-clause-kept_whole
+returns-in_err-command-clause-kept_whole c =
+    on_err _ _ (moved_whole_back _ _ _ _ _ _ _ _ _ _ _ c.self.view_is c.as_slice.ensures.value c.between-rest.ensures
     c.place_of-count.ensures.place c.front.ensures (as_before _ _ _ c.in_err-command.ensures.err c.in_ok-extend.ensures.ok))
 
 pub returns-in_err-command-clause-kept_ready : goal.returns-in_err-command-clause-kept_ready

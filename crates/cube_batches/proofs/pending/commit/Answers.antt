@@ -1,0 +1,15 @@
+use Rattle.cube_batches.proofs.Takings.{commit_moments, committed_answer}
+use Rattle.cube_batches.proofs.pending.commit.Goals as goal
+
+pub returns-in-Ok-clause-answer : goal.returns-in-Ok-clause-answer
+returns-in-Ok-clause-answer g c = λ t warehouse batch is.
+    committed_answer c.args.refresh (g.T.Site.disk c.args.site.now) (g.T.Site.disk c.finish.new.site) warehouse batch is c.in-Ok.store c.in-Ok.ensures.next.schema
+    (c.in-Ok.ensures.finished t warehouse.facts batch is.adds) (c.in-Ok.ensures.stable t) (c.in-Ok.ensures.opened t) c.acknowledge.result c.acknowledge.ensures.state c.acknowledge.ensures.reply
+
+pub returns-in-Ok-clause-any_moment : goal.returns-in-Ok-clause-any_moment
+returns-in-Ok-clause-any_moment g c = λ t warehouse batch is.
+    commit_moments c.args.refresh _ _ warehouse batch is (c.finish.ensures.any_moment t warehouse.facts batch is.adds)
+
+pub returns-in-Err-clause-any_moment : goal.returns-in-Err-clause-any_moment
+returns-in-Err-clause-any_moment g c = λ t warehouse batch is.
+    commit_moments c.args.refresh _ _ warehouse batch is (c.finish.ensures.any_moment t warehouse.facts batch is.adds)
