@@ -1,9 +1,9 @@
 //! The children of one level.
 
-ghost use Rattle.std.specs.Prelude.{◌≡◌, ◌<◌, ◌≤◌, List, [], ◌∷◌, ◌++◌, length, vec_len, vec_capacity, IfOk};
+ghost use Rattle.std.specs.Prelude.{◌≡◌, ◌<◌, ◌≤◌, [], ◌∷◌, ◌++◌, length, vec_len, vec_capacity, IfOk};
 ghost use Rattle.page_fmt.specs.Pages.{room, child_size};
 
-use fact_model::Memory;
+use fact_model::{Memory, put};
 use page_fmt::{Child, inner_room};
 use std::alloc::Global;
 
@@ -30,11 +30,7 @@ impl Level {
         requires { vec_len self.old.children < room (child_size 0) }
         ensures { self.new.children.items ≡ self.old.children.items ++ child ∷ [] }
     {
-        // There is room, so the push takes no memory and cannot fail.
-        match self.children.push(child) {
-            Ok(()) => (),
-            Err(_) => (),
-        }
+        put(&mut self.children, child);
     }
 
     /// How many children there are.

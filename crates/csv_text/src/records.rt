@@ -10,7 +10,7 @@ use std::alloc::Global;
 
 /// A reader of the records of a block, which has no header row and whose records may have different numbers of fields.
 pub fn block_reader(alloc: Global, block: &[u8]) -> Reader<&[u8]>
-    ensures reads { IsBlockReader result }
+    ensures reader { IsBlockReader result }
     ensures all { left_by result ≡ records_of block.now }
 {
     ReaderBuilder::new()
@@ -24,7 +24,7 @@ pub fn block_reader(alloc: Global, block: &[u8]) -> Reader<&[u8]>
 pub fn read_record(reader: &mut Reader<&[u8]>, fields: &mut ByteRecord) -> Result<bool, Memory>
     requires { IsBlockReader reader.old }
     ensures next { IfOk result (λ found. IsNext (left_by reader.old) (left_by reader.new) (fields_of fields.new) found) }
-    ensures reads { IfOk result (λ found. found ≡ true → IsBlockReader reader.new) }
+    ensures reader { IfOk result (λ found. found ≡ true → IsBlockReader reader.new) }
 {
     let Ok(found) = reader.read_byte_record(fields) else {
         // Over memory `csv` fails for want of memory alone.

@@ -25,7 +25,7 @@ use Rattle.cube_batches.specs.Taking.{HasBegun, Takes, TakesBatch, TakesRead, To
 use Rattle.cube_batches.specs.declared.taking.Taken.{Taken}
 use Rattle.cube_batches.specs.declared.taking.Taken.TheVariants.{Refused, Begun as Began}
 use Rattle.cube_batches.proofs.BatchReads.{batch_read}
-use Rattle.cube_batches.proofs.Told.{same_whole}
+use Rattle.forest_refresh.proofs.Rooted.{same-whole}
 
 -- what becomes of the batch that was read or made
 pub read_takes : (store : Store) (read : Result (List Fact) (List ℕ)) (given : Read) (batch : List Fact) (taken : Taken) → IsRead read given → given ≡ Batch batch
@@ -60,7 +60,7 @@ module _ {S : Type 0} (T : Ghosts S) (old mid : S) (tells : IsTrue T.tells) wher
   taken_whole store batch state is touches whole =
       let root : WritesRoot T old mid = subst (TouchesFor T old mid) is.is touches in
       subst (λ d. AreAllWhole store.forest before d) is.points
-      (subst (λ (f : Forest). AreAllWhole f before is.refresh.deltas) is.forest (λ t low. same_whole is.refresh before between (root.others tells) t (whole t low)))
+      (subst (λ (f : Forest). AreAllWhole f before is.refresh.deltas) is.forest (λ t low. same-whole is.refresh.store.forest is.refresh.deltas before between (root.others tells) t (whole t low)))
 
   committed_batch : (store : Store) (batch : List Fact) (state : State) (reply : List ℕ) → TakesBatch store batch (Began state) → TouchesFor T old mid state
       → FinishGives state between reply → GivesBatch store before batch reply

@@ -1,15 +1,15 @@
 -- Damage that the commands of a batch tell.
-use Rattle.std.proofs.Common.{◌≡◌, ◌≢◌, ℕ, ◌+◌, ◌%◌, inl, inr, List, [], ◌∷◌, IsTrue, get_or, Result, Ok, Err, IfErr, ◌∙◌, ap, subst, arith}
+use Rattle.std.proofs.Common.{◌≡◌, ◌≢◌, ℕ, List, [], ◌∷◌, IsTrue, Result, Ok, Err, IfErr, subst}
 use Rattle.site_core.specs.Disk.{Files}
 use Rattle.site_core.specs.declared.site.Site.{Ghosts}
 use Rattle.fact_model.specs.declared.fact.Fact.{Fact}
-use Rattle.forest_root.specs.Forest.{place_of}
 use Rattle.forest_root.specs.declared.forest.Forest.{Forest}
 use Rattle.forest_root.specs.declared.forest.Store.{Store}
 use Rattle.attr_dict.specs.Admitting.{names_with}
 use Rattle.forest_refresh.specs.Begun.{Begun}
-use Rattle.forest_refresh.specs.Trees.{AreGoodIn, IsDamagedFor, IsFirstBadIn, IsWholeFor, TellsFirstDamage, by_arity, deltas_by, entries_at}
+use Rattle.forest_refresh.specs.Trees.{TellsFirstDamage, deltas_by}
 use Rattle.forest_refresh.specs.declared.stop.RefreshStop.TheVariants as refreshes
+use Rattle.forest_refresh.proofs.Rooted.{same-first-damage}
 use Rattle.cube_state.specs.declared.answered.Answered.{Answered}
 use Rattle.cube_state.specs.declared.stop.Stop.{Stop}
 use Rattle.cube_state.specs.declared.stop.Stop.TheVariants as stops
@@ -22,32 +22,12 @@ use Rattle.cube_batches.specs.Taking.{Takes, TakesBatch, TakesRead, TouchesFor, 
 use Rattle.cube_batches.specs.Told.{FinishTells, LoadTells, TellsBatchDamage, TellsReadDamage, TellsRefreshDamage}
 use Rattle.cube_batches.specs.declared.taking.Taken.TheVariants.{Begun as Began}
 
--- where the root file alone differs the trees are the same
-module _ (r : Begun) (old new : Files) (others : (file : ℕ) → file ≢ 0 → new file ≡ old file) where
-  same_bytes : (t : ℕ) → new (place_of r.store.forest t).file ≡ old (place_of r.store.forest t).file
-  unfolding place_of
-  same_bytes t = others (2 + r.store.forest.body.generation % 2) (λ is. omega (arith, is))
-
-  same_good : (t : ℕ) → AreGoodIn (place_of r.store.forest t) new → AreGoodIn (place_of r.store.forest t) old
-  same_good t = subst (λ (bytes : List ℕ). AreGoodIn (place_of r.store.forest t) (λ f. bytes)) (same_bytes t)
-
-  same_entries : (t : ℕ) → entries_at (place_of r.store.forest t) new ≡ entries_at (place_of r.store.forest t) old
-  same_entries t = ap (λ (bytes : List ℕ). entries_at (place_of r.store.forest t) (λ f. bytes)) (same_bytes t)
-
-  pub same_whole : (t : ℕ) → IsWholeFor r.store.forest new t (get_or r.deltas t []) → IsWholeFor r.store.forest old t (get_or r.deltas t [])
-  same_whole t is = (is.0, record { good = same_good t is.1.good; points = is.1.points ∙ same_entries t; counted = is.1.counted }, is.2)
-
-  same_damage : (t page : ℕ) → IsDamagedFor r.store.forest new t (get_or r.deltas t []) page → IsDamagedFor r.store.forest old t (get_or r.deltas t []) page
-  same_damage t page (inl (inl bad)) = inl (inl (subst (λ (bytes : List ℕ). IsFirstBadIn (place_of r.store.forest t) (λ f. bytes) page) (same_bytes t) bad))
-  same_damage t page (inl (inr is)) = inl (inr (same_good t is.0, (λ counted. is.1 (ap by_arity (same_entries t) ∙ counted)), is.2))
-  same_damage t page (inr is) = inr (is.0, record { good = same_good t is.1.good; points = is.1.points ∙ same_entries t; counted = is.1.counted }, is.2, is.3)
-
-  same_trees : (stop : Stop) → TellsRefreshDamage r new stop → TellsRefreshDamage r old stop
-  same_trees (stops.Damaged file offset) is =
-      (is.0, is.1, (λ s low. same_whole s (is.2 s low)), (is.3.0, same_damage is.0 is.3.0 is.3.1, is.3.2, is.3.3))
-  same_trees stops.Disk is = tt
-  same_trees stops.Output is = tt
-  same_trees stops.Memory is = tt
+-- where the root file alone differs
+same_told : (r : Begun) (old new : Files) → ((file : ℕ) → file ≢ 0 → new file ≡ old file) → (stop : Stop) → TellsRefreshDamage r new stop → TellsRefreshDamage r old stop
+same_told r old new others (stops.Damaged file offset) is = same-first-damage r.store.forest r.deltas old new others (refreshes.Damaged file offset) is
+same_told r old new others stops.Disk is = tt
+same_told r old new others stops.Output is = tt
+same_told r old new others stops.Memory is = tt
 
 -- the points of a batch that has begun
 by_batch : (r : Begun) (kept : Store) (files : Files) (batch : List Fact) → r.store.forest ≡ kept.forest
@@ -78,7 +58,7 @@ module _ {S : Type 0} (T : Ghosts S) (old mid : S) (tells : IsTrue T.tells) wher
   batch_told kept (x ∷ xs) state is touches stop told =
       let root : WritesRoot T old mid = subst (TouchesFor T old mid) is.is touches in
       by_batch is.refresh kept before (x ∷ xs) is.forest is.points stop
-      (same_trees is.refresh before between (root.others tells) stop (subst (λ (s : State). FinishTells s between stop) is.is told))
+      (same_told is.refresh before between (root.others tells) stop (subst (λ (s : State). FinishTells s between stop) is.is told))
 
   read_told : (kept : Store) (read : Result (List Fact) (List ℕ)) (state : State) → TakesRead kept read (Began state) → TouchesFor T old mid state
       → (stop : Stop) → FinishTells state between stop → TellsReadDamage kept before read stop

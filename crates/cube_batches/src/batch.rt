@@ -6,15 +6,12 @@ ghost use Rattle.cube_batches.specs.Reading.{IsOfSchema, IsRead};
 
 use cube_schema::Schema;
 use cube_state::Stop;
-use fact_csv::{RowRefusal, read_batch};
+use fact_csv::{MOST_ROWS, RowRefusal, read_batch};
 use fact_gen::generate;
 use fact_model::FactList;
 use plain_machine::BatchSource;
 use script_lang::Block;
 use std::alloc::Global;
-
-/// The most facts of a batch.
-const MOST_FACTS: u64 = 262_144;
 
 /// What a batch is read or made as.
 #[derive(Drop)]
@@ -64,7 +61,7 @@ fn make_batch(alloc: Global, schema: &Schema, start: u64, rows: u64) -> Result<R
     ensures agree { IfOk result (IsOfSchema schema.now) }
     ensures memory { IfErr result (λ stop. stop ≡ Stop.Memory) }
 {
-    if rows > MOST_FACTS {
+    if rows > MOST_ROWS {
         let reply = reply_text::refused_batch(alloc, RowRefusal::Rows)?;
         return Ok(Read::Refused(reply));
     }

@@ -11,14 +11,17 @@ ghost use Rattle.cube_batches.specs.Told.{LoadTells};
 use crate::pending::finish;
 use crate::taking::{Taken, take_in};
 use cube_state::{Answered, State, Stop};
+use page_cache::Pages;
 use plain_machine::BatchSource;
 use site_core::Site;
 use std::alloc::Global;
 
 /// Takes in a batch at once and acknowledges it, or refuses it and writes nothing. A stop at any moment leaves the files with the facts of
-/// the batch or without them, and so does an error, which ends the session: a file failed, a page is not sound, or memory ran out.
+/// the batch or without them, and so does an error, which ends the session: a file failed, a page is not sound, or memory ran out. No page is
+/// kept over the commit; a batch that is refused or empty leaves the kept pages as they are.
 pub fn load<T: Site>(
     alloc: Global,
+    pages: &mut Pages,
     state: State,
     source: BatchSource,
     site: &mut T,
@@ -37,10 +40,11 @@ pub fn load<T: Site>(
         → (load world source).0.kept ≡ world.kept → OnOk result (T.writes site.new ≡ T.writes site.old) }
 
     ensures runs { IfOk result (λ done. RunsOn T.Site site.new done.state) }
+    ensures cache { pages.new ≡ pages.old }
     ensures quiet { IsQuiet T.Site site.old site.new result }
 {
     match take_in(alloc, state, source, site)? {
         Taken::Refused(done) => Ok(done),
-        Taken::Begun(state) => finish(alloc, state, site),
+        Taken::Begun(state) => finish(alloc, pages, state, site),
     }
 }

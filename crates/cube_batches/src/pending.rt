@@ -17,6 +17,7 @@ use crate::taking::{Taken, take_in};
 use cube_state::{Answered, State, Stop, plain};
 use forest_refresh::Refresh;
 use forest_root::Store;
+use page_cache::Pages;
 use plain_machine::BatchSource;
 use script_lang::Block;
 use site_core::Site;
@@ -69,7 +70,12 @@ pub fn step(alloc: Global, state: State) -> Result<Answered, Stop>
 
 /// Commits the pending batch and acknowledges it, or refuses where there is none. A stop at any moment leaves the files with the facts of the
 /// batch or without them, and so does an error, which ends the session: a file failed, a page is not sound, or memory ran out.
-pub fn finish<T: Site>(alloc: Global, state: State, site: &mut T) -> Result<Answered, Stop>
+pub fn finish<T: Site>(
+    alloc: Global,
+    pages: &mut Pages,
+    state: State,
+    site: &mut T,
+) -> Result<Answered, Stop>
     requires runs { RunsOn T.Site site.old state }
 
     ensures answer { IsTrue T.tells → (world : World) → Stands state (T.disk site.old) world
@@ -84,18 +90,24 @@ pub fn finish<T: Site>(alloc: Global, state: State, site: &mut T) -> Result<Answ
         → (finish world).0.kept ≡ world.kept → OnOk result (T.writes site.new ≡ T.writes site.old) }
 
     ensures runs { IfOk result (λ done. RunsOn T.Site site.new done.state) }
+    ensures cache { pages.new ≡ pages.old }
     ensures quiet { IsQuiet T.Site site.old site.new result }
 {
     match state {
         State::Empty => plain(alloc, State::Empty, "refused nothing pending"),
         State::Idle(store) => plain(alloc, State::Idle(store), "refused nothing pending"),
         State::Hollow(store) => acknowledge(alloc, store),
-        State::Pending(refresh) => commit(alloc, refresh, site),
+        State::Pending(refresh) => commit(alloc, pages, refresh, site),
     }
 }
 
-/// Commits the batch of a refresh, and acknowledges it.
-fn commit<T: Site>(alloc: Global, refresh: Refresh, site: &mut T) -> Result<Answered, Stop>
+/// Commits the batch of a refresh, forgets the kept pages, and acknowledges it.
+fn commit<T: Site>(
+    alloc: Global,
+    pages: &mut Pages,
+    refresh: Refresh,
+    site: &mut T,
+) -> Result<Answered, Stop>
     requires fit { IsTrue T.tells → IsReady refresh (T.disk site.old) }
 
     ensures answer { IsTrue T.tells → (warehouse : Warehouse) (batch : List facts.Fact) → Attends refresh (T.disk site.old) warehouse batch
@@ -108,10 +120,15 @@ fn commit<T: Site>(alloc: Global, refresh: Refresh, site: &mut T) -> Result<Answ
     ensures answered { IsTrue T.tells → IfOk result (λ done. IsFinished refresh (T.disk site.old).files done.reply.items) }
 
     ensures runs { IfOk result (λ done. RunsOn T.Site site.new done.state) }
+    ensures cache { pages.new ≡ pages.old }
     ensures quiet { IsQuiet T.Site site.old site.new result }
 {
     match refresh.finish(site) {
-        Ok(store) => acknowledge(alloc, store),
+        Ok(store) => {
+            // They are of the side that was live until now.
+            pages.clear();
+            acknowledge(alloc, store)
+        }
         Err(stop) => Err(Stop::from(stop)),
     }
 }

@@ -1,6 +1,5 @@
 //! A batch is taken in: it is refused, or it begins and is pending.
 ghost use Rattle.std.specs.Prelude.{◌≡◌, IsTrue, IfOk, IfErr, Some};
-ghost use Rattle.cube_schema.specs.Kinds.{name_at, measure_name_at};
 ghost use Rattle.forest_store.specs.Opened.{IsOpened};
 ghost use Rattle.forest_store.specs.Stored.{IsWhole};
 ghost use Rattle.plain_machine.specs.Machine.{batch_from};
@@ -12,7 +11,6 @@ ghost use Rattle.cube_batches.specs.Refusals.{begin_stop, refusal_text};
 ghost use Rattle.cube_batches.specs.Taking.{IsTaken, Takes, TakesRead, Touches, state_of};
 
 use crate::batch::{Read, read_source};
-use cube_schema::Schema;
 use cube_state::{Answered, State, Stop, plain};
 use forest_refresh::{BeginFault, BeginStop, Refresh};
 use forest_root::Store;
@@ -111,10 +109,10 @@ fn refuse(alloc: Global, fault: BeginFault) -> Result<Answered, Stop>
     let reply = match why {
         BeginStop::FactsFull => reply_text::plain(alloc, "refused facts")?,
         BeginStop::NamesFull(attr) => {
-            reply_text::refused_names(alloc, attr_name(&store.forest.schema, attr))?
+            reply_text::refused_names(alloc, store.forest.schema.attr_name(attr))?
         }
         BeginStop::Mass(measure) => {
-            reply_text::refused_mass(alloc, measure_name(&store.forest.schema, measure))?
+            reply_text::refused_mass(alloc, store.forest.schema.measure_name(measure))?
         }
         BeginStop::Memory => return Err(Stop::Memory),
         BeginStop::Disk => return Err(Stop::Disk),
@@ -123,24 +121,4 @@ fn refuse(alloc: Global, fault: BeginFault) -> Result<Answered, Stop>
         state: State::Idle(store),
         reply,
     })
-}
-
-/// The name of a measure; empty where there is none.
-fn measure_name(schema: &Schema, measure: u32) -> &[u8]
-    ensures { result.now ≡ measure_name_at schema.now measure }
-{
-    match schema.measures.get(measure as usize) {
-        Some(name) => name.as_bytes(),
-        None => &[],
-    }
-}
-
-/// The name of an attribute; empty where there is none.
-fn attr_name(schema: &Schema, attr: u32) -> &[u8]
-    ensures { result.now ≡ name_at schema.now attr }
-{
-    match schema.attrs.get(attr as usize) {
-        Some(attr) => attr.name.as_bytes(),
-        None => &[],
-    }
 }

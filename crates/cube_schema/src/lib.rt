@@ -3,6 +3,7 @@
 
 mod declared;
 mod line;
+mod names;
 mod read;
 mod schema;
 mod view;

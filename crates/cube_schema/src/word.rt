@@ -1,12 +1,13 @@
 //! What the parts of a line are: words, names, and the kind of an attribute.
-ghost use Rattle.std.specs.Prelude.{◌≡◌, ◌≤◌, ◌-◌, ◌^◌, min, length, slice_index, IsTrue, if◌then◌else◌};
-ghost use Rattle.std.specs.List.{list_all, before_first, after_first, position_or_len};
+ghost use Rattle.std.specs.Prelude.{◌≡◌, ◌-◌, ◌^◌, min, slice_index, IsTrue, if◌then◌else◌};
+ghost use Rattle.std.specs.List.{list_all};
 ghost use Rattle.std.specs.Char.{is_ascii_digit, is_ascii_lowercase};
 ghost use Rattle.std.specs.Str.Parse.{digits_value};
 ghost use Rattle.fact_model.specs.Number.{is_numeral};
-ghost use Rattle.cube_schema.specs.Words.{is_word, is_word_byte, is_name, is_name_byte, is_kind, kind_in, is_in_range, is_space, capped};
+ghost use Rattle.cube_schema.specs.Words.{is_word, is_word_byte, is_name, is_name_byte, is_kind, kind_in, is_in_range, capped};
 
 use crate::schema::{DEFAULT_MAX, GREATEST_MAX, Kind, LONGEST_NAME};
+use fact_model::{is_numeral, magnitude};
 
 /// Whether the bytes are not empty and have no space and no comma.
 pub(crate) fn is_word(text: &[u8]) -> bool
@@ -43,33 +44,6 @@ fn has_name_bytes(text: &[u8]) -> bool
     text.iter().all(|byte| byte.is_ascii_lowercase() || byte.is_ascii_digit() || *byte == b'_')
 }
 
-/// The bytes before the first space, and those after it.
-pub(crate) fn at_space(text: &[u8]) -> (&[u8], &[u8])
-    ensures before { result.0.now ≡ before_first is_space text.now }
-    ensures after { result.1.now ≡ after_first is_space text.now }
-{
-    let place = place_of_space(text);
-    (
-        text.get(..place).unwrap_or(text),
-        text.get(place + 1..).unwrap_or(&[]),
-    )
-}
-
-/// The place of the first space, or the length where there is none.
-fn place_of_space(text: &[u8]) -> usize
-    ensures place { result ≡ position_or_len is_space text.now }
-    ensures within { result ≤ length text.now }
-{
-    let mut place = 0;
-    for byte in text {
-        if *byte == b' ' {
-            return place;
-        }
-        place += 1;
-    }
-    place
-}
-
 /// The kind that the words after a name say, if they say one. A greatest number of texts that is too long for its type is the
 /// greatest of the type, which is out of range.
 pub(crate) fn kind_in(words: &[u8]) -> Option<Kind>
@@ -90,32 +64,20 @@ pub(crate) fn kind_in(words: &[u8]) -> Option<Kind>
 fn max_in(digits: &[u8]) -> Option<Kind>
     ensures { result ≡ (if is_numeral digits.now then Some (capped (Kind.Word (digits_value 10 digits.now))) else None) }
 {
-    if digits.is_empty() || !are_digits(digits) {
+    if !is_numeral(digits) {
         return None;
     }
     Some(Kind::Word {
-        max: value_of(digits),
+        max: capped(digits),
     })
 }
 
-fn are_digits(bytes: &[u8]) -> bool
-    ensures { result ≡ list_all is_ascii_digit bytes.now }
-{
-    bytes.iter().all(|byte| byte.is_ascii_digit())
-}
-
 /// The number that the digits write, or the greatest that fits.
-fn value_of(digits: &[u8]) -> u32
+fn capped(digits: &[u8]) -> u32
     requires { IsTrue (list_all is_ascii_digit digits.now) }
     ensures { result ≡ min (digits_value 10 digits.now) (2 ^ 32 - 1) }
 {
-    let mut value: u32 = 0;
-    for digit in digits {
-        value = value
-            .saturating_mul(10)
-            .saturating_add(u32::from(*digit - b'0'));
-    }
-    value
+    magnitude(digits).min(u128::from(u32::MAX)) as u32
 }
 
 /// Whether the greatest number of texts is one that an attribute may have.

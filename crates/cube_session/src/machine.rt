@@ -56,23 +56,21 @@ pub fn act<T: Site>(
 {
     match command {
         Command::Schema(block) => declare(alloc, state, block, site),
-        Command::Load(block) => {
-            // No page is kept over a commit.
-            pages.clear();
-            load(alloc, state, BatchSource::Rows(block), site)
-        }
+        Command::Load(block) => load(alloc, pages, state, BatchSource::Rows(block), site),
         Command::Generate { start, rows } => {
-            pages.clear();
-            load(alloc, state, BatchSource::Generator { start, rows }, site)
+            load(
+                alloc,
+                pages,
+                state,
+                BatchSource::Generator { start, rows },
+                site,
+            )
         }
         Command::Slice(text) => slice(alloc, pages, state, text.as_bytes(), site),
         Command::Status => status(alloc, state),
         Command::Begin(block) => begin(alloc, state, block, site),
         Command::Step(_) => step(alloc, state),
-        Command::Finish => {
-            pages.clear();
-            finish(alloc, state, site)
-        }
+        Command::Finish => finish(alloc, pages, state, site),
         Command::Abandon => abandon(alloc, state, site),
         Command::LongLine => plain(alloc, state, "refused long line"),
         Command::OpenBlock => plain(alloc, state, "refused open block"),

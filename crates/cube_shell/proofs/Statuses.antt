@@ -9,8 +9,8 @@ use Rattle.cube_state.specs.declared.stop.Stop.{Stop}
 use Rattle.cube_state.specs.declared.stop.Stop.TheVariants as stops
 use Rattle.cube_state.specs.Stops.{IsNoDamage}
 use Rattle.cube_session.specs.Damage.{StopsAt, TellsBreak}
-use Rattle.cube_shell.specs.declared.status.Status.{Status}
-use Rattle.cube_shell.specs.declared.status.Status.TheVariants.{Done, Usage, Input, Disk, Output, Damaged, Memory, TooLong}
+use Rattle.cube_shell.specs.declared.exit.Status.{Status}
+use Rattle.cube_shell.specs.declared.exit.Status.TheVariants.{Done, Usage, Input, Disk, Output, Damaged, Memory, TooLong}
 use Rattle.cube_shell.specs.Damage.{EndsAt, EndsForBreak}
 use Rattle.cube_shell.specs.Ends.{IsPastOpening, IsUndamaged, status_of, words_status}
 use Rattle.cube_shell.specs.Headline.{HasOpened}

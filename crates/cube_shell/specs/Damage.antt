@@ -3,8 +3,8 @@ use Rattle.std.specs.Prelude.{◌≡◌}
 use Rattle.site_core.specs.Disk.{Files}
 use Rattle.forest_open.specs.Breaks.{BreaksAt}
 use Rattle.forest_open.specs.Opening.{Place}
-use Rattle.cube_shell.specs.declared.status.Status.{Status}
-use Rattle.cube_shell.specs.declared.status.Status.TheVariants.{Done, Usage, Input, Disk, Output, Damaged, Memory, TooLong}
+use Rattle.cube_shell.specs.declared.exit.Status.{Status}
+use Rattle.cube_shell.specs.declared.exit.Status.TheVariants.{Done, Usage, Input, Disk, Output, Damaged, Memory, TooLong}
 
 -- ends a run for damage at this place, unless a file failed or memory ran out
 abbrev pub EndsAt : Place → Status → Type 0

@@ -5,8 +5,8 @@ use Rattle.cube_words.specs.declared.words.WordsStop.{WordsStop}
 use Rattle.cube_words.specs.declared.words.WordsStop.TheVariants as words
 use Rattle.cube_state.specs.declared.stop.Stop.{Stop}
 use Rattle.cube_state.specs.declared.stop.Stop.TheVariants as stops
-use Rattle.cube_shell.specs.declared.status.Status.{Status}
-use Rattle.cube_shell.specs.declared.status.Status.TheVariants.{Done, Usage, Input, Disk, Output, Damaged, Memory, TooLong}
+use Rattle.cube_shell.specs.declared.exit.Status.{Status}
+use Rattle.cube_shell.specs.declared.exit.Status.TheVariants.{Done, Usage, Input, Disk, Output, Damaged, Memory, TooLong}
 
 -- the exit status of the process
 abbrev pub code_of : Status → ℕ

@@ -8,8 +8,8 @@ use Rattle.script_lang.specs.declared.command.Command.{Command}
 use Rattle.plain_machine.specs.World.{World}
 use Rattle.plain_machine.specs.Keeps.{Keeps}
 use Rattle.plain_machine.specs.Stages.{replies_from, replies, final, AfterStop}
-use Rattle.cube_shell.specs.declared.status.Status.{Status}
-use Rattle.cube_shell.specs.declared.status.Status.TheVariants.{Done, Input, TooLong}
+use Rattle.cube_shell.specs.declared.exit.Status.{Status}
+use Rattle.cube_shell.specs.declared.exit.Status.TheVariants.{Done, Input, TooLong}
 use Rattle.cube_shell.specs.Ends.{IsPastOpening}
 
 -- a stop leaves of a run what it leaves of its commands, or nothing told and what a stop at the start might have left

@@ -1,7 +1,7 @@
 -- What pulls give of a script.
 use Rattle.std.specs.Prelude.{◌≡◌, ◌≤◌, ◌↔◌, ℕ, ◌+◌, List, length}
-use Rattle.cube_shell.specs.declared.status.Status.{Status}
-use Rattle.cube_shell.specs.declared.status.Status.TheVariants.{TooLong}
+use Rattle.cube_shell.specs.declared.exit.Status.{Status}
+use Rattle.cube_shell.specs.declared.exit.Status.TheVariants.{TooLong}
 
 -- so many bytes were given
 abbrev pub Gave : List ℕ → List ℕ → ℕ → Type 0

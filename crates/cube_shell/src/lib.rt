@@ -1,12 +1,12 @@
 //! The warehouse behind its top call: a script in, one reply out for each command.
 #![tactic(auto)]
 
+mod exit;
 mod pull;
 mod serve;
-mod status;
 mod top_call;
 
 pub use cube_session::Session;
 pub use cube_state::{State, Stop};
-pub use status::Status;
+pub use exit::Status;
 pub use top_call::{run, run_within};

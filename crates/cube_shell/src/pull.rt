@@ -3,7 +3,7 @@ ghost use Rattle.std.specs.Prelude.{◌≡◌, ◌≤◌, ◌<◌, ◌+◌, IsTr
 ghost use Rattle.site_core.specs.Causes.{HasCause};
 ghost use Rattle.site_core.specs.Pull.{Gives, MeetsEnd};
 
-use crate::status::Status;
+use crate::exit::Status;
 use site_core::Source;
 use std::alloc::{AllocError, Global};
 

@@ -14,8 +14,8 @@ ghost use Rattle.cube_shell.specs.Pulls.{Gave, KeepsLimit};
 ghost use Rattle.cube_shell.specs.Replied.{AreLeft, HasReplied};
 ghost use Rattle.cube_shell.specs.Onward.{Onward};
 
+use crate::exit::Status;
 use crate::pull::{pull, room};
-use crate::status::Status;
 use cube_session::Session;
 use cube_state::Stop;
 use script_lang::Lines;

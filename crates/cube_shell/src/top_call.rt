@@ -14,8 +14,8 @@ ghost use Rattle.cube_shell.specs.Headline.{AfterRun, Finished, HasOpened, Headl
 ghost use Rattle.cube_shell.specs.Pulls.{Gave, KeepsLimit};
 ghost use Rattle.cube_shell.specs.Replied.{HasReplied};
 
+use crate::exit::Status;
 use crate::serve::serve;
-use crate::status::Status;
 use cube_session::Session;
 use cube_words::cache_of;
 use site_core::{Site, Source};

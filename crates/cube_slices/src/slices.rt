@@ -1,13 +1,12 @@
 //! The command `slice`.
-ghost use Rattle.std.specs.Prelude.{◌≡◌, ◌≤◌, ◌+◌, ℕ, IsTrue, List, Ok, OnOk, IfOk, IfErr};
-ghost use Rattle.site_core.specs.Calls.{Rests};
+ghost use Rattle.std.specs.Prelude.{◌≡◌, ◌≤◌, ◌+◌, ℕ, IsTrue, List, Ok, IfOk, IfErr};
 ghost use Rattle.fact_model.specs.declared.fact.Fact as facts;
 ghost use Rattle.forest_store.specs.Stored.{IsStoreOf};
 ghost use Rattle.slice_lang.specs.Agreeing.{SliceAgrees};
 ghost use Rattle.slice_lang.specs.Reading.{slice_of};
 ghost use Rattle.plain_machine.specs.Machine.{rows_reply, slice, slice_reply};
 ghost use Rattle.plain_machine.specs.World.{World};
-ghost use Rattle.cube_state.specs.Frames.{IsQuiet, RunsOn};
+ghost use Rattle.cube_state.specs.Frames.{OnlyLooks, RunsOn};
 ghost use Rattle.cube_state.specs.Stops.{IsNoDamage};
 ghost use Rattle.cube_state.specs.Session.{Between, IsAnswer, Stands};
 ghost use Rattle.cube_slices.specs.Costs.{Costs, MayRead};
@@ -50,8 +49,7 @@ pub fn slice<T: Site>(
     ensures answered { IsTrue T.tells → IfOk result (λ done. SliceGives state (T.disk site.old).files text.now done.reply.items) }
     ensures runs { IfOk result (λ done. RunsOn T.Site site.new done.state) }
     ensures cache { pages.new ≡ pages.old }
-    ensures quiet { IsQuiet T.Site site.old site.new result }
-    ensures writes { T.writes site.new ≡ T.writes site.old }
+    ensures looks { OnlyLooks T.Site site.old site.new result }
 {
     match state {
         State::Empty => plain(alloc, State::Empty, "refused no schema"),
@@ -99,19 +97,17 @@ fn reply_to<T: Site>(
     ensures damage { IsTrue T.tells → IfErr result (TellsSliceDamage store.now (T.disk site.old).files (slice_of store.now.forest.schema text.now)) }
     ensures answered { IsTrue T.tells
         → IfOk result (λ reply. GivesRead store.now (T.disk site.old).files (slice_of store.now.forest.schema text.now) reply.items) }
-    ensures disk { IsTrue T.tells → Rests (T.disk site.old) (T.disk site.new) }
     ensures cache { pages.new ≡ pages.old }
-    ensures quiet { IsQuiet T.Site site.old site.new result }
-    ensures writes { T.writes site.new ≡ T.writes site.old }
+    ensures looks { OnlyLooks T.Site site.old site.new result }
 {
     match read_slice(alloc, &store.forest.schema, text) {
-        Ok(slice) => rows_text(alloc, pages, store, &slice, site),
+        Ok(slice) => found_text(alloc, pages, store, &slice, site),
         Err(refusal) => Ok(refused_slice(alloc, refusal)?),
     }
 }
 
 /// The rows of a slice as text, or its refusal where no view covers it.
-fn rows_text<T: Site>(
+fn found_text<T: Site>(
     alloc: Global,
     pages: &mut Pages,
     store: &Store,
@@ -130,13 +126,11 @@ fn rows_text<T: Site>(
     // Whatever the files hold.
     ensures damage { IsTrue T.tells → IfErr result (TellsSliceDamage store.now (T.disk site.old).files (Ok slice.now)) }
     ensures answered { IsTrue T.tells → IfOk result (λ reply. GivesFound store.now (T.disk site.old).files slice.now reply.items) }
-    ensures disk { IsTrue T.tells → Rests (T.disk site.old) (T.disk site.new) }
     ensures cache { pages.new ≡ pages.old }
-    ensures quiet { IsQuiet T.Site site.old site.new result }
-    ensures writes { T.writes site.new ≡ T.writes site.old }
+    ensures looks { OnlyLooks T.Site site.old site.new result }
 {
     match rows_of(alloc, pages, store, slice, site)? {
-        Some(rows) => Ok(reply_text::answer(alloc, &rows)?),
+        Some(rows) => Ok(slice_exec::rows_text(alloc, &rows)?.into_vec()),
         None => Ok(reply_text::plain(alloc, "refused notcovered")?),
     }
 }
@@ -161,10 +155,8 @@ fn rows_of<T: Site>(
     // Whatever the files hold.
     ensures damage { IsTrue T.tells → IfErr result (TellsSliceDamage store.now (T.disk site.old).files (Ok slice.now)) }
     ensures answered { IsTrue T.tells → IfOk result (Finds store.now (T.disk site.old).files slice.now) }
-    ensures disk { IsTrue T.tells → Rests (T.disk site.old) (T.disk site.new) }
     ensures cache { pages.new ≡ pages.old }
-    ensures quiet { IsQuiet T.Site site.old site.new result }
-    ensures writes { T.writes site.new ≡ T.writes site.old }
+    ensures looks { OnlyLooks T.Site site.old site.new result }
 {
     match slice_exec::answer(alloc, site, pages, store, slice) {
         Ok(rows) => Ok(Some(rows)),

@@ -14,7 +14,7 @@ use fact_model::{FactList, ListOf};
 use std::alloc::Global;
 
 /// The most rows of a batch.
-const MOST_ROWS: u64 = 262_144;
+pub const MOST_ROWS: u64 = 262_144;
 
 /// Reads the rows of a block as facts. It is refused exactly where there are more than 262,144 rows, and otherwise where a
 /// row is faulty; then the first faulty row is named, by its number of fields and else by its first faulty field.

@@ -4,14 +4,8 @@ ghost use Rattle.fact_csv.specs.Batch.{value_in, measure_in, Refuses};
 
 use crate::refusal::RowRefusal;
 use cube_schema::Kind;
-use fact_model::{Text, Value, read_number};
+use fact_model::{GREATEST_NUMBER, LONGEST_TEXT, Text, Value, read_number};
 use std::alloc::Global;
-
-/// The most bytes of a text.
-const LONGEST_TEXT: usize = 255;
-
-/// The greatest value of a number attribute.
-const GREATEST_NUMBER: i128 = 4_294_967_293;
 
 /// The value that a field gives an attribute of this kind.
 pub fn read_value(

@@ -6,5 +6,5 @@ mod field;
 mod refusal;
 mod row;
 
-pub use batch::read_batch;
+pub use batch::{MOST_ROWS, read_batch};
 pub use refusal::RowRefusal;

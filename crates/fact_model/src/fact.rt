@@ -6,6 +6,12 @@ use crate::list::ListOf;
 use crate::memory::Memory;
 use crate::text::Text;
 
+/// The most bytes of a text.
+pub const LONGEST_TEXT: usize = 255;
+
+/// The greatest value of a number attribute.
+pub const GREATEST_NUMBER: i128 = 4_294_967_293;
+
 /// A value of an attribute. Numbers are ordered by value, and texts by their bytes.
 #[derive(Clone, Debug, PartialEq, Eq, PartialOrd, Ord, Drop)]
 pub enum Value {

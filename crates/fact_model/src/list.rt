@@ -1,5 +1,5 @@
 //! The one list type, of which every list of the public surface is an alias.
-ghost use Rattle.std.specs.Prelude.{◌≡◌, [], ◌∷◌, ◌++◌, OnOk, OnErr, length, slice_get, option_copied};
+ghost use Rattle.std.specs.Prelude.{◌≡◌, ◌<◌, ◌≤◌, ◌+◌, [], ◌∷◌, ◌++◌, OnOk, OnErr, length, slice_get, option_copied, vec_len, vec_capacity};
 ghost use Rattle.std.specs.List.{AllZip};
 ghost use Rattle.std.specs.Cmp.Lexicographic.{pointwise, slice_cmp, slice_partial_cmp, lists_equiv, lists_agrees, lists_total, lists_ties, lists_po, lists_per};
 
@@ -69,6 +69,22 @@ impl<T> ListOf<T> {
     {
         let ListOf { items } = self;
         items
+    }
+}
+
+/// Puts an item at the end of a vector that has room for it. It takes no memory.
+pub fn put<T>(items: &mut Vec<T>, item: T)
+where
+    T: Drop,
+    requires { vec_len items.old < vec_capacity items.old }
+    ensures items { items.new.items ≡ items.old.items ++ item ∷ [] }
+    ensures len { vec_len items.new ≡ vec_len items.old + 1 }
+    ensures capacity { vec_capacity items.old ≤ vec_capacity items.new }
+{
+    // There is room, so the push takes no memory and cannot fail.
+    match items.push(item) {
+        Ok(()) => (),
+        Err(_) => (),
     }
 }
 

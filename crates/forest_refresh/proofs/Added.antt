@@ -12,7 +12,7 @@ use Rattle.leaf_points.specs.Storable.{AreStorable}
 use Rattle.select_map.specs.declared.mapping.Mapping.{Mapping}
 use Rattle.select_map.specs.Views.{selected}
 use Rattle.select_map.specs.Selection.{no_tree, tree_of}
-use Rattle.delta_agg.specs.Batch.{KeepMasses}
+use Rattle.view_points.specs.Light.{KeepMasses}
 use Rattle.delta_agg.specs.Trees.{named_tree}
 use Rattle.forest_root.specs.declared.forest.Forest.{Forest}
 use Rattle.forest_root.specs.Forest.{place_of, shape_of}

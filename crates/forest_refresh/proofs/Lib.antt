@@ -9,6 +9,7 @@ pub mod NamesRoom
 pub mod Packings
 pub mod Prepared
 pub mod Ready
+pub mod Rooted
 pub mod Sides
 pub mod TreeMerges
 pub mod TreeReads

@@ -12,7 +12,8 @@ use Rattle.attr_dict.specs.Admitting.{HasSmallCodes, entries_text}
 use Rattle.attr_dict.specs.Book.{Book, names_at}
 use Rattle.attr_dict.specs.declared.admit.DictRefusal.{DictRefusal}
 use Rattle.attr_dict.specs.declared.admit.DictRefusal.TheVariants as dicts
-use Rattle.delta_agg.specs.Batch.{AreCodedBy, KeepMasses}
+use Rattle.delta_agg.specs.Batch.{AreCodedBy}
+use Rattle.view_points.specs.Light.{KeepMasses}
 use Rattle.delta_agg.specs.Trees.{HasCoordinates}
 use Rattle.view_points.specs.Agree.{IsCoded}
 use Rattle.view_points.specs.Codes.{names}

@@ -6,12 +6,7 @@ ghost use Rattle.forest_refresh.specs.Next.{HasMass, added};
 
 use crate::stop::BeginStop;
 use fact_model::{Fact, Text};
-
-/// The most facts.
-const MAX_FACTS: u64 = 1 << 40;
-
-/// The greatest mass of a measure.
-const MAX_MASS: u128 = (1 << 127) - 1;
+use forest_root::{MAX_FACTS, MAX_MASS};
 
 /// The number of all facts, where it is within its limit.
 pub fn total(old: u64, more: usize) -> Result<u64, BeginStop>

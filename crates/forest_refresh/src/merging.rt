@@ -14,12 +14,12 @@ ghost use Rattle.forest_refresh.specs.Refreshed.{IsNoDamage};
 ghost use Rattle.forest_refresh.specs.Rooms.{HasRoomAt};
 ghost use Rattle.forest_refresh.specs.Trees.{AreAdded, IsWholeFor, NamesPageOf, TellsDamageFor};
 
-use crate::reading::{ARITIES, tree_points};
+use crate::reading::{bad_page, tree_points};
 use crate::stop::RefreshStop;
 use cube_point::Entry;
 use delta_agg::{DoesNotJoin, merge_points};
 use forest_root::Forest;
-use page_fmt::PAGE;
+use page_fmt::ARITIES;
 use site_core::Site;
 
 /// The old points of a tree are put into `old`, and these merged with those of a batch into `merged`, each of which has room for them.
@@ -64,10 +64,7 @@ fn bad_tree(forest: &Forest, tree: u32) -> RefreshStop
     ensures { result ≡ RefreshStop.Damaged (place_of forest.now tree).file (4096 * (place_of forest.now tree).first) }
 {
     let place = forest.place(tree);
-    RefreshStop::Damaged {
-        file: place.file,
-        offset: PAGE as u64 * place.first,
-    }
+    bad_page(&place, place.first)
 }
 
 /// The number of points of each view, of which each tree has so many by arity.

@@ -1,10 +1,8 @@
 //! The points of a tree are read from its pages.
 ghost use Rattle.std.specs.Prelude.{◌≡◌, ◌<◌, ◌≤◌, ◌+◌, ◌*◌, ◌^◌, IsTrue, IfErr, OnOk, List, length, vec_capacity};
 ghost use Rattle.std.specs.List.{All};
-ghost use Rattle.site_core.specs.Calls.{Rests};
 ghost use Rattle.fact_model.specs.declared.fact.Fact as facts;
 ghost use Rattle.select_map.specs.Selection.{tree_of};
-ghost use Rattle.tree_pack.specs.Pages.{count_of};
 ghost use Rattle.tree_scan.specs.Scanning.{ArePoints, NamesPage, page_points};
 ghost use Rattle.site_core.specs.Causes.{HasCauseWhere};
 ghost use Rattle.site_core.specs.Frames.{LooksOnly};
@@ -17,12 +15,9 @@ ghost use Rattle.forest_refresh.specs.Trees.{IsTreeIn, NamesPageOf, TellsDamage,
 use crate::stop::RefreshStop;
 use cube_point::Entry;
 use forest_root::Forest;
-use page_fmt::{PAGE, Place};
+use page_fmt::{ARITIES, Place};
 use site_core::Site;
 use tree_scan::{ScanStop, read_tree};
-
-/// How many arities a view may have: 0 to 8.
-pub(crate) const ARITIES: usize = 9;
 
 /// The points of a tree, in point order, read with at most one read for each of its pages, and put into `into`, which has room for as many
 /// as its pages may hold. No file is changed, also after an error.
@@ -95,12 +90,10 @@ fn stop_at(place: &Place, stop: ScanStop) -> RefreshStop
 }
 
 /// The place's page with this number is not what the warehouse writes.
-fn bad_page(place: &Place, page: u64) -> RefreshStop
+pub(crate) fn bad_page(place: &Place, page: u64) -> RefreshStop
     requires { page ≤ 2 ^ 50 }
     ensures { result ≡ RefreshStop.Damaged place.now.file (4096 * page) }
 {
-    RefreshStop::Damaged {
-        file: place.file,
-        offset: PAGE as u64 * page,
-    }
+    let (file, offset) = place.address_of(page);
+    RefreshStop::Damaged { file, offset }
 }

@@ -1,13 +1,12 @@
 //! All memory that the end of a refresh needs.
-ghost use Rattle.std.specs.Prelude.{◌≡◌, ◌<◌, ◌≤◌, ◌+◌, ◌*◌, ◌^◌, ℕ, IfOk, [], length, get_or, vec_capacity};
-ghost use Rattle.forest_root.specs.Forest.{place_of};
+ghost use Rattle.std.specs.Prelude.{◌≡◌, ◌<◌, ◌+◌, ◌*◌, IfOk, length, vec_capacity};
 ghost use Rattle.forest_refresh.specs.Rooms.{HasRoom};
 
-use crate::reading::ARITIES;
 use cube_point::Entry;
 use delta_agg::DeltaList;
 use fact_model::Memory;
 use forest_root::Forest;
+use page_fmt::ARITIES;
 use std::alloc::Global;
 use tree_pack::Packer;
 use tree_scan::PAGE_POINTS;

@@ -1,5 +1,5 @@
 //! The new trees are packed and written on the other side, tree after tree.
-ghost use Rattle.std.specs.Prelude.{◌≡◌, ◌≢◌, ◌<◌, ◌≤◌, ◌+◌, ◌*◌, ◌/◌, ◌++◌, [], ◌∷◌, ℕ, IsTrue, IfOk, IfErr, OnOk, List, flat_map, length, vec_capacity, vec_len};
+ghost use Rattle.std.specs.Prelude.{◌≡◌, ◌≢◌, ◌<◌, ◌≤◌, ◌+◌, ◌*◌, ◌/◌, ◌++◌, ℕ, IsTrue, IfOk, IfErr, OnOk, List, flat_map, length, vec_capacity};
 ghost use Rattle.site_core.specs.Calls.{Changes};
 ghost use Rattle.site_core.specs.Frames.{Calls};
 ghost use Rattle.site_core.specs.Causes.{HasCause};
@@ -23,11 +23,12 @@ ghost use Rattle.forest_refresh.specs.Rooms.{HasRoom, HasRoomFor, KeepsRoom};
 ghost use Rattle.forest_refresh.specs.Trees.{AreAdded, AreAllAdded, AreAllWhole, IsWholeFor, NamesPageOf, TellsDamageFor, TellsFirstDamage};
 
 use crate::merging::{merged_tree, view_counts};
-use crate::reading::{ARITIES, counts};
+use crate::reading::counts;
 use crate::room::Room;
 use crate::stop::RefreshStop;
 use cube_point::{Entry, Shape};
 use delta_agg::DeltaList;
+use fact_model::put;
 use forest_commit::write_pages;
 use forest_root::Forest;
 use page_fmt::PAGE;
@@ -117,25 +118,11 @@ fn add_tree<T: Site>(
         &mut room.before,
         &mut room.merged,
     )?;
-    put_row(&mut room.rows, counts(&room.merged));
+    put(&mut room.rows, counts(&room.merged));
     let shape = forest.place(tree).shape;
     match write_tree(site, slot, shape, first, &room.merged, &mut room.packer) {
         Ok(next) => Ok(next),
         Err(Fault) => Err(RefreshStop::Disk),
-    }
-}
-
-/// Puts a row of numbers at the end, where there is room.
-fn put_row(rows: &mut Vec<[u64; ARITIES]>, row: [u64; ARITIES])
-    requires { vec_len rows.old < vec_capacity rows.old }
-    ensures items { rows.new.items ≡ rows.old.items ++ row ∷ [] }
-    ensures len { vec_len rows.new ≡ vec_len rows.old + 1 }
-    ensures capacity { vec_capacity rows.old ≤ vec_capacity rows.new }
-{
-    // There is room, so the push takes no memory and cannot fail.
-    match rows.push(row) {
-        Ok(()) => (),
-        Err(_) => (),
     }
 }
 
@@ -159,9 +146,7 @@ fn write_tree<T: Site>(
     ensures number { (views : Views) → AreTreeViews shape views entries.now → IfOk result (λ next. next ≡ first + length (pages_of shape first views)) }
     ensures next { IfOk result (λ next. EndsBefore T.Site slot first (3 * length entries.now) next site.old site.new) }
     ensures disk { IsTrue T.tells → Changes (DiffersPast (2 + slot) (page_size * first)) (T.disk site.old) (T.disk site.new) }
-    ensures cause { HasCause (T.disk_faults site.old) (T.disk_faults site.new) result }
-    ensures told_faults { T.told_faults site.new ≡ T.told_faults site.old }
-    ensures reads { T.reads site.new ≡ T.reads site.old }
+    ensures calls { Calls T.Site HasCause 0 site.old site.new result }
     ensures writes { (views : Views) → AreTreeViews shape views entries.now
         → T.writes site.new ≤ T.writes site.old + length (pages_of shape first views) }
 {

@@ -34,9 +34,11 @@ const MAX_VIEWS: u16 = 32;
 
 const MAX_NAMES_LEN: u64 = 1 << 48;
 
-const MAX_FACTS: u64 = 1 << 40;
+/// The most facts of a warehouse.
+pub const MAX_FACTS: u64 = 1 << 40;
 
-const MAX_MASS: u128 = (1 << 127) - 1;
+/// The greatest mass of a measure.
+pub const MAX_MASS: u128 = (1 << 127) - 1;
 
 /// What one generation has.
 #[derive(Clone, Copy, Debug, PartialEq, Eq)]

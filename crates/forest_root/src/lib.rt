@@ -14,7 +14,7 @@ mod raised;
 mod root_file;
 
 pub use bodies::{put_bodies, put_body};
-pub use body::Body;
+pub use body::{Body, MAX_FACTS, MAX_MASS};
 pub use forest::{Forest, Store};
 pub use gates::{close_gate, raise_gate};
 pub use lowering::lower_gates;

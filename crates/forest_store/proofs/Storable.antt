@@ -18,7 +18,7 @@ use Rattle.view_points.specs.Codes.{names, names_of}
 use Rattle.view_points.specs.Points.{Names}
 use Rattle.view_points.specs.Agree.{IsCoded}
 use Rattle.view_points.proofs.Codes.{own-names}
-use Rattle.delta_agg.specs.Batch.{KeepMasses}
+use Rattle.view_points.specs.Light.{KeepMasses}
 use Rattle.leaf_points.specs.Storable.{AreStorable}
 use Rattle.forest_root.specs.Body.{max_facts}
 use Rattle.forest_store.specs.Held.{AreAccepted}

@@ -10,7 +10,7 @@ use Rattle.cube_schema.specs.Agreeing.{Agrees}
 use Rattle.cube_schema.specs.Kinds.{max_at}
 use Rattle.cube_schema.specs.Writing.{canonical}
 use Rattle.attr_dict.specs.Admitting.{entries_text}
-use Rattle.delta_agg.specs.Batch.{KeepMasses}
+use Rattle.view_points.specs.Light.{KeepMasses}
 use Rattle.forest_root.specs.declared.body.Body.{Body}
 use Rattle.forest_root.specs.Body.{max_facts}
 use Rattle.forest_root.specs.Keeps.{Held, LiveAt, Keeps}

@@ -1,6 +1,6 @@
 //! The entries of the leaf that is being packed.
 
-ghost use Rattle.std.specs.Prelude.{◌≡◌, ◌<◌, ◌≤◌, List, [], ◌∷◌, ◌++◌, length, vec_len, vec_capacity, IfOk, ℕ, true, false};
+ghost use Rattle.std.specs.Prelude.{◌≡◌, ◌<◌, ◌≤◌, List, [], ◌∷◌, ◌++◌, length, vec_capacity, IfOk, true, false};
 ghost use Rattle.cube_point.specs.declared.point.Entry.{Entry};
 ghost use Rattle.cube_point.specs.declared.point.Shape.{Shape};
 ghost use Rattle.page_fmt.specs.Pages.{room, entry_size, leaf_bytes};
@@ -11,7 +11,7 @@ ghost use Rattle.leaf_pack.specs.Leaf.{is_full as full, is_other, is_after, firs
 
 use crate::cover::box_of;
 use cube_point::{Bounds, Entry, Shape};
-use fact_model::Memory;
+use fact_model::{Memory, put};
 use page_fmt::{leaf_room, put_leaf};
 use std::alloc::Global;
 use std::marker::Model;
@@ -29,19 +29,6 @@ impl Model for LeafBuffer {
     ghost view = { λ s. record { entries = s.entries.items; shape = s.shape } };
 
     ghost invariant = { λ s. record { shape : IsShape s.shape; leaf : AreEntries s.shape s.entries.items; space : room (entry_size 0 1) ≤ vec_capacity s.entries } };
-}
-
-/// Puts an entry at the end, where there is room.
-fn put(entries: &mut Vec<Entry>, entry: Entry)
-    requires { vec_len entries.old < vec_capacity entries.old }
-    ensures items { entries.new.items ≡ entries.old.items ++ entry ∷ [] }
-    ensures capacity { vec_capacity entries.old ≤ vec_capacity entries.new }
-{
-    // There is room, so the push takes no memory and cannot fail.
-    match entries.push(entry) {
-        Ok(()) => (),
-        Err(_) => (),
-    }
 }
 
 impl LeafBuffer {

@@ -19,4 +19,4 @@ pub use page::{BadPage, Child, Head, Node, PAGE, Place};
 pub use read::{inner_entry, leaf_entry};
 pub use size::{inner_room, leaf_room};
 pub use take::take_page;
-pub use tree::tree_pages;
+pub use tree::{ARITIES, tree_pages};

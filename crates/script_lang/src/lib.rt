@@ -3,7 +3,6 @@
 
 mod command;
 mod count;
-mod cuts;
 mod lines;
 mod reader;
 mod said;

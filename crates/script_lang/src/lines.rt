@@ -5,9 +5,9 @@ ghost use Rattle.script_lang.specs.Place.{IsShort};
 ghost use Rattle.script_lang.specs.Reading.{nothing_read, with_more, Gives, IsFirstReady, IsFirstWhole, StillToCome, StillWhole, StillReady, ready};
 
 use crate::command::Command;
-use crate::cuts::{between, front, place_of};
 use crate::reader::Reader;
 use fact_model::Memory;
+use fact_model::bytes::{between, front, place_of};
 use std::alloc::Global;
 use std::marker::Model;
 use std::mem;

@@ -5,8 +5,8 @@ ghost use Rattle.script_lang.specs.Place.{block_in, most, IsShort};
 ghost use Rattle.script_lang.specs.Reading.{GoesOnAs};
 
 use crate::command::{Block, Command};
-use crate::cuts::front;
 use crate::said::{LONGEST_LINE, Opening, Said, is_end, said_by};
+use fact_model::bytes::front;
 use fact_model::{Memory, Text};
 use std::alloc::Global;
 use std::marker::Model;

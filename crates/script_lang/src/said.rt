@@ -1,13 +1,12 @@
 //! What one line of a script says.
 ghost use Rattle.std.specs.Prelude.{◌≡◌, IfOk};
-ghost use Rattle.std.specs.Str.Lines.{strip_carriage_return};
 ghost use Rattle.std.specs.List.{before_first, after_first};
 ghost use Rattle.script_lang.specs.Script.{KeepsLimit, SaysNoBlock};
 ghost use Rattle.script_lang.specs.Said.{is_text, said_in, said_by, is_end, is_space, step_in, generate_in, count_in};
 
 use crate::command::Command;
 use crate::count::read_count;
-use crate::cuts::{after, at_space};
+use fact_model::bytes::{after, cut_at, without_return};
 use fact_model::{Memory, Text};
 use std::alloc::Global;
 
@@ -104,7 +103,7 @@ fn generate(words: &[u8]) -> Command
         ≡ generate_in (count_in (before_first is_space words.now)) (count_in (after_first is_space words.now)) }
     ensures fits { KeepsLimit result }
 {
-    let (start, rows) = at_space(words);
+    let (start, rows) = cut_at(b' ', words);
     match (read_count(start), read_count(rows)) {
         (Some(start), Some(rows)) => Command::Generate { start, rows },
         _ => Command::Unknown,
@@ -116,14 +115,4 @@ fn is_text(text: &str, line: &[u8]) -> bool
     ensures { result ≡ is_text text.now line.now }
 {
     line == text.as_bytes()
-}
-
-/// The line without the carriage return at its end.
-fn without_return(line: &[u8]) -> &[u8]
-    ensures { result.now ≡ strip_carriage_return line.now }
-{
-    match line {
-        [rest @ .., b'\r'] => rest,
-        _ => line,
-    }
 }

@@ -19,13 +19,10 @@ use crate::stop::AnswerStop;
 use fact_model::{Rows, Slice};
 use forest_root::{Forest, Store};
 use page_cache::Pages;
-use site_core::Site;
+use site_core::{SIDES, Site};
 use std::alloc::Global;
 use view_route::route;
 use view_rows::{RowsStop, rows_by};
-
-/// The number of the first side file.
-const SIDES: u32 = 2;
 
 /// The rows of a slice: one for each group of the accepted facts that meet its conditions, ascending by key. They are made from the
 /// points of a covering view with fewest points, and of its tree only those pages are read whose boxes meet the conditions. Nothing is

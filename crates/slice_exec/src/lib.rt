@@ -4,6 +4,8 @@
 mod answering;
 mod finding;
 mod stop;
+mod text;
 
 pub use answering::answer;
 pub use stop::AnswerStop;
+pub use text::rows_text;

@@ -17,7 +17,7 @@ use Rattle.fact_model.specs.declared.slice.Slice.{Slice}
 use Rattle.fact_model.specs.Slice.{attr_of}
 use Rattle.cube_schema.specs.Kinds.{kind_at, arity, measure_count}
 use Rattle.cube_schema.specs.Words.{begins}
-use Rattle.cube_schema.specs.Reading.{are_distinct, number_of}
+use Rattle.cube_schema.specs.Reading.{are_distinct, number_of, measure_number}
 use Rattle.cube_schema.specs.declared.schema.Kind.{Kind}
 use Rattle.cube_schema.specs.declared.schema.Kind.TheVariants.{Word, Number}
 use Rattle.cube_schema.specs.declared.schema.Schema.{Schema}
@@ -25,7 +25,7 @@ use Rattle.cube_schema.proofs.Numbers.{found-below, number-below}
 use Rattle.cube_schema.proofs.Tests.{all-join, any-alike, any-map, distinct-insert}
 use Rattle.slice_lang.specs.Agreeing.{is_column, FitsKind, SliceAgrees}
 use Rattle.slice_lang.specs.Answers.{Reading, ◌>>=◌, Answers, judged, or_refused}
-use Rattle.slice_lang.specs.Names.{Named, name_in, behind_name, measure_number}
+use Rattle.slice_lang.specs.Names.{Named, name_in, behind_name}
 use Rattle.slice_lang.specs.Parts.{Part, onto, is_cut, within, parts_from, parts_of, is_word, byte_of}
 use Rattle.slice_lang.specs.Reading.{column_over, count_rules, count_in, measured_rules, measured_in, column_in, columns_in, attr_rules, named_in, attr_in, group_rules, name_of_group, group_in, is_on, end_rules, value_in, cond_rules, cond_in, conds_in, all_conds_in, made, behind_group, behind_columns, words_in, slice_of, is_fold}
 use Rattle.slice_lang.specs.Values.{Written, in_range, coordinate_in, place_of_dots, equal_to, between, number_cond, meaning, written_in}

@@ -17,7 +17,7 @@ use Rattle.fact_model.specs.declared.slice.Cond.{Cond}
 use Rattle.fact_model.specs.Slice.{attr_of}
 use Rattle.cube_schema.specs.Kinds.{name_at, kind_at, measure_name_at, arity, measure_count}
 use Rattle.cube_schema.specs.Lawful.{IsSchema}
-use Rattle.cube_schema.specs.Reading.{are_distinct, is_attr, number_of}
+use Rattle.cube_schema.specs.Reading.{are_distinct, is_attr, number_of, is_measure, measure_number}
 use Rattle.cube_schema.specs.Words.{begins, is_name, is_name_byte}
 use Rattle.cube_schema.specs.declared.schema.Schema.{Schema}
 use Rattle.cube_schema.proofs.Again.{names-lawful}
@@ -27,7 +27,7 @@ use Rattle.cube_schema.proofs.Tests.{all-parts, all-join, all-at, all-imply, any
 use Rattle.slice_lang.specs.Agreeing.{is_column}
 use Rattle.slice_lang.specs.Answers.{◌>>=◌, judged, or_refused}
 use Rattle.slice_lang.specs.Grammar.{Spells, SpellsCond}
-use Rattle.slice_lang.specs.Names.{Named, name_in, behind_name, is_measure, measure_number}
+use Rattle.slice_lang.specs.Names.{Named, name_in, behind_name}
 use Rattle.slice_lang.specs.Parts.{Part, byte_of}
 use Rattle.slice_lang.specs.Reading.{column_over, measured_rules, measured_in, count_in, column_in, attr_rules, named_in, attr_in, group_rules, name_of_group, is_on, end_rules, value_in, cond_rules, cond_in}
 use Rattle.slice_lang.specs.Values.{meaning}

@@ -1,4 +1,3 @@
-pub mod Few
 pub mod PartSteps
 pub mod Quotes
 pub mod CondSteps

@@ -22,7 +22,8 @@ use Rattle.cube_schema.specs.declared.schema.Schema.{Schema}
 use Rattle.cube_schema.proofs.Numbers.{found-below, name-number}
 use Rattle.slice_lang.specs.Answers.{◌>>=◌, judged, or_refused}
 use Rattle.slice_lang.specs.Grammar.{is_bare, Spells, SpellsCond}
-use Rattle.slice_lang.specs.Names.{Named, name_in, behind_name, is_measure, measure_number}
+use Rattle.cube_schema.specs.Reading.{is_measure, measure_number}
+use Rattle.slice_lang.specs.Names.{Named, name_in, behind_name}
 use Rattle.slice_lang.specs.Parts.{Part, byte_of, is_quote}
 use Rattle.slice_lang.specs.Reading.{is_fold, column_over, count_rules, count_in, measured_rules, measured_in, column_in, attr_rules, named_in, attr_in, group_rules, name_of_group, end_rules, value_in, cond_rules, cond_in}
 use Rattle.slice_lang.specs.Values.{Written, is_value_byte, after_byte, within_quotes, as_quoted, quoted_in, plain_in, plain_rules, written_in, in_range, coordinate_in, place_of_dots, equal_to, between, number_cond, meaning}

@@ -8,11 +8,11 @@ use Rattle.fact_model.specs.declared.slice.Cond.{Cond}
 use Rattle.fact_model.specs.declared.slice.Slice.{Slice}
 use Rattle.fact_model.specs.Slice.{attr_of}
 use Rattle.cube_schema.specs.Kinds.{kind_at}
-use Rattle.cube_schema.specs.Reading.{is_attr, number_of}
+use Rattle.cube_schema.specs.Reading.{is_attr, number_of, is_measure, measure_number}
 use Rattle.cube_schema.specs.Words.{begins}
 use Rattle.cube_schema.specs.declared.schema.Schema.{Schema}
 use Rattle.slice_lang.specs.Answers.{Reading, ◌>>=◌, judged, or_refused, gathered}
-use Rattle.slice_lang.specs.Names.{Named, name_in, behind_name, is_measure, measure_number}
+use Rattle.slice_lang.specs.Names.{Named, name_in, behind_name}
 use Rattle.slice_lang.specs.Parts.{Part, space, comma, parts_of, is_word, byte_of, before}
 use Rattle.slice_lang.specs.Values.{written_in, meaning}
 use Rattle.slice_lang.specs.declared.refusal.SliceRefusal.{SliceRefusal}

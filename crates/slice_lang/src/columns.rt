@@ -1,11 +1,10 @@
 //! The columns of a slice, and the attributes by which facts are grouped.
-ghost use Rattle.std.specs.Prelude.{◌≡◌, ◌<◌, length, nat_eq};
-ghost use Rattle.std.specs.List.{list_any};
+ghost use Rattle.std.specs.Prelude.{◌≡◌, ◌<◌, length};
 ghost use Rattle.cube_schema.specs.Lawful.{IsSchema};
 ghost use Rattle.slice_lang.specs.Answers.{Answers};
 ghost use Rattle.slice_lang.specs.Reading.{is_fold, column_over, count_in, measured_in, column_in, columns_in, name_of_group, group_in};
 
-use crate::names::{measure_named, name_in, read_attr};
+use crate::names::{name_in, read_attr};
 use crate::parts::{Part, byte_of, parts_of};
 use crate::refusal::SliceRefusal;
 use cube_schema::Schema;
@@ -69,7 +68,7 @@ fn read_count(end: u64, text: &[u8]) -> Result<Column, SliceRefusal>
 }
 
 /// The column of a word over the measure that is named at the front of `text`.
-#[tactic(auto, unfolding(crate::specs::Reading::measured_in))]
+#[tactic(auto, using(cube_schema::proofs::Few::few_measures), unfolding(crate::specs::Reading::measured_in))]
 fn read_measured(
     schema: &Schema,
     word: &[u8],
@@ -84,7 +83,7 @@ fn read_measured(
     if name.is_empty() {
         return Err(SliceRefusal::Syntax(byte_of(end, text)));
     }
-    let Some(measure) = measure_named(schema, name) else {
+    let Some(measure) = schema.measure_named(name) else {
         return Err(SliceRefusal::UnknownMeasure(byte_of(end, text)));
     };
     match behind.strip_prefix(b")") {

@@ -1,7 +1,6 @@
 //! The conditions of a slice.
 ghost use Rattle.std.specs.Prelude.{◌≡◌, ◌<◌, length};
 ghost use Rattle.std.specs.List.{list_any};
-ghost use Rattle.cube_schema.specs.Kinds.{kind_at};
 ghost use Rattle.cube_schema.specs.Lawful.{IsSchema};
 ghost use Rattle.slice_lang.specs.Answers.{Answers};
 ghost use Rattle.slice_lang.specs.Reading.{is_on, value_in, cond_in, all_conds_in};
@@ -10,7 +9,7 @@ use crate::names::read_attr;
 use crate::parts::{Part, byte_of};
 use crate::refusal::SliceRefusal;
 use crate::values::read_written;
-use cube_schema::{Kind, Schema};
+use cube_schema::Schema;
 use fact_model::{Cond, CondList};
 use std::alloc::Global;
 
@@ -84,22 +83,11 @@ fn read_value(
 {
     let written = read_written(alloc, end, text)?;
     let behind = written.behind();
-    let Some(cond) = written.meaning(kind_at(schema, attr), attr) else {
+    let Some(cond) = written.meaning(schema.kind_at(attr), attr) else {
         return Err(SliceRefusal::BadValue(byte_of(end, text)));
     };
     if !behind.is_empty() {
         return Err(SliceRefusal::Syntax(byte_of(end, behind)));
     }
     Ok(cond)
-}
-
-/// What the values of an attribute are. One that is not declared counts as a number.
-#[tactic(auto, using(fact_model::proofs::Defaults::reads))]
-fn kind_at(schema: &Schema, attr: u32) -> Kind
-    ensures { result ≡ kind_at schema.now attr }
-{
-    match schema.attrs.get(attr as usize) {
-        Some(attr) => attr.kind,
-        None => Kind::Number,
-    }
 }

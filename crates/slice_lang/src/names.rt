@@ -1,11 +1,10 @@
 //! The names in a text, and what they are the names of.
-ghost use Rattle.std.specs.Prelude.{◌≡◌, ◌<◌, ◌≤◌, IfOk, length, Some, None, if◌then◌else◌};
+ghost use Rattle.std.specs.Prelude.{◌≡◌, ◌<◌, ◌≤◌, IfOk, length};
 ghost use Rattle.std.specs.List.{prefix_len};
 ghost use Rattle.cube_schema.specs.Words.{is_name_byte};
 ghost use Rattle.cube_schema.specs.Lawful.{IsSchema};
-ghost use Rattle.cube_schema.specs.Reading.{is_attr, number_of};
 ghost use Rattle.slice_lang.specs.Reading.{attr_in};
-ghost use Rattle.slice_lang.specs.Names.{name_in, behind_name, is_measure, measure_number};
+ghost use Rattle.slice_lang.specs.Names.{name_in, behind_name};
 
 use crate::parts::byte_of;
 use crate::refusal::SliceRefusal;
@@ -45,7 +44,7 @@ impl<'a> Named<'a> {
 }
 
 /// The attribute that is named at the front of a text that ends before byte `end`, and what follows the name.
-#[tactic(auto, unfolding(crate::specs::Reading::attr_in))]
+#[tactic(auto, using(cube_schema::proofs::Few::few_attrs), unfolding(crate::specs::Reading::attr_in))]
 pub(crate) fn read_attr<'a>(
     schema: &Schema,
     end: u64,
@@ -60,7 +59,7 @@ pub(crate) fn read_attr<'a>(
     if name.is_empty() {
         return Err(SliceRefusal::Syntax(byte_of(end, text)));
     }
-    match attr_named(schema, name) {
+    match schema.attr_named(name) {
         Some(attr) => Ok(Named { attr, behind }),
         None => Err(SliceRefusal::UnknownAttr(byte_of(end, text))),
     }
@@ -94,38 +93,4 @@ fn is_name_byte(byte: u8) -> bool
     ensures { result ≡ is_name_byte byte }
 {
     byte.is_ascii_lowercase() || byte.is_ascii_digit() || byte == b'_'
-}
-
-/// The number of the attribute of this name.
-#[tactic(auto, using(crate::proofs::Few::few_attrs))]
-pub(crate) fn attr_named(schema: &Schema, name: &[u8]) -> Option<u32>
-    requires { IsSchema schema.now }
-    ensures { result
-        ≡ (if is_attr schema.now name.now then Some (number_of schema.now name.now) else None) }
-{
-    let mut number = 0;
-    for attr in schema.attrs.as_slice() {
-        if attr.name.as_bytes() == name {
-            return Some(number);
-        }
-        number += 1;
-    }
-    None
-}
-
-/// The number of the measure of this name.
-#[tactic(auto, using(crate::proofs::Few::few_measures))]
-pub(crate) fn measure_named(schema: &Schema, name: &[u8]) -> Option<u32>
-    requires { IsSchema schema.now }
-    ensures { result
-        ≡ (if is_measure schema.now name.now then Some (measure_number schema.now name.now) else None) }
-{
-    let mut number = 0;
-    for measure in schema.measures.as_slice() {
-        if measure.as_bytes() == name {
-            return Some(number);
-        }
-        number += 1;
-    }
-    None
 }

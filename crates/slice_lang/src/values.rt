@@ -7,15 +7,9 @@ ghost use Rattle.slice_lang.specs.Values.{is_value_byte, written_in, plain_in, p
 use crate::parts::byte_of;
 use crate::refusal::SliceRefusal;
 use cube_schema::Kind;
-use fact_model::{Cond, Memory, Text, Value, read_number};
+use fact_model::{Cond, GREATEST_NUMBER, LONGEST_TEXT, Memory, Text, Value, read_number};
 use std::alloc::Global;
 use std::marker::Model;
-
-/// The most bytes of a text.
-const LONGEST_TEXT: usize = 255;
-
-/// The greatest value of a number attribute.
-const GREATEST_NUMBER: i128 = 4_294_967_293;
 
 /// A value as it is written.
 #[derive(Debug, Drop)]

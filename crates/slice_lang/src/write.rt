@@ -71,18 +71,8 @@ fn push_over(text: &mut Vec<u8>, word: &[u8], schema: &Schema, measure: u32) -> 
 {
     text.extend_from_slice(word)?;
     text.push(b'(')?;
-    push_measure(text, schema, measure)?;
+    text.extend_from_slice(schema.measure_name(measure))?;
     Ok(text.push(b')')?)
-}
-
-#[tactic(auto, using(fact_model::proofs::Defaults::reads))]
-fn push_measure(text: &mut Vec<u8>, schema: &Schema, measure: u32) -> Result<(), Memory>
-    ensures { OnOk result (text.new.items ≡ text.old.items ++ measure_name_at schema.now measure) }
-{
-    match schema.measures.get(measure as usize) {
-        Some(name) => Ok(text.extend_from_slice(name.as_bytes())?),
-        None => Ok(()),
-    }
 }
 
 fn push_group(text: &mut Vec<u8>, schema: &Schema, attrs: &[u32]) -> Result<(), Memory>

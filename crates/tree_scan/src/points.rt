@@ -8,6 +8,7 @@ ghost use Rattle.tree_scan.specs.Scanning.{ArePoints, leaf_entries, page_points}
 ghost use Rattle.tree_scan.specs.Steps.{MayFollow};
 
 use cube_point::{Entry, Shape, before};
+use fact_model::put;
 use page_fmt::{Node, PAGE, leaf_entry, take_page};
 
 /// Puts the points of a page behind the others, where there is room for those of any page. False, where the page is not lawful or its
@@ -64,19 +65,5 @@ fn push_all(page: &[u8; PAGE], shape: &Shape, count: usize, entries: &mut Vec<En
 {
     for index in 0..count {
         put(entries, leaf_entry(page, shape, index));
-    }
-}
-
-/// Puts an entry at the end, where there is room.
-fn put(entries: &mut Vec<Entry>, entry: Entry)
-    requires { vec_len entries.old < vec_capacity entries.old }
-    ensures items { entries.new.items ≡ entries.old.items ++ entry ∷ [] }
-    ensures len { vec_len entries.new ≡ vec_len entries.old + 1 }
-    ensures capacity { vec_capacity entries.old ≤ vec_capacity entries.new }
-{
-    // There is room, so the push takes no memory and cannot fail.
-    match entries.push(entry) {
-        Ok(()) => (),
-        Err(_) => (),
     }
 }

@@ -38,8 +38,8 @@ use Rattle.view_points.proofs.Regroup.{cell-law, grouped-same, groups-grouped}
 use Rattle.view_points.proofs.Sums.{counts-all, points-mass, weight-filter}
 use Rattle.attr_dict.specs.Admitting.{Agrees}
 use Rattle.attr_dict.specs.Book.{Book, kind_at, names_at, value_of}
-use Rattle.delta_agg.specs.Batch.{IsLight, KeepMasses}
-use Rattle.delta_agg.proofs.Light.{light-fits, light-join}
+use Rattle.view_points.specs.Light.{IsLight, KeepMasses}
+use Rattle.view_points.proofs.Light.{light-fits, light-join}
 use Rattle.view_rows.specs.Grouped.{AllJoin, AllJoinTo, Answers, AreSound, cells_of, group_key, has_values, key_of_entry, points_inside, rows_from}
 use Rattle.view_rows.specs.Regions.{is_word}
 use Rattle.view_rows.proofs.GroupKeys.{every-group}

@@ -12,8 +12,8 @@ use Rattle.view_points.specs.Points.{View}
 use Rattle.view_points.specs.Squeezed.{squeezed}
 use Rattle.view_points.proofs.Cells.{join-assoc}
 use Rattle.attr_dict.specs.Book.{Book}
-use Rattle.delta_agg.proofs.Squeezing.{squeezed-same, squeezed-other}
-use Rattle.delta_agg.specs.Joins.{both}
+use Rattle.view_points.proofs.Squeezes.{squeezed-same, squeezed-other}
+use Rattle.view_points.specs.Entries.{both}
 use Rattle.view_rows.specs.Grouped.{Joins, NeighboursJoinTo, key_of_entry, keyed, lent}
 
 module _ (b : Book) (view : View) (group : List ℕ) where

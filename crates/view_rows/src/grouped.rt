@@ -5,7 +5,7 @@ ghost use Rattle.fact_model.specs.declared.fact.Fact.{Fact};
 ghost use Rattle.fact_model.specs.Rows.{rows};
 ghost use Rattle.view_points.specs.Agree.{among};
 ghost use Rattle.attr_dict.specs.Book.{names_at};
-ghost use Rattle.delta_agg.specs.Batch.{KeepMasses};
+ghost use Rattle.view_points.specs.Light.{KeepMasses};
 ghost use Rattle.view_rows.specs.Grouped.{Answers, AreSound, HasForm, has_values, points_inside, rows_from};
 ghost use Rattle.view_rows.specs.declared.stop.RowsStop.TheVariants as stops;
 

@@ -4,7 +4,7 @@ ghost use Rattle.std.specs.List.Sorted.{IsPermutation, IsSortedBy, IsStableBy};
 ghost use Rattle.fact_model.specs.Cell.{join};
 ghost use Rattle.fact_model.specs.Value.{Key, key_cmp};
 ghost use Rattle.view_points.specs.Squeezed.{squeezed};
-ghost use Rattle.delta_agg.specs.Joins.{both};
+ghost use Rattle.view_points.specs.Entries.{both};
 ghost use Rattle.view_rows.specs.Grouped.{AllJoin, Joins, NeighboursJoin, by_key, cells_of, is_before, keyed, lent};
 ghost use Rattle.view_rows.specs.declared.stop.RowsStop.TheVariants as stops;
 

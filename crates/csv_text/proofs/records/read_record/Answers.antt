@@ -8,8 +8,8 @@ pub returns-clause-next : goal.returns-clause-next
 returns-clause-next c =
     read_next c.args.reader.now c.read_byte_record.new.self (fields_of c.read_byte_record.new.row) c.requires c.in-Ok.found (c.in-Ok.ensures.reads c.requires.trim c.requires.ready)
 
-pub returns-clause-reads : goal.returns-clause-reads
-returns-clause-reads c = λ some.
+pub returns-clause-reader : goal.returns-clause-reader
+returns-clause-reader c = λ some.
     reads_on c.args.reader.now c.read_byte_record.new.self (fields_of c.read_byte_record.new.row) c.requires
     (subst (λ (found : Bool). ReadRecord known c.args.reader.now c.read_byte_record.new.self found (fields_of c.read_byte_record.new.row)) some (c.in-Ok.ensures.reads c.requires.trim c.requires.ready))
     (c.in-Ok.ensures.ready c.requires.trim) c.in-Ok.ensures.flexible

@@ -5,7 +5,7 @@ use Rattle.script_lang.specs.Script.{commands}
 use Rattle.plain_machine.specs.World.{bare}
 use Rattle.cube_shell.specs.Damage.{EndsAt, EndsForBreak}
 use Rattle.cube_shell.specs.Ends.{IsUndamaged, IsUsageOrMemory}
-use Rattle.cube_shell.specs.declared.status.Status.TheVariants.{Usage}
+use Rattle.cube_shell.specs.declared.exit.Status.TheVariants.{Usage}
 use Rattle.cube_shell.specs.Replied.{HasReplied}
 use Rattle.cube_shell.proofs.Going.{opened_behind, opened_moments, opening_moments, unopened_moments}
 use Rattle.cube_shell.proofs.Statuses.{broken_as, either_way, ended_by_words, named, none_told_as, not_ended_so, unopened, unread_words, where_ended}

@@ -1,8 +1,8 @@
 use Rattle.std.proofs.Common.{◌≡◌, subst}
 use Rattle.script_lang.specs.Script.{commands}
 use Rattle.plain_machine.specs.World.{bare}
-use Rattle.cube_shell.specs.declared.status.Status.{Status}
-use Rattle.cube_shell.specs.declared.status.Status.TheVariants.{Done}
+use Rattle.cube_shell.specs.declared.exit.Status.{Status}
+use Rattle.cube_shell.specs.declared.exit.Status.TheVariants.{Done}
 use Rattle.cube_shell.specs.Ends.{Faults, EndCause}
 use Rattle.cube_shell.proofs.Going.{told_front}
 use Rattle.cube_shell.proofs.top_call.run_within.Goals as goal

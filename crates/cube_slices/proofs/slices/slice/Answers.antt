@@ -22,7 +22,7 @@ returns-in_ok-reply-in-Pending-clause-answer g c = λ t world stands.
     let is : Stands (Pending r) old world = subst (λ (s : State). Stands s old world) c.in-Pending.is stands in
     let stored = subst (λ (kept : Store). IsStoreOf kept is.0.facts old.files) (sym c.store.ensures) (attends_belongs r old is.0 is.1 is.3).stored.read in
     record {
-      stands = stands_rests (Pending r) old new world (c.reply_to-in-Pending.ensures.disk t) is;
+      stands = stands_rests (Pending r) old new world (c.reply_to-in-Pending.ensures.looks.disk t) is;
       reply = pending_slice r old world text c.in_ok-reply-in-Pending.reply.items is
           (subst (λ (kept : Store). c.in_ok-reply-in-Pending.reply.items ≡ slice_reply kept.forest.schema is.0.facts (slice_of kept.forest.schema text)) c.store.ensures
           (c.in_ok-reply-in-Pending.ensures.reply t is.0.facts stored));
@@ -30,7 +30,7 @@ returns-in_ok-reply-in-Pending-clause-answer g c = λ t world stands.
 
 pub returns-in_ok-reply-in-Pending-clause-any_moment : goal.returns-in_ok-reply-in-Pending-clause-any_moment
 returns-in_ok-reply-in-Pending-clause-any_moment g c = λ t world stands.
-    resting c.args.state _ _ world world stands (λ told files. g.met.T.Site.only_now c.args.site.now told files t) (c.reply_to-in-Pending.ensures.disk t)
+    resting c.args.state _ _ world world stands (λ told files. g.met.T.Site.only_now c.args.site.now told files t) (c.reply_to-in-Pending.ensures.looks.disk t)
 
 pub returns-in_err-reply-in-Pending-clause-undamaged : goal.returns-in_err-reply-in-Pending-clause-undamaged
 returns-in_err-reply-in-Pending-clause-undamaged g c = λ t world stands.
@@ -43,7 +43,7 @@ returns-in_err-reply-in-Pending-clause-undamaged g c = λ t world stands.
 
 pub returns-in_err-reply-in-Pending-clause-any_moment : goal.returns-in_err-reply-in-Pending-clause-any_moment
 returns-in_err-reply-in-Pending-clause-any_moment g c = λ t world stands.
-    resting c.args.state _ _ world world stands (λ told files. g.met.T.Site.only_now c.args.site.now told files t) (c.reply_to-in-Pending.ensures.disk t)
+    resting c.args.state _ _ world world stands (λ told files. g.met.T.Site.only_now c.args.site.now told files t) (c.reply_to-in-Pending.ensures.looks.disk t)
 
 pub returns-in_err-reply-in-Pending-clause-cost : goal.returns-in_err-reply-in-Pending-clause-cost
 returns-in_err-reply-in-Pending-clause-cost g c = λ t world most stands may.
@@ -67,8 +67,8 @@ returns-in_ok-reply-in-Pending-clause-cost g c = λ t world most stands may.
 
 pub returns-in_ok-reply-in-Idle-clause-any_moment : goal.returns-in_ok-reply-in-Idle-clause-any_moment
 returns-in_ok-reply-in-Idle-clause-any_moment g c = λ t world stands.
-    resting c.args.state _ _ world world stands (λ told files. g.met.T.Site.only_now c.args.site.now told files t) (c.reply_to.ensures.disk t)
+    resting c.args.state _ _ world world stands (λ told files. g.met.T.Site.only_now c.args.site.now told files t) (c.reply_to.ensures.looks.disk t)
 
 pub returns-in_ok-reply-in-Hollow-clause-any_moment : goal.returns-in_ok-reply-in-Hollow-clause-any_moment
 returns-in_ok-reply-in-Hollow-clause-any_moment g c = λ t world stands.
-    resting c.args.state _ _ world world stands (λ told files. g.met.T.Site.only_now c.args.site.now told files t) (c.reply_to-in-Hollow.ensures.disk t)
+    resting c.args.state _ _ world world stands (λ told files. g.met.T.Site.only_now c.args.site.now told files t) (c.reply_to-in-Hollow.ensures.looks.disk t)

@@ -15,7 +15,7 @@ loop-row-preserved c =
     let more = length_push so_far.rows fields in
     let count = so_far.count in
     record {
-      reads = c.in_ok-read_record.ensures.reads some;
+      reads = c.in_ok-read_record.ensures.reader some;
       rows = so_far.rows ++ fields ∷ [];
       count = omega arith;
       all = append_assoc so_far.rows (fields ∷ []) left ∙ ap (λ l. so_far.rows ++ l) (sym next) ∙ so_far.all;

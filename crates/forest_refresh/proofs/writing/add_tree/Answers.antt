@@ -34,8 +34,8 @@ returns-in-Ok-clause-writes g c = λ tells accepted batch adds.
 
 pub returns-in-Ok-clause-row : goal.returns-in-Ok-clause-row
 returns-in-Ok-clause-row g c = record {
-  items = c.put_row.ensures.items ∙ ap (λ (row : List ℕ). c.args.room.now.rows.items ++ row ∷ []) (c.counts.ensures ∙ ap by_arity c.deref.ensures.value);
-  len = c.put_row.ensures.len;
+  items = c.put.ensures.items ∙ ap (λ (row : List ℕ). c.args.room.now.rows.items ++ row ∷ []) (c.counts.ensures ∙ ap by_arity c.deref.ensures.value);
+  len = c.put.ensures.len;
   few = c.in_ok-merged_tree.ensures.few;
 }
 

@@ -47,7 +47,7 @@ impl Status {
 }
 
 impl From<Memory> for Status {
-    ghost use Rattle.cube_shell.specs.declared.status.Status.TheVariants as statuses;
+    ghost use Rattle.cube_shell.specs.declared.exit.Status.TheVariants as statuses;
 
     ghost from_gives = { λ _ status. status ≡ statuses.Memory };
 
@@ -57,7 +57,7 @@ impl From<Memory> for Status {
 }
 
 impl From<AllocError> for Status {
-    ghost use Rattle.cube_shell.specs.declared.status.Status.TheVariants as statuses;
+    ghost use Rattle.cube_shell.specs.declared.exit.Status.TheVariants as statuses;
 
     ghost from_gives = { λ _ status. status ≡ statuses.Memory };
 
