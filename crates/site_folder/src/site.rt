@@ -82,6 +82,7 @@ fn find_or_make<H: Host>(host: &mut H, is_listed: &mut bool, file: u32) -> io::R
     requires listed { IsTrue is_listed.old → IsTrue (H.ledger host.old).listed }
     ensures opened { OnOk result (IsTrue ((H.ledger host.new).opened file)) }
     ensures listed { IsTrue is_listed.new → IsTrue (H.ledger host.new).listed }
+    ensures kept { IsTrue H.tells → 0 < length ((H.disk host.old).files file) → OnOk result (is_listed.new ≡ is_listed.old) }
     ensures faults { FaultsOf H.disk_faults H.told_faults host.old host.new result }
     ensures disk { IsTrue H.tells → Rests (H.disk host.old) (H.disk host.new) }
 {
@@ -119,6 +120,7 @@ fn sync_all<H: Host>(host: &mut H, is_listed: &mut bool) -> io::Result<()>
     ensures synced { OnOk result (IsAllSynced (H.ledger host.new)) }
     ensures stable { IsTrue H.tells → OnOk result (IsStable (H.disk host.new)) }
     ensures listed { IsTrue is_listed.new → IsTrue (H.ledger host.new).listed }
+    ensures noted { OnOk result (IsTrue is_listed.new) }
     ensures faults { FaultsOf H.disk_faults H.told_faults host.old host.new result }
     ensures disk { IsTrue H.tells → Settles Stays (H.disk host.old) (H.disk host.new) result }
 {
