@@ -1,7 +1,9 @@
--- A host that says nothing of its files and output.
-use Rattle.std.specs.Prelude.{true}
+-- A host that says of its files which are open, and nothing of their bytes and its output.
+use Rattle.std.specs.Prelude.{true, List, Option, is_some}
 use Rattle.site_folder.specs.Ledger.{Ledger}
+use Rattle.cubetree.specs.declared.data_file.DataFile.{DataFile}
+use Rattle.cubetree.specs.Slots.{file_in}
 
--- stands where nothing is said of what is open and synced
-abbrev pub no_ledger : Ledger
-no_ledger = record { opened = λ file. true; synced = λ file. true; listed = true; flushed = true }
+-- what is open; the rest stands where nothing is said of what is synced
+abbrev pub ledger_of : List (Option DataFile) → Ledger
+ledger_of files = record { opened = λ file. is_some (file_in files file); synced = λ file. true; listed = true; flushed = true }

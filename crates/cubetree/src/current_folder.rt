@@ -1,9 +1,10 @@
 //! The current folder and standard output, in single calls of std.
-ghost use Rattle.std.specs.Prelude.{◌≡◌, ◌<◌, ◌≤◌, length, IfOk, false, true};
+ghost use Rattle.std.specs.Prelude.{◌≡◌, ◌<◌, ◌≤◌, ℕ, length, IfOk, IsSome, OnOk, false, true};
 ghost use Rattle.std.specs.Fs.{new_options, with_create, with_read, with_write};
 ghost use Rattle.site_core.specs.Silent.{no_disk, no_left};
 ghost use Rattle.site_folder.specs.Names.{file_name};
-ghost use Rattle.cubetree.specs.Silent.{no_ledger};
+ghost use Rattle.cubetree.specs.Silent.{ledger_of};
+ghost use Rattle.cubetree.specs.Slots.{file_in};
 
 use crate::faults::{counted, taken};
 use crate::open_files::OpenFiles;
@@ -49,6 +50,8 @@ impl<'a> CurrentFolder<'a> {
     /// Opens a file, which is made where it is not there if that is asked for.
     fn open_with(&mut self, file: u32, create: bool) -> io::Result<()>
         requires { file < 4 }
+        ensures opened { OnOk result (IsSome (file_in self.new.files.files file)) }
+        ensures keeps { (g : ℕ) → IsSome (file_in self.old.files.files g) → IsSome (file_in self.new.files.files g) }
         ensures disk_faults { self.new.disk_faults ≡ self.old.disk_faults }
         ensures told_faults { self.new.told_faults ≡ self.old.told_faults }
     {
@@ -62,7 +65,7 @@ impl Host for CurrentFolder<'_> {
 
     ghost disk = { λ _. no_disk };
 
-    ghost ledger = { λ _. no_ledger };
+    ghost ledger = { λ h. ledger_of h.files.files };
 
     ghost disk_faults = { λ h. h.disk_faults };
 

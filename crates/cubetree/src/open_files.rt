@@ -35,6 +35,7 @@ impl OpenFiles {
         requires { file < 4 }
         ensures kept { OnOk result (file_in self.new.files file ≡ Some «open») }
         ensures others { (g : ℕ) → g ≢ file → file_in self.new.files g ≡ file_in self.old.files g }
+        ensures stay { (g : ℕ) → IsSome (file_in self.old.files g) → IsSome (file_in self.new.files g) }
     {
         self.files[file as usize] = Some(DataFile::new(open)?);
         Ok(())
