@@ -2,8 +2,10 @@ pub mod Again
 pub mod Children
 pub mod Entries
 pub mod Fields
+pub mod Images
 pub mod Judged
 pub mod Laws
+pub mod Lent
 pub mod Loops
 pub mod PageReads
 pub mod Passes

@@ -2,6 +2,7 @@
 #![tactic(auto)]
 
 mod broken;
+mod coded;
 mod inner;
 mod lawful;
 mod leaf;
@@ -13,10 +14,11 @@ mod size;
 mod take;
 mod tree;
 
+pub use coded::{Coded, lent_entry};
 pub use inner::put_inner;
-pub use leaf::put_leaf;
-pub use page::{BadPage, Child, Head, Node, PAGE, Place};
-pub use read::{inner_entry, leaf_entry};
-pub use size::{inner_room, leaf_room};
+pub use leaf::{close_leaf, put_entry, put_leaf};
+pub use page::{BadPage, Child, HEADER, Head, Node, PAGE, Place};
+pub use read::{inner_entry, leaf_entry, point_at};
+pub use size::{inner_room, leaf_room, size_of_entry};
 pub use take::take_page;
 pub use tree::{ARITIES, tree_pages};

@@ -16,33 +16,33 @@ use byte_formats::{take_i128, take_u32, take_u64};
 use cube_point::{Bounds, Entry, Point, Shape};
 use fact_model::{Cell, Part};
 
-fn coordinates_at(page: &[u8; 4096], arity: u8, at: usize) -> [u64; 8]
+fn coordinates_at(bytes: &[u8], arity: u8, at: usize) -> [u64; 8]
     requires arity { arity ≤ 8 }
-    requires place { at + arity * COORDINATE ≤ PAGE }
-    ensures { result ≡ many (number COORDINATE) COORDINATE arity (drop at page.now) ++ zeros (8 - arity) }
+    requires place { at + arity * COORDINATE ≤ length bytes.now }
+    ensures { result ≡ many (number COORDINATE) COORDINATE arity (drop at bytes.now) ++ zeros (8 - arity) }
 {
     let mut all = [0; 8];
     for i in 0..arity as usize {
-        all[i] = u64::from(take_u32(page, at + i * COORDINATE));
+        all[i] = u64::from(take_u32(bytes, at + i * COORDINATE));
     }
     all
 }
 
-pub(crate) fn part_at(page: &[u8; 4096], at: usize) -> Part
-    requires { at + PART ≤ PAGE }
-    ensures { result ≡ part_of (drop at page.now) }
+pub(crate) fn part_at(bytes: &[u8], at: usize) -> Part
+    requires { at + PART ≤ length bytes.now }
+    ensures { result ≡ part_of (drop at bytes.now) }
 {
     Part {
-        sum: take_i128(page, at),
-        low: take_i128(page, at + VALUE),
-        high: take_i128(page, at + 2 * VALUE),
+        sum: take_i128(bytes, at),
+        low: take_i128(bytes, at + VALUE),
+        high: take_i128(bytes, at + 2 * VALUE),
     }
 }
 
-fn parts_at(page: &[u8; 4096], measures: u8, at: usize) -> [Part; 4]
+fn parts_at(bytes: &[u8], measures: u8, at: usize) -> [Part; 4]
     requires measures { measures ≤ 4 }
-    requires place { at + measures * PART ≤ PAGE }
-    ensures { result ≡ many part_of PART measures (drop at page.now) ++ replicate (4 - measures) no_part }
+    requires place { at + measures * PART ≤ length bytes.now }
+    ensures { result ≡ many part_of PART measures (drop at bytes.now) ++ replicate (4 - measures) no_part }
 {
     let mut all = [Part {
         sum: 0,
@@ -50,33 +50,34 @@ fn parts_at(page: &[u8; 4096], measures: u8, at: usize) -> [Part; 4]
         high: 0,
     }; 4];
     for i in 0..measures as usize {
-        all[i] = part_at(page, at + i * PART);
+        all[i] = part_at(bytes, at + i * PART);
     }
     all
 }
 
 /// The point of the entry that begins at a place.
-pub(crate) fn point_at(page: &[u8; 4096], arity: u8, at: usize) -> Point
+pub fn point_at(bytes: &[u8], arity: u8, at: usize) -> Point
     requires arity { arity ≤ 8 }
-    requires place { at + arity * COORDINATE ≤ PAGE }
-    ensures { (measures : ℕ) → result ≡ (entry_of arity measures (drop at page.now)).point }
+    requires place { at + arity * COORDINATE ≤ length bytes.now }
+    ensures { (measures : ℕ) → result ≡ (entry_of arity measures (drop at bytes.now)).point }
 {
     Point {
         arity,
-        at: coordinates_at(page, arity, at),
+        at: coordinates_at(bytes, arity, at),
     }
 }
 
-fn entry_at(page: &[u8; 4096], shape: &Shape, arity: u8, at: usize) -> Entry
+/// The entry that begins at a place.
+pub(crate) fn entry_at(bytes: &[u8], shape: &Shape, arity: u8, at: usize) -> Entry
     requires arity { arity ≤ 8 }
     requires measures { shape.now.measures ≤ 4 }
-    requires place { at + entry_size arity shape.now.measures ≤ PAGE }
-    ensures { result ≡ entry_of arity shape.now.measures (drop at page.now) }
+    requires place { at + entry_size arity shape.now.measures ≤ length bytes.now }
+    ensures { result ≡ entry_of arity shape.now.measures (drop at bytes.now) }
 {
     let after = at + arity as usize * COORDINATE;
-    let point = point_at(page, arity, at);
-    let count = take_u64(page, after);
-    let parts = parts_at(page, shape.measures, after + COUNT);
+    let point = point_at(bytes, arity, at);
+    let count = take_u64(bytes, after);
+    let parts = parts_at(bytes, shape.measures, after + COUNT);
     Entry {
         point,
         cell: Cell {

@@ -1,0 +1,91 @@
+//! An entry of a leaf where it lies.
+
+ghost use Rattle.std.specs.Prelude.{◌≡◌, ◌≤◌, ◌<◌, ◌+◌, ◌++◌, take, get_or, length};
+ghost use Rattle.byte_formats.specs.Formats.{IsBytes};
+ghost use Rattle.page_fmt.specs.declared.page.TheConstants.{PAGE};
+ghost use Rattle.cube_point.specs.declared.point.Entry.{Entry};
+ghost use Rattle.cube_point.specs.Points.{point_cmp};
+ghost use Rattle.page_fmt.specs.Pages.{entry_bytes, entry_size};
+ghost use Rattle.page_fmt.specs.Taking.{entries, entry_of, page_count};
+ghost use Rattle.page_fmt.specs.Lawful.{HasEntries};
+
+use crate::page::HEADER;
+use crate::put::put_bytes;
+use crate::read::{entry_at, point_at};
+use crate::size::size_of_entry;
+use cube_point::{Entry, Point, Shape, compare};
+use std::cmp::Ordering;
+use std::marker::Model;
+
+/// An entry in its bytes, which are lent from a leaf. Its point is read without its cell, and it is put into another leaf as it stands.
+#[derive(Drop)]
+pub struct Coded<'a> {
+    bytes: &'a [u8],
+    arity: u8,
+    shape: Shape,
+}
+
+impl<'a> Model for Coded<'a> {
+    ghost Value = { Entry };
+
+    ghost view = { λ s. entry_of s.arity s.shape.measures s.bytes.now };
+
+    ghost invariant = { λ s. record { arity : s.arity ≤ 8; measures : s.shape.measures ≤ 4; are : IsBytes s.bytes.now; long : length s.bytes.now ≡ entry_size s.arity s.shape.measures } };
+}
+
+/// The entry at an index of an accepted leaf, where it lies.
+pub fn lent_entry<'a>(bytes: &'a [u8; 4096], shape: &Shape, index: usize) -> Coded<'a>
+    requires page { HasEntries shape.now bytes.now }
+    requires index { index < page_count bytes.now }
+    ensures { result ≡ get_or (entries shape.now.measures bytes.now) index result }
+{
+    let arity = bytes[1];
+    let size = size_of_entry(arity, shape.measures);
+    let at = HEADER + index * size;
+    Coded {
+        bytes: &bytes[at..at + size],
+        arity,
+        shape: *shape,
+    }
+}
+
+impl<'a> Coded<'a> {
+    /// The arity of its point.
+    pub fn arity(&self) -> u8
+        ensures { result ≡ self.now.point.arity }
+    {
+        self.arity
+    }
+
+    /// Its point, without its cell.
+    pub fn point(&self) -> Point
+        ensures { result ≡ self.now.point }
+    {
+        point_at(self.bytes, self.arity, 0)
+    }
+
+    /// How its point stands to another.
+    pub fn compare(&self, point: &Point) -> Ordering
+        ensures { result ≡ point_cmp self.now.point.at point.now.at }
+    {
+        compare(&self.point(), point)
+    }
+
+    /// The entry, decoded.
+    pub fn entry(&self) -> Entry
+        ensures { result ≡ self.now }
+    {
+        entry_at(self.bytes, &self.shape, self.arity, 0)
+    }
+
+    /// Copies its bytes to a place of a page; answers the place behind them.
+    pub fn put(&self, page: &mut [u8; 4096], at: usize) -> usize
+        requires { at + entry_size self.now.point.arity self.now.cell.measures ≤ PAGE }
+        ensures next { result ≡ at + entry_size self.now.point.arity self.now.cell.measures }
+        ensures written { take (at + entry_size self.now.point.arity self.now.cell.measures) page.new
+            ≡ take at page.old ++ entry_bytes self.now.point.arity self.now.cell.measures self.now }
+        ensures long { length page.new ≡ PAGE }
+    {
+        put_bytes(page, at, self.bytes)
+    }
+}
