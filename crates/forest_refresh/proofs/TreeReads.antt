@@ -21,8 +21,8 @@ use Rattle.select_map.specs.Views.{selected}
 use Rattle.select_map.specs.Selection.{tree_of}
 use Rattle.tree_pack.specs.Pages.{count_of}
 use Rattle.tree_scan.specs.Scanning.{IsScanned}
-use Rattle.tree_scan.specs.declared.scan.ScanStop.{ScanStop}
-use Rattle.tree_scan.specs.declared.scan.ScanStop.TheVariants as scans
+use Rattle.tree_scan.specs.declared.stop.ScanStop.{ScanStop}
+use Rattle.tree_scan.specs.declared.stop.ScanStop.TheVariants as scans
 use Rattle.forest_root.specs.declared.forest.Forest.{Forest}
 use Rattle.forest_root.specs.Forest.{count_in, counts_of, pages_of, pages_of_all, place_of, shape_of}
 use Rattle.forest_pages.specs.Forest.{body_counts, forest as forest_bytes, tree_entries}

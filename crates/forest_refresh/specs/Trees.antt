@@ -17,8 +17,8 @@ use Rattle.forest_root.specs.Forest.{counts_of, place_of}
 use Rattle.page_fmt.specs.declared.page.Place.{Place}
 use Rattle.tree_pack.specs.Pages.{count_of}
 use Rattle.tree_scan.specs.Scanning.{AreGood, ArePoints, IsFirstBad, entries_of}
-use Rattle.tree_scan.specs.declared.scan.ScanStop.{ScanStop}
-use Rattle.tree_scan.specs.declared.scan.ScanStop.TheVariants as scans
+use Rattle.tree_scan.specs.declared.stop.ScanStop.{ScanStop}
+use Rattle.tree_scan.specs.declared.stop.ScanStop.TheVariants as scans
 use Rattle.forest_refresh.specs.declared.stop.RefreshStop.{RefreshStop}
 use Rattle.forest_refresh.specs.declared.stop.RefreshStop.TheVariants as stops
 

@@ -8,7 +8,7 @@ use fact_model::Memory;
 use forest_root::Forest;
 use page_fmt::ARITIES;
 use std::alloc::Global;
-use tree_pack::Packer;
+use tree_pack::ListPacker;
 use tree_scan::PAGE_POINTS;
 
 /// Room for the points of each tree in its turn, for their numbers, and for packing them.
@@ -21,7 +21,7 @@ pub(crate) struct Room {
     /// The numbers of points of each tree, by arity.
     pub rows: Vec<[u64; ARITIES]>,
     /// What packs them.
-    pub packer: Packer,
+    pub packer: ListPacker,
 }
 
 /// Takes room for each tree of this forest with its points of the batch.
@@ -41,6 +41,6 @@ pub(crate) fn take_room(alloc: Global, forest: &Forest, deltas: &DeltaList) -> R
         before: Vec::with_capacity(alloc, before)?,
         merged: Vec::with_capacity(alloc, merged)?,
         rows: Vec::with_capacity(alloc, deltas.as_slice().len())?,
-        packer: Packer::new(alloc)?,
+        packer: ListPacker::new(alloc)?,
     })
 }

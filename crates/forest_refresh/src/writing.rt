@@ -33,7 +33,7 @@ use forest_commit::write_pages;
 use forest_root::Forest;
 use page_fmt::PAGE;
 use site_core::{Fault, Site};
-use tree_pack::Packer;
+use tree_pack::ListPacker;
 
 /// Reads the old points of each tree, merges them with those of a batch, and writes the packed trees to the side of this slot, which is
 /// not the live one, one after another from its front on. It takes no memory. The answer is the number of points of each view, 0 past
@@ -134,7 +134,7 @@ fn write_tree<T: Site>(
     shape: Shape,
     first: u64,
     entries: &[Entry],
-    packer: &mut Packer,
+    packer: &mut ListPacker,
 ) -> Result<u64, Fault>
     requires shape { IsShape shape }
     requires points { AreTreePoints shape entries.now }

@@ -5,7 +5,9 @@ pub mod Filling
 pub mod Law
 pub mod Lawful
 pub mod LevelPages
+pub mod Moving
 pub mod Runs
+pub mod Sound
 pub mod Standing
 pub mod Stepping
 pub mod Taken

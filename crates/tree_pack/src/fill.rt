@@ -9,10 +9,10 @@ ghost use Rattle.tree_pack.specs.Pages.{Points};
 ghost use Rattle.tree_pack.specs.Packing.{AreTreePoints};
 
 use cube_point::Entry;
-use leaf_pack::LeafBuffer;
+use leaf_pack::EntryBuffer;
 
 /// Whether the points in the buffer are a whole leaf where this one is next.
-fn ends_before(buffer: &LeafBuffer, entry: &Entry) -> bool
+fn ends_before(buffer: &EntryBuffer, entry: &Entry) -> bool
     ensures { (to_come : Points) → result ≡ leaf_ends arity_of (room_of buffer.now.shape) buffer.now.entries (entry.now ∷ to_come) }
 {
     match buffer.arity() {
@@ -22,7 +22,7 @@ fn ends_before(buffer: &LeafBuffer, entry: &Entry) -> bool
 }
 
 /// Takes points into the buffer, from this place on, until they are a whole leaf or none is left; answers how many are taken then.
-pub(crate) fn fill(buffer: &mut LeafBuffer, entries: &[Entry], taken: usize) -> usize
+pub(crate) fn fill(buffer: &mut EntryBuffer, entries: &[Entry], taken: usize) -> usize
     requires points { AreTreePoints buffer.old.shape entries.now }
     requires behind { IsBehind entries.now buffer.old.entries taken }
     ensures within { result ≤ length entries.now }

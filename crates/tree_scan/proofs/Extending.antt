@@ -7,8 +7,8 @@ use Rattle.cube_point.specs.declared.point.Entry.{Entry}
 use Rattle.cube_point.specs.declared.point.Shape.{Shape}
 use Rattle.page_fmt.specs.InFiles.{HasRead, IsPageOf, page_at}
 use Rattle.page_fmt.specs.Taking.{ascend, entry_before, taken}
-use Rattle.tree_scan.specs.declared.scan.ScanStop.{ScanStop}
-use Rattle.tree_scan.specs.declared.scan.ScanStop.TheVariants as stops
+use Rattle.tree_scan.specs.declared.stop.ScanStop.{ScanStop}
+use Rattle.tree_scan.specs.declared.stop.ScanStop.TheVariants as stops
 use Rattle.tree_scan.specs.Scanning.{AreGood, IsFirstBad, IsGood, IsScanned, NamesPage, entries_of, leaf_entries}
 use Rattle.tree_scan.specs.Steps.{MayFollow}
 

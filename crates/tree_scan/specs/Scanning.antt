@@ -8,8 +8,8 @@ use Rattle.page_fmt.specs.InFiles.{page_at}
 use Rattle.page_fmt.specs.Lawful.{Content, LeafOf, InnerOf}
 use Rattle.page_fmt.specs.Taking.{ascend, entries, entry_before, taken}
 use Rattle.page_fmt.specs.Writing.{FitsLeaf}
-use Rattle.tree_scan.specs.declared.scan.ScanStop.{ScanStop}
-use Rattle.tree_scan.specs.declared.scan.ScanStop.TheVariants as stops
+use Rattle.tree_scan.specs.declared.stop.ScanStop.{ScanStop}
+use Rattle.tree_scan.specs.declared.stop.ScanStop.TheVariants as stops
 
 -- the most entries of a page: those of a leaf whose points have no coordinates and one measure
 abbrev pub page_points : ℕ

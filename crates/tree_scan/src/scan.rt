@@ -1,70 +1,146 @@
-//! All points of a tree, read page by page.
+//! The old points of a tree, lent from the page that was read last.
 
-ghost use Rattle.std.specs.Prelude.{◌≡◌, ◌<◌, ◌≤◌, ◌+◌, ◌*◌, ◌^◌, IsTrue, IfErr, OnOk, length, vec_capacity};
+ghost use Rattle.std.specs.Prelude.{◌≡◌, ◌<◌, ◌≤◌, ◌+◌, ◌^◌, [], drop, length, IsTrue, IfOk, IfErr, OnOk, OnErr};
 ghost use Rattle.site_core.specs.Causes.{HasCauseWhere};
 ghost use Rattle.site_core.specs.Frames.{LooksOnly};
-ghost use Rattle.page_fmt.specs.InFiles.{HasRead};
 ghost use Rattle.page_fmt.specs.Writing.{IsShape};
-ghost use Rattle.tree_scan.specs.Scanning.{ArePoints, IsScanned, NamesPage, page_points};
+ghost use Rattle.tree_scan.specs.Scanning.{ArePoints, NamesPage};
+ghost use Rattle.page_fmt.specs.InFiles.{HasRead};
+ghost use Rattle.tree_scan.specs.Streaming.{HasTaken, IsHeld, IsRefused, Scanned, at_start, first_of, held_of, last_point};
 
-use crate::points::take_in;
-use cube_point::Entry;
-use page_fmt::{PAGE, Place};
-use site_core::{Fault, Site};
+use crate::follow::follow;
+use crate::stop::ScanStop;
+use cube_point::{Point, Shape};
+use fact_model::Memory;
+use page_fmt::{Coded, PAGE, lent_entry};
+use site_core::Site;
+use std::alloc::Global;
+use std::marker::Model;
 
-/// The most points that a page may hold: those of a leaf whose points have no coordinates and one measure.
-pub const PAGE_POINTS: u64 = 73;
-
-/// Why the points of a tree could not be read.
-#[derive(Clone, Copy, Debug, PartialEq, Eq)]
-pub enum ScanStop {
-    /// A call on the file failed.
-    Disk,
-    /// The page with this number is short or not lawful, or has a point that does not come after all points before it.
-    Damaged {
-        /// The number of the page in its file.
-        page: u64,
-    },
+/// The page that was read last, the place of its next point, and the pages that are unread.
+#[derive(Drop)]
+pub struct Scan {
+    page: Box<[u8; PAGE]>,
+    shape: Shape,
+    index: usize,
+    count: usize,
+    file: u32,
+    next: u64,
+    left: u64,
+    last: Option<Point>,
 }
 
-/// The points of a tree in point order, read with at most one read a page, its pages in their order. They are put into `into`, whatever
-/// stood in it, which has room for as many as so many pages may hold; so it takes no memory. No file is changed, also after an error,
-/// and then nothing is said of `into`.
-///
-/// `Damaged` names the first page that is short or not lawful, or has a point that does not come after all points before it.
-pub fn read_tree<T: Site>(
-    site: &mut T,
-    place: &Place,
-    into: &mut Vec<Entry>,
-) -> Result<(), ScanStop>
-    requires file { place.now.file < 4 }
-    requires shape { IsShape place.now.shape }
-    requires few { place.now.first + place.now.pages ≤ 2 ^ 50 }
-    requires room { page_points * place.now.pages ≤ vec_capacity into.old }
+impl Model for Scan {
+    ghost Value = { Scanned };
 
-    ensures scanned { IsTrue T.tells
-        → IsScanned place.now.shape ((T.disk site.old).files place.now.file) place.now.first place.now.pages into.new.items result }
+    ghost view = { λ s. record { held = held_of s.shape s.index s.count s.page.value; shape = s.shape; file = s.file; next = s.next; left = s.left; last = s.last } };
 
-    // Whatever the file holds.
-    ensures points { OnOk result (ArePoints place.now.shape into.new.items) }
-    ensures few { OnOk result (length into.new.items ≤ page_points * place.now.pages) }
-    ensures capacity { vec_capacity into.old ≤ vec_capacity into.new }
-    ensures page { IfErr result (NamesPage place.now.first place.now.pages) }
-    ensures looks { LooksOnly T.Site (HasCauseWhere ScanStop.Disk) place.now.pages site.old site.new result }
-{
-    into.clear();
-    let mut page = [0; PAGE];
-    for number in place.first..place.first + place.pages {
-        read_page(site, place.file, number, &mut page)?;
-        if !take_in(&page, &place.shape, number, into) {
-            return Err(ScanStop::Damaged { page: number });
+    ghost invariant = { λ s. record { shape : IsShape s.shape; file : s.file < 4; few : s.next + s.left ≤ 2 ^ 50; held : IsHeld s.shape s.index s.count s.page.value } };
+}
+
+impl Scan {
+    /// A scan of no tree. Only want of memory makes it fail.
+    pub fn new(alloc: Global) -> Result<Scan, Memory>
+        ensures { IfOk result (λ s. s.held ≡ []) }
+    {
+        Ok(Scan {
+            page: Box::new(alloc, [0; PAGE])?,
+            shape: Shape {
+                dims: 0,
+                measures: 1,
+            },
+            index: 0,
+            count: 0,
+            file: 0,
+            next: 0,
+            left: 0,
+            last: None,
+        })
+    }
+
+    /// Begins a tree of so many pages of a file, from page `first` on. No page is read yet.
+    pub fn start(&mut self, file: u32, first: u64, pages: u64, shape: Shape)
+        requires file { file < 4 }
+        requires few { first + pages ≤ 2 ^ 50 }
+        requires shape { IsShape shape }
+        ensures { self.new ≡ at_start shape file first pages }
+    {
+        self.shape = shape;
+        self.index = 0;
+        self.count = 0;
+        self.file = file;
+        self.next = first;
+        self.left = pages;
+        self.last = None;
+    }
+
+    /// The next point, where it lies.
+    pub fn next(&self) -> Option<Coded<'_>>
+        ensures { result ≡ first_of self.now.held }
+    {
+        if self.index < self.count {
+            Some(lent_entry(&self.page, &self.shape, self.index))
+        } else {
+            None
         }
     }
-    Ok(())
+
+    /// Passes over the next point.
+    pub fn skip(&mut self)
+        requires { 0 < length self.old.held }
+        ensures { self.new ≡ record self.old { held = drop 1 self.old.held } }
+    {
+        self.index += 1;
+    }
+
+    /// How many pages are unread.
+    pub fn left(&self) -> u64
+        ensures left { result ≡ self.now.left }
+        ensures few { self.now.next + result ≤ 2 ^ 50 }
+    {
+        self.left
+    }
+
+    /// The number of the next page that is unread.
+    pub fn next_page(&self) -> u64
+        ensures { result ≡ self.now.next }
+    {
+        self.next
+    }
+
+    /// Reads the next page with one read; its points are held then. An inner page has none. It takes no memory, no file is changed, and
+    /// after an error the scan is as it was.
+    ///
+    /// `Damaged` names the page, which is short or not lawful, or has a point that does not come after all points before it.
+    pub fn read_page<T: Site>(&mut self, site: &mut T) -> Result<(), ScanStop>
+        requires none { self.old.held ≡ [] }
+        requires some { 0 < self.old.left }
+
+        ensures taken { OnOk result (HasTaken T.tells ((T.disk site.old).files self.old.file) self.old self.new) }
+        ensures refused { IfErr result (IsRefused T.tells ((T.disk site.old).files self.old.file) self.old) }
+        ensures kept { OnErr result (self.new ≡ self.old) }
+
+        // Whatever the file holds.
+        ensures looks { LooksOnly T.Site (HasCauseWhere ScanStop.Disk) 1 site.old site.new result }
+    {
+        self.index = 0;
+        self.count = 0;
+        read_whole(site, self.file, self.next, &mut self.page)?;
+        match follow(&self.page, &self.shape, self.next, &self.last) {
+            Some(found) => {
+                self.count = found.count;
+                self.last = found.last;
+                self.next += 1;
+                self.left -= 1;
+                Ok(())
+            }
+            None => Err(ScanStop::Damaged { page: self.next }),
+        }
+    }
 }
 
 /// Reads the page with this number, which the file has to have whole.
-fn read_page<T: Site>(
+pub(crate) fn read_whole<T: Site>(
     site: &mut T,
     file: u32,
     number: u64,
@@ -81,14 +157,4 @@ fn read_page<T: Site>(
         return Err(ScanStop::Damaged { page: number });
     }
     Ok(())
-}
-
-impl From<Fault> for ScanStop {
-    ghost use Rattle.tree_scan.specs.declared.scan.ScanStop.TheVariants as stops;
-
-    ghost from_gives = { λ _ stop. stop ≡ stops.Disk };
-
-    fn from(_fault: Fault) -> ScanStop {
-        ScanStop::Disk
-    }
 }

@@ -1,0 +1,119 @@
+-- A run of moves over the files of a site.
+use Rattle.std.proofs.Common.{arith, ◌≡◌, ◌≢◌, ◌≤◌, ◌*◌, ℕ, Bool, true, IsTrue, List, length, refl, ap, sym, ◌∙◌, subst}
+use Rattle.site_core.specs.Calls.{Changes}
+use Rattle.site_core.proofs.Run.{Changes-then, Changes-wider}
+use Rattle.site_core.specs.Disk.{Disk, Files, Torn, overwritten, DiffersPast}
+use Rattle.site_core.proofs.Files.{with_file-other, with_file-same}
+use Rattle.cube_point.specs.declared.point.Entry.{Entry}
+use Rattle.cube_point.specs.declared.point.Shape.{Shape}
+use Rattle.page_fmt.specs.declared.page.TheConstants.{PAGE}
+use Rattle.tree_scan.specs.Streaming.{Scanned}
+use Rattle.tree_scan.specs.declared.stop.ScanStop.{ScanStop}
+use Rattle.merge_pack.specs.declared.side.Advance.{Advance}
+use Rattle.merge_pack.specs.declared.side.Advance.TheVariants as advances
+use Rattle.merge_pack.specs.Building.{IsBuilding, IsBuilt, IsDamaged}
+use Rattle.merge_pack.specs.Merging.{Goes, Merger, Merging, closes_full, closes_last, closes_leaf, closes_rest, is_done, moves_point, needs_page, turns_leaf, merging_of, page_of}
+use Rattle.merge_pack.specs.Safe.{IsSafe}
+use Rattle.merge_pack.specs.Stepping.{HasStopped, Steps, files_after, in_memory, pages_made, reads}
+use Rattle.merge_pack.proofs.Building.{done-built, side_after, steps-build, stops-damaged}
+
+-- no move changes where the merge reads and writes
+pub record IsSame (v w : Merger) : Type 0 where
+  pub file : w.file ≡ v.file
+  pub old_file : w.scan.file ≡ v.scan.file
+  pub shape : w.scan.shape ≡ v.scan.shape
+
+pub steps-same : (tells : Bool) (bytes : List ℕ) (v w : Merger) (new : List Entry) (a : Advance) → Steps tells bytes v new a w → IsSame v w
+steps-same tells bytes v w new a (in_memory not goes keeps) = record { file = keeps.file; old_file = ap (λ (s : Scanned). s.file) keeps.scan; shape = ap (λ (s : Scanned). s.shape) keeps.scan }
+steps-same tells bytes v w new a (reads goes has taken file at) = record { file = file; old_file = ap (λ (s : Scanned). s.file) has.scan; shape = ap (λ (s : Scanned). s.shape) has.scan }
+
+-- the file that is written, and the others
+files-side : (a : Advance) (file number : ℕ) (page : List ℕ) (files : Files) → files_after a file number page files file ≡ side_after a number page (files file)
+files-side advances.Leaf file number page files = with_file-same files file (overwritten (files file) (4096 * number) page)
+files-side advances.Inner file number page files = with_file-same files file (overwritten (files file) (4096 * number) page)
+files-side advances.Page file number page files = refl
+files-side advances.Point file number page files = refl
+files-side advances.Done file number page files = refl
+
+files-other : (a : Advance) (file number : ℕ) (page : List ℕ) (files : Files) (g : ℕ) → g ≢ file → files_after a file number page files g ≡ files g
+files-other advances.Leaf file number page files g not = with_file-other files file (overwritten (files file) (4096 * number) page) g not
+files-other advances.Inner file number page files g not = with_file-other files file (overwritten (files file) (4096 * number) page) g not
+files-other advances.Page file number page files g not = refl
+files-other advances.Point file number page files g not = refl
+files-other advances.Done file number page files g not = refl
+
+-- where nothing is left, nothing is left after it
+again : (left : ℕ) (m n : Merging) (b : Advance) → Goes left m b n → b ≡ advances.Done → Goes left n advances.Done n
+again left m n b (closes_full full) is = absurd cc
+again left m n b (closes_leaf none full) is = absurd cc
+again left m n b (needs_page none room_left empty some) is = absurd cc
+again left m n b (turns_leaf side none room_left ready on turn) is = absurd cc
+again left m n b (moves_point side none room_left ready on same moves) is = absurd cc
+again left m n b (closes_last none ready over some) is = absurd cc
+again left m n b (closes_rest none ready over empty rest) is = absurd cc
+again left m n b (is_done none ready over empty rest) is = is_done none ready over empty rest
+
+done-goes : (bytes : List ℕ) (v w : Merger) (new : List Entry) (a : Advance) → Steps true bytes v new a w → a ≡ advances.Done → Goes w.scan.left (merging_of w new) advances.Done (merging_of w new)
+done-goes bytes v w new a (in_memory not goes keeps) is = subst (λ (l : ℕ). Goes l (merging_of w new) advances.Done (merging_of w new)) (sym (ap (λ (s : Scanned). s.left) keeps.scan)) (again v.scan.left (merging_of v new) (merging_of w new) a goes is)
+done-goes bytes v w new a (reads goes has taken file at) is = absurd cc
+
+-- a move of a run that began with these files and this merge
+module _ (begun now next : Files) (start v w : Merger) (new : List Entry) (a : Advance) (file : v.file ≡ start.file) (old_file : v.scan.file ≡ start.scan.file) (shape : v.scan.shape ≡ start.scan.shape)
+    (others : (g : ℕ) → g ≢ start.file → now g ≡ begun g) (after : next ≡ files_after a v.file v.at.next_page (page_of a v.at) now) where
+  pub others-next : (g : ℕ) → g ≢ start.file → next g ≡ begun g
+  others-next g not = ap (λ (f : Files). f g) after ∙ (files-other a v.file v.at.next_page (page_of a v.at) now g (λ is. not (is ∙ file)) ∙ others g not)
+
+  side-next : next start.file ≡ side_after a v.at.next_page (page_of a v.at) (now start.file)
+  side-next =
+      ap (λ (n : ℕ). next n) (sym file) ∙ (ap (λ (f : Files). f v.file) after ∙ (files-side a v.file v.at.next_page (page_of a v.at) now ∙ ap (λ (n : ℕ). side_after a v.at.next_page (page_of a v.at) (now n)) file))
+
+  module _ (tells : Bool) (telling : IsTrue tells) (apart : start.file ≢ start.scan.file) (safe : IsSafe v new) (steps : Steps tells (now v.scan.file) v new a w) (old_first total first : ℕ) (front : List ℕ)
+      (is : IsBuilding (begun start.scan.file) old_first total first new front (now start.file) v) where
+    same-bytes : now v.scan.file ≡ begun start.scan.file
+    same-bytes = ap now old_file ∙ others start.scan.file (λ e. apart (sym e))
+
+    known : Steps true (begun start.scan.file) v new a w
+    known = subst (λ (b : List ℕ). Steps true b v new a w) same-bytes (subst (λ (t : Bool). Steps t (now v.scan.file) v new a w) telling steps)
+
+    pub builds-next : PAGE * v.at.next_page ≤ length (now v.file) → length (page_of a v.at) ≡ 4096 * pages_made a → IsBuilding (begun start.scan.file) old_first total first new front (next start.file) w
+    builds-next reach long =
+        subst (λ (side : List ℕ). IsBuilding (begun start.scan.file) old_first total first new front side w) (sym side-next)
+        (steps-build (begun start.scan.file) old_first total first new front (now start.file) v safe is a w known (subst (λ (n : ℕ). PAGE * v.at.next_page ≤ length (now n)) file reach) long)
+
+    pub built-all : PAGE * v.at.next_page ≤ length (now v.file) → length (page_of a v.at) ≡ 4096 * pages_made a → a ≡ advances.Done → IsSafe w new → IsBuilt (begun start.scan.file) start.scan.shape old_first total first new front (next start.file) w.at.next_page
+    built-all reach long done safe_next =
+        let builds = builds-next reach long in
+        let same = steps-same true (begun start.scan.file) v w new a known in
+        let goes = done-goes (begun start.scan.file) v w new a known done in
+        subst (λ (s : Shape). IsBuilt (begun start.scan.file) s old_first total first new front (next start.file) w.at.next_page) (same.shape ∙ shape)
+        (done-built (begun start.scan.file) old_first total first new front (next start.file) w safe_next builds (merging_of w new) advances.Done goes refl)
+
+-- where the run stops
+pub stops-next : (begun now : Files) (start v : Merger) (new : List Entry) (old_file : v.scan.file ≡ start.scan.file) (shape : v.scan.shape ≡ start.scan.shape) → ((g : ℕ) → g ≢ start.file → now g ≡ begun g)
+    → (tells : Bool) → IsTrue tells → start.file ≢ start.scan.file → IsSafe v new → (stop : ScanStop) → HasStopped tells (now v.scan.file) v new stop → (old_first total first : ℕ) (front side : List ℕ)
+    → IsBuilding (begun start.scan.file) old_first total first new front side v → IsDamaged (begun start.scan.file) start.scan.shape old_first total new stop
+stops-next begun now start v new old_file shape others tells telling apart safe stop stopped old_first total first front side is =
+    let bytes = begun start.scan.file in
+    let same : now v.scan.file ≡ bytes = ap now old_file ∙ others start.scan.file (λ e. apart (sym e)) in
+    let known = subst (λ (b : List ℕ). HasStopped true b v new stop) same (subst (λ (t : Bool). HasStopped t (now v.scan.file) v new stop) telling stopped) in
+    subst (λ (s : Shape). IsDamaged bytes s old_first total new stop) shape (stops-damaged bytes old_first total first new front side v safe is stop known)
+
+-- ---- what a stop leaves
+
+torn-differs : (file from at n end : ℕ) (x y : Files) → from ≤ at → Torn file at n end x y → DiffersPast file from x y
+torn-differs file from at n end x y low torn = record {
+  others = torn.others;
+  no_shorter = torn.bytes.no_shorter;
+  before = λ i inside under. torn.bytes.before i inside (omega (arith, under, low));
+}
+
+differs-then : (file from : ℕ) (x y z : Files) → DiffersPast file from x y → DiffersPast file from y z → DiffersPast file from x z
+differs-then file from x y z first second = record {
+  others = λ g not. second.others g not ∙ first.others g not;
+  no_shorter = omega (arith, first.no_shorter, second.no_shorter);
+  before = λ i inside under. second.before i (omega (arith, inside, first.no_shorter)) under ∙ first.before i inside under;
+}
+
+pub step-differs : (file from at n end : ℕ) (a b c : Disk) → from ≤ at → Changes (DiffersPast file from) a b → Changes (Torn file at n end) b c → Changes (DiffersPast file from) a c
+step-differs file from at n end a b c low so_far step =
+    Changes-then (DiffersPast file from) a b c (differs-then file from) so_far (Changes-wider (Torn file at n end) (DiffersPast file from) b c (λ x y. torn-differs file from at n end x y low) step)

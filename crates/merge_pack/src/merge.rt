@@ -1,0 +1,399 @@
+//! The merge of one tree.
+
+ghost use Rattle.std.specs.Prelude.{◌≡◌, ◌≢◌, ◌<◌, ◌≤◌, ◌+◌, ◌*◌, ◌^◌, ℕ, List, [], ◌∷◌, Some, None, false, drop, length, IfOk, IfErr, OnOk, OnErr, IsTrue};
+ghost use Rattle.fact_model.specs.Cell.{FitCells};
+ghost use Rattle.cube_point.specs.declared.point.Entry as declared;
+ghost use Rattle.view_points.specs.Entries.{both};
+ghost use Rattle.tree_pack.specs.Moving.{HasPageIn, HasRoomIn, begun, with_point};
+ghost use Rattle.merge_pack.specs.Merging.{Goes, IsNext, MayTake, MayTakeNext, MovesPoint, IsApart, Keeps, Makes, Merger, NeedsNoPage, arity_on, merging_of, page_of, side_of, turns_at};
+ghost use Rattle.packing.specs.Levels.{full_level, rest_level};
+ghost use Rattle.page_fmt.specs.Trees.{fanout_of};
+ghost use Rattle.page_fmt.specs.Writing.{IsShape, leaf_arity};
+ghost use Rattle.leaf_pack.specs.Leaf.{is_full};
+ghost use Rattle.std.specs.List.{All};
+ghost use Rattle.site_core.specs.Calls.{Changes};
+ghost use Rattle.site_core.specs.Disk.{Torn, DiffersPast};
+ghost use Rattle.site_core.specs.Causes.{HasCauseWhere};
+ghost use Rattle.site_core.specs.Frames.{Calls, CallsOnly};
+ghost use Rattle.tree_scan.specs.Scanning.{ArePoints};
+ghost use Rattle.tree_scan.specs.Streaming.{HasTaken, at_start};
+ghost use Rattle.merge_pack.specs.Building.{IsBuilding, IsBuilt, IsDamaged};
+ghost use Rattle.merge_pack.specs.Safe.{IsSafe, falls};
+ghost use Rattle.merge_pack.specs.Stepping.{HasRefused, HasStopped, Steps, files_after, made_last, pages_made, pages_read};
+
+use crate::side::{Advance, Side};
+use crate::step::write_page;
+use cube_point::Entry;
+use delta_agg::{DoesNotJoin, joined};
+use fact_model::Memory;
+use page_fmt::Place;
+use site_core::Site;
+use std::alloc::Global;
+use std::cmp::Ordering;
+use std::marker::Model;
+use tree_pack::Packer;
+use tree_scan::{Scan, ScanStop};
+
+/// The side of the next point of two lists, where the scan needs no page; None where no point is left.
+fn next_side(scan: &Scan, delta: &[Entry]) -> Option<Side>
+    ensures { result ≡ side_of scan.now.held delta.now }
+{
+    match (scan.next(), delta.first()) {
+        (Some(old), Some(new)) => Some(match old.compare(&new.point) {
+            Ordering::Less => Side::Old,
+            Ordering::Equal => Side::Both,
+            Ordering::Greater => Side::New,
+        }),
+        (Some(_), None) => Some(Side::Old),
+        (None, Some(_)) => Some(Side::New),
+        (None, None) => None,
+    }
+}
+
+/// Moves the next old point by copying its bytes.
+fn move_old(scan: &mut Scan, packer: &mut Packer)
+    requires some { 0 < length scan.old.held }
+    requires may { (o : declared.Entry) (os : List declared.Entry) → scan.old.held ≡ o ∷ os → MayTake packer.old.at o }
+    ensures moved { (o : declared.Entry) (os : List declared.Entry) → scan.old.held ≡ o ∷ os → packer.new.at ≡ with_point o packer.old.at }
+    ensures scan { scan.new ≡ record scan.old { held = drop 1 scan.old.held } }
+{
+    if let Some(old) = scan.next() {
+        packer.push_coded(&old);
+    }
+    scan.skip();
+}
+
+/// Moves the point that both sides have, where their cells join.
+fn move_both(scan: &mut Scan, new: &Entry, packer: &mut Packer) -> Result<(), DoesNotJoin>
+    requires some { 0 < length scan.old.held }
+    requires measures { (o : declared.Entry) (os : List declared.Entry) → scan.old.held ≡ o ∷ os → o.cell.measures ≡ new.now.cell.measures }
+    requires may { (o : declared.Entry) (os : List declared.Entry) → scan.old.held ≡ o ∷ os → FitCells o.cell new.now.cell → MayTake packer.old.at (both o new.now) }
+    ensures moved { OnOk result ((o : declared.Entry) (os : List declared.Entry) → scan.old.held ≡ o ∷ os → packer.new.at ≡ with_point (both o new.now) packer.old.at) }
+    ensures joins { OnOk result ((o : declared.Entry) (os : List declared.Entry) → scan.old.held ≡ o ∷ os → FitCells o.cell new.now.cell) }
+    ensures apart { OnErr result ((o : declared.Entry) (os : List declared.Entry) → scan.old.held ≡ o ∷ os → FitCells o.cell new.now.cell → ⊥) }
+    ensures scan { OnOk result (scan.new ≡ record scan.old { held = drop 1 scan.old.held }) }
+{
+    if let Some(old) = scan.next() {
+        let point = joined(&old.entry(), new)?;
+        packer.push(&point);
+    }
+    scan.skip();
+    Ok(())
+}
+
+/// Moves the next new point.
+fn move_new(new: &Entry, packer: &mut Packer)
+    requires { MayTake packer.old.at new.now }
+    ensures { packer.new.at ≡ with_point new.now packer.old.at }
+{
+    packer.push(new);
+}
+
+/// The merge of an old tree and new points, between two moves.
+#[derive(Drop)]
+pub struct Merge {
+    scan: Scan,
+    packer: Packer,
+    taken: usize,
+    file: u32,
+}
+
+impl Model for Merge {
+    ghost Value = { Merger };
+
+    ghost view = { λ s. record { scan = s.scan; taken = s.taken; file = s.file; at = s.packer.at; leaf = s.packer.leaf; inner = s.packer.inner } };
+}
+
+impl Merge {
+    /// Moves the next point, which is on this side: an old point by its bytes, and one that both sides have with its cells joined.
+    fn move_point(&mut self, delta: &[Entry], side: Side) -> Result<(), DoesNotJoin>
+        requires within { self.old.taken ≤ length delta.now }
+        requires side { side_of self.old.scan.held (drop self.old.taken delta.now) ≡ Some side }
+        requires measures { All (λ o. All (λ d. o.cell.measures ≡ d.cell.measures) delta.now) self.old.scan.held }
+        requires may { (e : declared.Entry) (h d : List declared.Entry) → IsNext self.old.scan.held (drop self.old.taken delta.now) e h d → MayTake self.old.at e }
+        ensures moved { OnOk result (MovesPoint (merging_of self.old delta.now) (merging_of self.new delta.now)) }
+        ensures kept { OnOk result (Keeps self.old self.new) }
+        ensures within { OnOk result (self.new.taken ≤ length delta.now) }
+        ensures apart { OnErr result (IsApart self.old.scan.held (drop self.old.taken delta.now)) }
+    {
+        match side {
+            Side::Old => move_old(&mut self.scan, &mut self.packer),
+            Side::New => {
+                move_new(&delta[self.taken], &mut self.packer);
+                self.taken += 1;
+            }
+            Side::Both => {
+                move_both(&mut self.scan, &delta[self.taken], &mut self.packer)?;
+                self.taken += 1;
+            }
+        }
+        Ok(())
+    }
+
+    /// Whether the buffer is of another arity than the next point, which is on this side.
+    fn turns(&self, delta: &[Entry], side: Side) -> bool
+        requires within { self.now.taken ≤ length delta.now }
+        requires side { side_of self.now.scan.held (drop self.now.taken delta.now) ≡ Some side }
+        ensures { result ≡ turns_at self.now.at.buffer (arity_on side self.now.scan.held (drop self.now.taken delta.now)) }
+    {
+        let next = match side {
+            Side::New => delta[self.taken].point.arity,
+            Side::Old | Side::Both => self.old_arity(),
+        };
+        match self.packer.arity() {
+            Some(arity) => arity != next,
+            None => false,
+        }
+    }
+
+    /// The arity of the next old point; 0 where none is held.
+    fn old_arity(&self) -> u8
+        ensures { result ≡ leaf_arity self.now.scan.held }
+    {
+        match self.scan.next() {
+            Some(old) => old.arity(),
+            None => 0,
+        }
+    }
+
+    /// Makes the move of the next point, which is on this side: its leaf is closed first where it is of another arity.
+    fn take(&mut self, delta: &[Entry], side: Side) -> Result<Advance, DoesNotJoin>
+        requires within { self.old.taken ≤ length delta.now }
+        requires side { side_of self.old.scan.held (drop self.old.taken delta.now) ≡ Some side }
+        requires measures { All (λ o. All (λ d. o.cell.measures ≡ d.cell.measures) delta.now) self.old.scan.held }
+        requires none { full_level (fanout_of self.old.at.shape) self.old.at.levels ≡ None }
+        requires room_left { is_full self.old.at.shape self.old.at.buffer ≡ false }
+        requires leaf_room { HasRoomIn 0 self.old.at }
+        requires may { (e : declared.Entry) (h d : List declared.Entry) → turns_at self.old.at.buffer (arity_on side self.old.scan.held (drop self.old.taken delta.now)) ≡ false
+            → IsNext self.old.scan.held (drop self.old.taken delta.now) e h d → MayTake self.old.at e }
+        ensures goes { (left : ℕ) → NeedsNoPage left (merging_of self.old delta.now) → IfOk result (λ advance. Goes left (merging_of self.old delta.now) advance (merging_of self.new delta.now)) }
+        ensures kept { OnOk result (Keeps self.old self.new) }
+        ensures within { OnOk result (self.new.taken ≤ length delta.now) }
+        ensures makes { IfOk result (λ advance. Makes advance self.old self.new) }
+        ensures apart { OnErr result (IsApart self.old.scan.held (drop self.old.taken delta.now)) }
+    {
+        if self.turns(delta, side) {
+            self.packer.close_leaf();
+            return Ok(Advance::Leaf);
+        }
+        self.move_point(delta, side)?;
+        Ok(Advance::Point)
+    }
+
+    /// Makes the next move where no point is left.
+    fn finish(&mut self) -> Advance
+        requires none { full_level (fanout_of self.old.at.shape) self.old.at.levels ≡ None }
+        requires leaf_room { HasRoomIn 0 self.old.at }
+        requires rest_page { (i : ℕ) → rest_level self.old.at.levels ≡ Some i → HasPageIn i self.old.at }
+        ensures goes { (left : ℕ) (delta : List declared.Entry) → NeedsNoPage left (merging_of self.old delta) → side_of self.old.scan.held (drop self.old.taken delta) ≡ None
+            → Goes left (merging_of self.old delta) result (merging_of self.new delta) }
+        ensures kept { Keeps self.old self.new }
+        ensures taken { self.new.taken ≡ self.old.taken }
+        ensures makes { Makes result self.old self.new }
+    {
+        if self.packer.len() > 0 {
+            self.packer.close_leaf();
+            return Advance::Leaf;
+        }
+        match self.packer.rest() {
+            Some(level) => {
+                self.packer.close_level(level);
+                Advance::Inner
+            }
+            None => Advance::Done,
+        }
+    }
+
+    /// Whether the scan needs a page, where so many are unread.
+    fn needs_page(&self, left: u64) -> bool
+        ensures needed { IsTrue result → (self.now.scan.held ≡ []) × (0 < left) }
+        ensures idle { result ≡ false → self.now.scan.held ≡ [] → left ≡ 0 }
+    {
+        match self.scan.next() {
+            Some(_) => false,
+            None => left > 0,
+        }
+    }
+
+    /// Makes the next move in memory, where so many old pages are unread; it answers which call on a file is due. An error comes exactly
+    /// where the cells of a point that both sides have do not join.
+    pub fn advance(&mut self, delta: &[Entry], left: u64) -> Result<Advance, DoesNotJoin>
+        requires within { self.old.taken ≤ length delta.now }
+        requires measures { All (λ o. All (λ d. o.cell.measures ≡ d.cell.measures) delta.now) self.old.scan.held }
+        requires full_page { (i : ℕ) → full_level (fanout_of self.old.at.shape) self.old.at.levels ≡ Some i → HasPageIn i self.old.at }
+        requires rest_page { (i : ℕ) → rest_level self.old.at.levels ≡ Some i → HasPageIn i self.old.at }
+        requires leaf_room { full_level (fanout_of self.old.at.shape) self.old.at.levels ≡ None → HasRoomIn 0 self.old.at }
+        requires may { MayTakeNext (merging_of self.old delta.now) }
+        ensures goes { IfOk result (λ advance. Goes left (merging_of self.old delta.now) advance (merging_of self.new delta.now)) }
+        ensures kept { OnOk result (Keeps self.old self.new) }
+        ensures within { OnOk result (self.new.taken ≤ length delta.now) }
+        ensures makes { IfOk result (λ advance. Makes advance self.old self.new) }
+        ensures apart { OnErr result (IsApart self.old.scan.held (drop self.old.taken delta.now)) }
+    {
+        if let Some(level) = self.packer.full() {
+            self.packer.close_level(level);
+            return Ok(Advance::Inner);
+        }
+        if self.packer.is_full() {
+            self.packer.close_leaf();
+            return Ok(Advance::Leaf);
+        }
+        if self.needs_page(left) {
+            return Ok(Advance::Page);
+        }
+        match next_side(&self.scan, &delta[self.taken..]) {
+            Some(side) => self.take(delta, side),
+            None => Ok(self.finish()),
+        }
+    }
+
+    /// A merge of no tree. Only want of memory makes it fail.
+    pub fn new(alloc: Global) -> Result<Merge, Memory> {
+        Ok(Merge {
+            scan: Scan::new(alloc)?,
+            packer: Packer::new(alloc)?,
+            taken: 0,
+            file: 0,
+        })
+    }
+
+    /// Begins the merge of an old tree, whose pages are written to this file from page `first` on.
+    pub fn start(&mut self, old: &Place, file: u32, first: u64)
+        requires file { old.now.file < 4 }
+        requires few { old.now.first + old.now.pages ≤ 2 ^ 50 }
+        requires shape { IsShape old.now.shape }
+        ensures scan { self.new.scan ≡ at_start old.now.shape old.now.file old.now.first old.now.pages }
+        ensures taken { self.new.taken ≡ 0 }
+        ensures file { self.new.file ≡ file }
+        ensures at { self.new.at ≡ begun old.now.shape first }
+    {
+        self.scan.start(old.file, old.first, old.pages, old.shape);
+        self.packer.start(old.shape, first);
+        self.taken = 0;
+        self.file = file;
+    }
+
+    /// Makes the next move, with at most one call on a file: the write of the page that was made, or the read of the next old page. It
+    /// takes no memory.
+    ///
+    /// `Damaged` names the old page that was to be read, where it is refused, or the one that was read last, where a cell of its next point
+    /// does not join with that of the new point there.
+    pub fn step<T: Site>(&mut self, delta: &[Entry], site: &mut T) -> Result<Advance, ScanStop>
+        requires safe { IsSafe self.old delta.now }
+        requires place { IsTrue T.tells → 4096 * self.old.at.next_page ≤ length ((T.disk site.old).files self.old.file) }
+
+        ensures steps { IfOk result (λ advance. Steps T.tells ((T.disk site.old).files self.old.scan.file) self.old delta.now advance self.new) }
+        ensures stopped { IfErr result (HasStopped T.tells ((T.disk site.old).files self.old.scan.file) self.old delta.now) }
+        ensures safe { OnOk result (IsSafe self.new delta.now) }
+        ensures falls { IfOk result (λ advance. (advance ≡ Advance.Done → ⊥)
+            → falls self.new.scan.left (merging_of self.new delta.now) < falls self.old.scan.left (merging_of self.old delta.now)) }
+        ensures files { IsTrue T.tells → IfOk result (λ advance. (T.disk site.new).files
+            ≡ files_after advance self.old.file self.old.at.next_page (page_of advance self.old.at) (T.disk site.old).files) }
+        ensures long { IfOk result (λ advance. length (page_of advance self.old.at) ≡ 4096 * pages_made advance) }
+        ensures place { IsTrue T.tells → OnOk result (4096 * self.new.at.next_page ≤ length ((T.disk site.new).files self.new.file)) }
+
+        ensures disk { IsTrue T.tells → Changes (Torn self.old.file (4096 * self.old.at.next_page) 4096 (length ((T.disk site.old).files self.old.file)))
+            (T.disk site.old) (T.disk site.new) }
+        ensures calls { CallsOnly T.Site (HasCauseWhere ScanStop.Disk) 1 1 site.old site.new result }
+        ensures read { OnOk result (T.reads site.new + self.new.scan.left ≤ T.reads site.old + self.old.scan.left) }
+        ensures within { T.reads site.new ≤ T.reads site.old + self.old.scan.left }
+        ensures wrote { OnOk result (T.writes site.new + self.old.at.next_page ≤ T.writes site.old + self.new.at.next_page) }
+    {
+        let number = self.packer.next_page();
+        let left = self.scan.left();
+        let next = self.scan.next_page();
+        match self.advance(delta, left) {
+            Ok(advance) => {
+                self.call(advance, number, site)?;
+                Ok(advance)
+            }
+            Err(DoesNotJoin) => Err(ScanStop::Damaged { page: next - 1 }),
+        }
+    }
+
+    /// Makes the call on a file that the move needs; the page that it made has this number.
+    fn call<T: Site>(&mut self, advance: Advance, number: u64, site: &mut T) -> Result<(), ScanStop>
+        requires file { self.old.file < 4 }
+        requires few { number < 2 ^ 52 }
+        requires place { IsTrue T.tells → 4096 * number ≤ length ((T.disk site.old).files self.old.file) }
+        requires none { advance ≡ Advance.Page → self.old.scan.held ≡ [] }
+        requires some { advance ≡ Advance.Page → 0 < self.old.scan.left }
+
+        ensures taken { advance ≡ Advance.Page → OnOk result (HasTaken T.tells ((T.disk site.old).files self.old.scan.file) self.old.scan self.new.scan) }
+        ensures idle { (advance ≡ Advance.Page → ⊥) → self.new.scan ≡ self.old.scan }
+        ensures kept { self.new ≡ record self.old { scan = self.new.scan } }
+        ensures refused { IfErr result (HasRefused advance T.tells ((T.disk site.old).files self.old.scan.file) self.old.scan) }
+        ensures files { IsTrue T.tells → OnOk result ((T.disk site.new).files
+            ≡ files_after advance self.old.file number (made_last advance self.old.leaf self.old.inner) (T.disk site.old).files) }
+        ensures long { length (made_last advance self.old.leaf self.old.inner) ≡ 4096 * pages_made advance }
+        ensures reach { IsTrue T.tells → OnOk result (4096 * (number + pages_made advance) ≤ length ((T.disk site.new).files self.old.file)) }
+        ensures disk { IsTrue T.tells → Changes (Torn self.old.file (4096 * number) 4096 (length ((T.disk site.old).files self.old.file))) (T.disk site.old) (T.disk site.new) }
+        ensures calls { CallsOnly T.Site (HasCauseWhere ScanStop.Disk) (pages_read advance) (pages_made advance) site.old site.new result }
+    {
+        match advance {
+            Advance::Leaf => write_page(site, self.file, number, self.packer.leaf_page()),
+            Advance::Inner => write_page(site, self.file, number, self.packer.inner_page()),
+            Advance::Page => self.scan.read_page(site),
+            Advance::Point | Advance::Done => Ok(()),
+        }
+    }
+
+    /// Makes all moves that are left.
+    pub fn run<T: Site>(&mut self, delta: &[Entry], site: &mut T) -> Result<(), ScanStop>
+        requires safe { IsSafe self.old delta.now }
+        requires place { IsTrue T.tells → 4096 * self.old.at.next_page ≤ length ((T.disk site.old).files self.old.file) }
+
+        ensures built { IsTrue T.tells → self.old.file ≢ self.old.scan.file → OnOk result ((old_first total first : ℕ) (front : List ℕ)
+            → IsBuilding ((T.disk site.old).files self.old.scan.file) old_first total first delta.now front ((T.disk site.old).files self.old.file) self.old
+            → IsBuilt ((T.disk site.old).files self.old.scan.file) self.old.scan.shape old_first total first delta.now front
+            ((T.disk site.new).files self.old.file) self.new.at.next_page) }
+        ensures damaged { IsTrue T.tells → self.old.file ≢ self.old.scan.file → IfErr result (λ stop. (old_first total first : ℕ) (front : List ℕ)
+            → IsBuilding ((T.disk site.old).files self.old.scan.file) old_first total first delta.now front ((T.disk site.old).files self.old.file) self.old
+            → IsDamaged ((T.disk site.old).files self.old.scan.file) self.old.scan.shape old_first total delta.now stop) }
+        ensures others { IsTrue T.tells → (g : ℕ) → g ≢ self.old.file → (T.disk site.new).files g ≡ (T.disk site.old).files g }
+        ensures disk { IsTrue T.tells → Changes (DiffersPast self.old.file (4096 * self.old.at.next_page)) (T.disk site.old) (T.disk site.new) }
+        ensures calls { Calls T.Site (HasCauseWhere ScanStop.Disk) self.old.scan.left site.old site.new result }
+        ensures writes { OnOk result (T.writes site.new + self.old.at.next_page ≤ T.writes site.old + self.new.at.next_page) }
+    {
+        loop {
+            if self.step(delta, site)? == Advance::Done {
+                return Ok(());
+            }
+        }
+    }
+
+    /// Merges a whole tree of points with new points, into the pages of a file from page `first` on; answers the number behind the last of
+    /// them.
+    pub fn merge_tree<T: Site>(
+        &mut self,
+        old: &Place,
+        delta: &[Entry],
+        file: u32,
+        first: u64,
+        site: &mut T,
+    ) -> Result<u64, ScanStop>
+        requires old_file { old.now.file < 4 }
+        requires few { old.now.first + old.now.pages ≤ 2 ^ 50 }
+        requires shape { IsShape old.now.shape }
+        requires delta { ArePoints old.now.shape delta.now }
+        requires pages { old.now.pages ≤ 2 ^ 41 }
+        requires points { length delta.now ≤ 2 ^ 44 }
+        requires file { file < 4 }
+        requires first { first ≤ 2 ^ 50 }
+        requires other { file ≢ old.now.file }
+        requires place { IsTrue T.tells → 4096 * first ≤ length ((T.disk site.old).files file) }
+
+        ensures built { IsTrue T.tells → IfOk result (λ next.
+            IsBuilt ((T.disk site.old).files old.now.file) old.now.shape old.now.first old.now.pages first delta.now ((T.disk site.old).files file)
+            ((T.disk site.new).files file) next) }
+        ensures damaged { IsTrue T.tells → IfErr result (IsDamaged ((T.disk site.old).files old.now.file) old.now.shape old.now.first old.now.pages delta.now) }
+        ensures others { IsTrue T.tells → (g : ℕ) → g ≢ file → (T.disk site.new).files g ≡ (T.disk site.old).files g }
+        ensures disk { IsTrue T.tells → Changes (DiffersPast file (4096 * first)) (T.disk site.old) (T.disk site.new) }
+        ensures calls { Calls T.Site (HasCauseWhere ScanStop.Disk) old.now.pages site.old site.new result }
+        ensures writes { IfOk result (λ next. T.writes site.new + first ≤ T.writes site.old + next) }
+    {
+        self.start(old, file, first);
+        self.run(delta, site)?;
+        Ok(self.packer.next_page())
+    }
+}
