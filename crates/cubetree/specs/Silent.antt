@@ -4,6 +4,6 @@ use Rattle.site_folder.specs.Ledger.{Ledger}
 use Rattle.cubetree.specs.declared.data_file.DataFile.{DataFile}
 use Rattle.cubetree.specs.Slots.{file_in}
 
--- what is open; the rest stands where nothing is said of what is synced
+-- what is open; the rest stands where nothing is said of what is synced, and no sync is counted
 abbrev pub ledger_of : List (Option DataFile) → Ledger
-ledger_of files = record { opened = λ file. is_some (file_in files file); synced = λ file. true; listed = true; flushed = true }
+ledger_of files = record { opened = λ file. is_some (file_in files file); synced = λ file. true; listed = true; flushed = true; asked = λ file. 0 }

@@ -12,6 +12,8 @@ pub struct PartHost<T: Site> {
     pub site: T,
     most: usize,
     synced: [bool; 4],
+    /// How often a sync of each file was asked for.
+    asked: [u64; 4],
     /// How many places were too far.
     far: u64,
     ghost some: { 0 < most },
@@ -28,6 +30,7 @@ impl<T: Site> PartHost<T> {
             site,
             most,
             synced: [false; 4],
+            asked: [0; 4],
             far: 0,
         }
     }
@@ -49,7 +52,7 @@ impl<T: Site> Host for PartHost<T> {
 
     ghost disk = { λ h. T.disk h.site };
 
-    ghost ledger = { λ h. flags_ledger h.synced };
+    ghost ledger = { λ h. flags_ledger h.synced h.asked };
 
     ghost disk_faults = { λ h. T.disk_faults h.site + h.far };
 
@@ -93,6 +96,8 @@ impl<T: Site> Host for PartHost<T> {
     }
 
     fn sync_file(&mut self, file: u32) -> io::Result<()> {
+        let asked = self.asked[file as usize];
+        self.asked[file as usize] = asked.saturating_add(1);
         answered(self.site.sync())?;
         self.synced[file as usize] = true;
         Ok(())

@@ -1,5 +1,5 @@
 -- What is open of four files, and what is synced of them.
-use Rattle.std.specs.Prelude.{◌≢◌, ℕ, ◌<◌, Bool, IsTrue}
+use Rattle.std.specs.Prelude.{◌≡◌, ◌≢◌, ℕ, ◌+◌, ◌<◌, ◌≤◌, Bool, IsTrue}
 
 pub record Ledger : Type 0 where
   -- the file with this number is open
@@ -10,23 +10,36 @@ pub record Ledger : Type 0 where
   pub listed : Bool
   -- the output holds nothing back
   pub flushed : Bool
+  -- how often a sync of it was asked for
+  pub asked : ℕ → ℕ
 
--- what is open stays open, and what is synced stays synced
+-- what is open stays open, what is synced stays synced, and no sync of a file is asked for
 pub record Keeps (old new : Ledger) : Type 0 where
   pub opened : (g : ℕ) → IsTrue (old.opened g) → IsTrue (new.opened g)
   pub synced : (g : ℕ) → IsTrue (old.synced g) → IsTrue (new.synced g)
   pub listed : IsTrue old.listed → IsTrue new.listed
+  pub asked : new.asked ≡ old.asked
 
 -- the same of all but the bytes of this file
 pub record KeepsOthers (file : ℕ) (old new : Ledger) : Type 0 where
   pub opened : (g : ℕ) → IsTrue (old.opened g) → IsTrue (new.opened g)
   pub synced : (g : ℕ) → g ≢ file → IsTrue (old.synced g) → IsTrue (new.synced g)
   pub listed : IsTrue old.listed → IsTrue new.listed
+  pub asked : new.asked ≡ old.asked
 
 -- the same of all but the names of the folder
 pub record KeepsFiles (old new : Ledger) : Type 0 where
   pub opened : (g : ℕ) → IsTrue (old.opened g) → IsTrue (new.opened g)
   pub synced : (g : ℕ) → IsTrue (old.synced g) → IsTrue (new.synced g)
+  pub asked : new.asked ≡ old.asked
+
+-- the same of all, but that a sync of this file is asked for, once at most
+pub record Asks (file : ℕ) (old new : Ledger) : Type 0 where
+  pub opened : (g : ℕ) → IsTrue (old.opened g) → IsTrue (new.opened g)
+  pub synced : (g : ℕ) → IsTrue (old.synced g) → IsTrue (new.synced g)
+  pub listed : IsTrue old.listed → IsTrue new.listed
+  pub others : (g : ℕ) → g ≢ file → new.asked g ≡ old.asked g
+  pub once : new.asked file ≤ old.asked file + 1
 
 -- the first so many files are synced
 abbrev pub AreSyncedTo : ℕ → Ledger → Type 0

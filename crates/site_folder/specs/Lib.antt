@@ -3,4 +3,5 @@ pub mod Finding
 pub mod Frames
 pub mod Ledger
 pub mod Names
+pub mod Notes
 pub mod Reads

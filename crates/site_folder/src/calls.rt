@@ -6,7 +6,8 @@ ghost use Rattle.site_core.specs.Disk.{with_file, overwritten};
 ghost use Rattle.site_folder.specs.Faults.{FaultsOf};
 ghost use Rattle.site_folder.specs.Finding.{IsFound};
 ghost use Rattle.site_folder.specs.Frames.{LooksOnly};
-ghost use Rattle.site_folder.specs.Ledger.{AreSyncedTo, IsAllSynced, Keeps, KeepsOthers};
+ghost use Rattle.site_folder.specs.Ledger.{AreSyncedTo, Asks, Keeps, KeepsOthers};
+ghost use Rattle.site_folder.specs.Notes.{AreNotedTo, AreSynced, AsksDue};
 
 use crate::host::Host;
 use std::io;
@@ -92,15 +93,21 @@ pub fn tell<H: Host>(host: &mut H, bytes: &[u8]) -> io::Result<()>
     host.flush()
 }
 
-/// Syncs each file that is there, also those that an earlier process has left.
-pub fn sync_files<H: Host>(host: &mut H) -> io::Result<()>
+/// Syncs each file that is there and is not noted as synced, and notes it; one that is not there has nothing to sync.
+pub fn sync_files<H: Host>(host: &mut H, is_synced: &mut [bool; 4]) -> io::Result<()>
+    requires { AreSynced is_synced.old (H.ledger host.old) }
     ensures synced { OnOk result (AreSyncedTo 4 (H.ledger host.new)) }
-    ensures keeps { Keeps (H.ledger host.old) (H.ledger host.new) }
+    ensures noted { OnOk result (AreNotedTo 4 is_synced.new) }
+    ensures notes { AreSynced is_synced.new (H.ledger host.new) }
+    ensures asks { AsksDue is_synced.old (H.ledger host.old) (H.ledger host.new) }
     ensures faults { FaultsOf H.disk_faults H.told_faults host.old host.new result }
     ensures disk { IsTrue H.tells → Settles Stays (H.disk host.old) (H.disk host.new) result }
 {
     for file in 0..4u32 {
-        sync_file(host, file)?;
+        if !is_synced[file as usize] {
+            sync_file(host, file)?;
+            is_synced[file as usize] = true;
+        }
     }
     Ok(())
 }
@@ -109,7 +116,7 @@ pub fn sync_files<H: Host>(host: &mut H) -> io::Result<()>
 fn sync_file<H: Host>(host: &mut H, file: u32) -> io::Result<()>
     requires { file < 4 }
     ensures synced { OnOk result (IsTrue ((H.ledger host.new).synced file)) }
-    ensures keeps { Keeps (H.ledger host.old) (H.ledger host.new) }
+    ensures asks { Asks file (H.ledger host.old) (H.ledger host.new) }
     ensures faults { FaultsOf H.disk_faults H.told_faults host.old host.new result }
     ensures disk { IsTrue H.tells → Settles Stays (H.disk host.old) (H.disk host.new) result }
 {

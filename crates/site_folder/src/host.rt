@@ -6,7 +6,7 @@ ghost use Rattle.site_core.specs.Causes.{Rose};
 ghost use Rattle.site_core.specs.Disk.{Files, Disk, with_file, overwritten};
 ghost use Rattle.site_core.specs.Moments.{IsStable};
 ghost use Rattle.site_folder.specs.Faults.{FaultsOf};
-ghost use Rattle.site_folder.specs.Ledger.{IsAllSynced, Keeps, KeepsFiles, KeepsOthers, Ledger};
+ghost use Rattle.site_folder.specs.Ledger.{Asks, IsAllSynced, Keeps, KeepsFiles, KeepsOthers, Ledger};
 ghost use Rattle.site_folder.specs.Reads.{ReadsAt};
 
 use std::io;
@@ -22,7 +22,7 @@ pub trait Host {
     /// The files as a read gives them, the told bytes, and what a stop may leave.
     ghost disk: { Self → Disk };
 
-    /// What is open, and what is synced.
+    /// What is open, what is synced, and how often a sync was asked for.
     ghost ledger: { Self → Ledger };
 
     /// How often a call on the files has failed, but for a file that is not there. Like the next count it never falls, and stands still at
@@ -105,7 +105,8 @@ pub trait Host {
         requires file { file < 4 }
         requires open { IsTrue ((ledger self.old).opened file) }
         ensures synced { OnOk result (IsTrue ((ledger self.new).synced file)) }
-        ensures keeps { Keeps (ledger self.old) (ledger self.new) }
+        ensures asks { Asks file (ledger self.old) (ledger self.new) }
+        ensures counted { IsTrue tells → Rose ((ledger self.old).asked file) ((ledger self.new).asked file) }
         ensures faults { FaultsOf disk_faults told_faults self.old self.new result }
         ensures disk { IsTrue tells → Settles Stays (disk self.old) (disk self.new) result };
 

@@ -7,6 +7,7 @@
 mod calls;
 mod host;
 mod input;
+mod notes;
 mod reader;
 mod site;
 
