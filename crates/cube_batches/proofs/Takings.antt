@@ -16,6 +16,8 @@ use Rattle.forest_refresh.specs.Limits.{TellsLimit}
 use Rattle.forest_refresh.specs.Refreshed as refreshes
 use Rattle.forest_refresh.specs.declared.stop.BeginStop.{BeginStop}
 use Rattle.forest_refresh.specs.declared.stop.BeginStop.TheVariants as begins
+use Rattle.forest_refresh.specs.declared.stop.RefreshStop.{RefreshStop}
+use Rattle.forest_refresh.specs.declared.stop.RefreshStop.TheVariants as ends
 use Rattle.forest_root.specs.declared.forest.Forest.{Forest}
 use Rattle.forest_root.specs.declared.forest.Store.{Store}
 use Rattle.forest_store.specs.Held.{AreAccepted, IsLive, KeepsFacts}
@@ -31,6 +33,7 @@ use Rattle.cube_state.specs.declared.state.State.{State}
 use Rattle.cube_state.specs.declared.state.State.TheVariants.{Hollow, Idle, Pending}
 use Rattle.cube_state.specs.declared.stop.Stop.{Stop}
 use Rattle.cube_state.specs.Frames.{RunsOn}
+use Rattle.cube_state.specs.Stops.{IsNoDamage, refresh_stop}
 use Rattle.cube_state.specs.Session.{Attends, Belongs, Between, IsAnswer, KeepsEither, Stands}
 use Rattle.cube_state.proofs.Answering.{answers, between_as}
 use Rattle.cube_batches.specs.Refusals.{refusal_text}
@@ -202,3 +205,8 @@ abandoned r store disk world (Ok done) same given is state =
       opened = subst (λ (f : Forest). IsOpened f.body disk) (sym same) is.3.ready.opened;
     } in
     subst (λ (s : State). Stands s disk (abandon world).0) (sym state) (is.0, ap (λ (w : World). (abandon w).0) is.2, belongs)
+
+-- a refresh that tells no damage is told as a stop that tells none
+pub same_damage : (stop : RefreshStop) → refreshes.IsNoDamage stop → IsNoDamage (refresh_stop stop)
+same_damage ends.Disk none = tt
+same_damage (ends.Damaged file offset) none = none

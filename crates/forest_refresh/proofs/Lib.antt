@@ -1,4 +1,5 @@
 pub mod Added
+pub mod Adding
 pub mod Begins
 pub mod Committed
 pub mod Damages

@@ -5,7 +5,7 @@ use Rattle.std.specs.List.{range_with_len}
 use Rattle.std.proofs.lemmas.Bool.{cases_Bool}
 use Rattle.std.proofs.lemmas.Bool.Decides.{nat_tests}
 use Rattle.std.proofs.lemmas.Grind.{same_number_lists}
-use Rattle.std.proofs.lemmas.List.{get_or-append_right, get_or-map, get_or_append_left, get_or_default, get_or_past, length-map, length-replicate, take_all, take_more}
+use Rattle.std.proofs.lemmas.List.{get_or-append_right, get_or-map, get_or_append_left, get_or_default, length-map, length-replicate, take_all, take_more}
 use Rattle.std.proofs.lemmas.List.FromFn.{get_or-map-range_with_len, length-range_with_len}
 use Rattle.fact_model.specs.declared.fact.Fact.{Fact}
 use Rattle.cube_point.specs.declared.point.Entry.{Entry}
@@ -19,7 +19,6 @@ use Rattle.select_map.specs.declared.mapping.Tree.{Tree}
 use Rattle.select_map.specs.Views.{arity_at, selected, tree_number}
 use Rattle.select_map.specs.Selection.{IsSelection, no_tree, tree_of}
 use Rattle.delta_agg.proofs.Rising.{schema-selection}
-use Rattle.tree_pack.specs.Pages.{count_of}
 use Rattle.select_map.specs.declared.mapping.Mapping.{Mapping}
 use Rattle.tree_pack.specs.Packing.{AreTreeViews}
 use Rattle.forest_root.specs.declared.forest.Forest.{Forest}
@@ -30,12 +29,13 @@ use Rattle.forest_pages.proofs.Scanned.{front-count, front-long}
 use Rattle.forest_pages.proofs.Selected.{tree-counted, tree-views, view-counted}
 use Rattle.forest_refresh.specs.Next.{HasNumbers, counts_from}
 use Rattle.delta_agg.specs.Trees.{named_tree}
-use Rattle.forest_refresh.specs.Trees.{AreAdded, AreAllAdded, by_arity, deltas_of}
+use Rattle.merge_pack.specs.Building.{by_arity}
+use Rattle.forest_refresh.specs.Trees.{AreAdded, AreAllAdded, deltas_of}
 use Rattle.forest_store.specs.Held.{AreAccepted}
 use Rattle.forest_store.proofs.Places.{body-few, nine-in, there}
 use Rattle.forest_store.proofs.Storable.{storable as facts_storable}
 use Rattle.forest_store.proofs.Schemas.{view-short}
-use Rattle.forest_refresh.proofs.TreeReads.{arity-at, nine}
+use Rattle.merge_pack.proofs.Counting.{arity-at}
 
 -- so many of the first trees are packed: their pages, and the numbers of their points
 pub record ArePacked (schema : Schema) (all : List Fact) (t : ℕ) (pages : List ℕ) (rows : List (List ℕ)) : Type 0 where
@@ -55,13 +55,6 @@ rows-few n t rows row long few here s a lt = elim (cases_Bool (nat_lt s t)) [
   | inr past ↦ (let beyond : t ≤ s = grind (arith, nat_tests) in
       let last : s - t ≡ 0 = omega (arith, beyond, lt) in
       subst (λ (r : List ℕ). slice_index r a ≤ n) (sym (get_or-append_right rows (row ∷ []) t s [] long beyond ∙ ap (λ k. get_or (row ∷ []) k []) last)) (here a))
-]
-
--- so is the number of points of each arity, where there are few
-pub row-few : (n : ℕ) (es : List Entry) → ((a : ℕ) → a < 9 → count_of a es ≤ n) → (a : ℕ) → slice_index (by_arity es) a ≤ n
-row-few n es few a = elim (cases_Bool (nat_lt a 9)) [
-  | inl low ↦ (let below : a < 9 = grind (arith, nat_tests) in omega (arith, arity-at es a below, few a below))
-  | inr past ↦ (let beyond : 9 ≤ a = grind (arith, nat_tests) in omega (arith, get_or_past (by_arity es) a 0 (omega (arith, nine es, beyond))))
 ]
 
 pub zeros_at : (n i : ℕ) → slice_index (replicate n 0) i ≡ 0
@@ -123,8 +116,8 @@ slots-few counts n few (None ∷ slots) zero = omega arith
 slots-few counts n few (Some v ∷ slots) zero = few v
 slots-few counts n few (o ∷ slots) (suc i) = slots-few counts n few slots i
 
-pub old-few : (forest : Forest) (t : ℕ) (es : List Entry) → by_arity es ≡ counts_of forest.body.counts (tree_of forest.mapping t) → (a : ℕ) → a < 9 → count_of a es ≤ forest.body.facts
-old-few forest t es counted a low = omega (arith, arity-at es a low, ap (λ (ns : List ℕ). slice_index ns a) counted, slots-few forest.body.counts forest.body.facts (body-few forest) (tree_of forest.mapping t).view_of a)
+pub old-few : (forest : Forest) (t : ℕ) (counts : List ℕ) → counts ≡ counts_of forest.body.counts (tree_of forest.mapping t) → (a : ℕ) → slice_index counts a ≤ forest.body.facts
+old-few forest t counts counted a = omega (arith, ap (λ (ns : List ℕ). slice_index ns a) counted, slots-few forest.body.counts forest.body.facts (body-few forest) (tree_of forest.mapping t).view_of a)
 
 -- ---- the bytes of one tree
 
@@ -217,6 +210,6 @@ module _ (forest : Forest) (deltas : List (List Entry)) (t : ℕ) (d delta : Lis
 pub bytes-as : (forest : Forest) (all : List Fact) (first t : ℕ) → tree_bytes forest.schema all first (tree_of forest.mapping t) ≡ tree_bytes forest.schema all first (tree_of (selected forest.schema.views) t)
 bytes-as forest all first t = ap (λ (m : Mapping). tree_bytes forest.schema all first (tree_of m t)) forest.mapped
 
-pub row-as : (forest : Forest) (all : List Fact) (t : ℕ) (points : List Entry) → points ≡ tree_entries forest.schema all (tree_of forest.mapping t)
-    → by_arity points ≡ by_arity (tree_entries forest.schema all (tree_of (selected forest.schema.views) t))
-row-as forest all t points is = ap by_arity (is ∙ ap (λ (m : Mapping). tree_entries forest.schema all (tree_of m t)) forest.mapped)
+pub row-as : (forest : Forest) (all : List Fact) (t : ℕ) (row : List ℕ) → row ≡ by_arity (tree_entries forest.schema all (tree_of forest.mapping t))
+    → row ≡ by_arity (tree_entries forest.schema all (tree_of (selected forest.schema.views) t))
+row-as forest all t row is = is ∙ ap (λ (m : Mapping). by_arity (tree_entries forest.schema all (tree_of m t))) forest.mapped

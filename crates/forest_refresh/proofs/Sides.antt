@@ -1,5 +1,5 @@
 -- The trees that are written on the side, one after another, while the live side stays.
-use Rattle.std.proofs.Common.{◌≡◌, ◌≢◌, ◌≤◌, ◌<◌, ◌+◌, ◌*◌, ◌/◌, ◌^◌, ℕ, List, [], ◌∷◌, ◌++◌, flat_map, get_or, length, take, drop, inl, inr, ◌⊎◌, refl, sym, ap, ◌∙◌, subst, sum_by, arith, length-append, length-take}
+use Rattle.std.proofs.Common.{◌≡◌, ◌≢◌, ◌≤◌, ◌<◌, ◌+◌, ◌*◌, ◌/◌, ℕ, List, [], ◌∷◌, ◌++◌, flat_map, get_or, length, take, drop, inl, inr, refl, sym, ap, ◌∙◌, subst, sum_by, arith, length-append, length-take}
 use Rattle.std.proofs.lemmas.List.{take-append-drop}
 use Rattle.site_core.specs.Disk.{Files}
 use Rattle.fact_model.specs.declared.fact.Fact.{Fact}
@@ -12,11 +12,10 @@ use Rattle.select_map.specs.declared.mapping.Mapping.{Mapping}
 use Rattle.select_map.specs.declared.mapping.Tree.{Tree}
 use Rattle.select_map.specs.Selection.{tree_of}
 use Rattle.select_map.specs.Views.{selected}
-use Rattle.tree_pack.specs.Packing.{AreTreePoints, AreTreeViews, max_first}
-use Rattle.tree_pack.specs.Pages.{Views, count_of, page_bytes, pages_of}
+use Rattle.tree_pack.specs.Packing.{AreTreeViews, max_first}
+use Rattle.tree_pack.specs.Pages.{Views, page_bytes, pages_of}
 use Rattle.tree_pack.proofs.Lawful.{pages-lawful}
 use Rattle.tree_scan.specs.Scanning.{AreGood, IsFirstBad, entries_of}
-use Rattle.forest_root.specs.Body.{max_facts}
 use Rattle.forest_root.specs.declared.body.Body.{Body}
 use Rattle.forest_root.specs.declared.forest.Forest.{Forest}
 use Rattle.forest_root.specs.Forest.{counts_of, place_of, shape_of}
@@ -32,15 +31,12 @@ use Rattle.forest_store.proofs.Storable.{storable}
 use Rattle.forest_refresh.specs.declared.stop.RefreshStop.{RefreshStop}
 use Rattle.forest_refresh.specs.declared.stop.RefreshStop.TheVariants as stops
 use Rattle.forest_refresh.specs.Additions.{IsAddition, IsAdditionAt}
-use Rattle.forest_refresh.specs.Trees.{IsDamagedFor, IsTreeIn, IsWholeFor, TellsDamageFor, by_arity}
+use Rattle.delta_agg.specs.Joins.{AllJoin}
+use Rattle.merge_pack.specs.Building.{IsFirstApart, by_arity}
+use Rattle.forest_refresh.specs.Trees.{IsDamagedFor, IsTreeIn, IsWholeFor, TellsDamageFor}
 use Rattle.forest_refresh.proofs.Packings.{ArePacked, bytes-as, delta-named, packed-all, packed-more, row-as, tree-views-of}
-use Rattle.forest_refresh.proofs.TreeMerges.{few-by}
 
 -- ---- one tree
-
--- where there are few points of each arity there are few pages
-pub points-few : (shape : Shape) → IsShape shape → (es : List Entry) → AreTreePoints shape es → (n : ℕ) → n ≤ max_facts → ((a : ℕ) → a < 9 → count_of a es ≤ n) → 3 * length es ≤ 27 * 2 ^ 40
-points-few shape lawful es are n low few = omega (arith, few-by n es (λ i d lt. omega (arith, are.arities i d lt, lawful.dims)) few, low)
 
 module _ (forest : Forest) (t : ℕ) (lt : t < length forest.mapping.trees) (place : Place) (same : place ≡ place_of forest t) where
   shape-is : place.shape ≡ shape_of forest.schema (tree_of forest.mapping t)
@@ -101,13 +97,13 @@ module _ (forest : Forest) (all : List Fact) (fine : AreAccepted forest.schema a
     own = bytes-as forest all first t ∙ ap (λ n. tree_bytes forest.schema all n (tree_of (selected forest.schema.views) t)) (sym front-pages)
 
     -- one more stands on the side
-    pub side-more : (next : ℕ) (new : List ℕ) (more : List (List ℕ)) (points : List Entry)
+    pub side-more : (next : ℕ) (new : List ℕ) (more : List (List ℕ)) (counts : List ℕ)
         → take (page_size * next) new ≡ take (page_size * first) old ++ tree_bytes forest.schema all first (tree_of forest.mapping t)
-        → points ≡ tree_entries forest.schema all (tree_of forest.mapping t) → more ≡ rows ++ by_arity points ∷ [] → ArePacked forest.schema all (t + 1) (take (page_size * next) new) more
-    side-more next new more points written are row =
+        → counts ≡ by_arity (tree_entries forest.schema all (tree_of forest.mapping t)) → more ≡ rows ++ counts ∷ [] → ArePacked forest.schema all (t + 1) (take (page_size * next) new) more
+    side-more next new more counts written are row =
         packed-more forest.schema forest.lawful all (storable forest.schema all forest.lawful fine) t (take (page_size * first) old) (take (page_size * next) new) rows more low packed
         (written ∙ ap (λ (b : List ℕ). take (page_size * first) old ++ b) own)
-        (row ∙ ap (λ (r : List ℕ). rows ++ r ∷ []) (row-as forest all t points are))
+        (row ∙ ap (λ (r : List ℕ). rows ++ r ∷ []) (row-as forest all t counts are))
 
     -- with it there are no more pages than those of all
     pub side-few : first + length (tree_bytes forest.schema all first (tree_of forest.mapping t)) / 4096 ≤ page_count forest.schema all
@@ -164,11 +160,14 @@ module _ (spare from : ℕ) (x y : Files) (differs : DiffersPast (2 + spare) fro
     whole-before is = (is.0, tree-before is.0 is.1, is.2)
 
     damaged-before : (page : ℕ) → IsDamagedFor forest y t delta page → IsDamagedFor forest x t delta page
-    damaged-before page is = elim is [
-      | inl here ↦ inl (subst (λ (b : List ℕ). IsFirstBad place.shape b place.first place.pages page ⊎ (AreGood place.shape b place.first place.pages
-          × (by_arity (entries_of place.shape b place.first place.pages) ≢ counts_of forest.body.counts (tree_of forest.mapping t)) × (page ≡ place.first))) same_side here)
-      | inr apart ↦ inr (apart.0, tree-before apart.0 apart.1, apart.2, apart.3)
-    ]
+    damaged-before page (inl bad) = inl (subst (λ (b : List ℕ). IsFirstBad place.shape b place.first place.pages page) same_side bad)
+    damaged-before page (inr (inl apart)) = inr (inl (subst (λ (b : List ℕ). IsFirstApart place.shape b place.first place.pages delta page) same_side apart))
+    damaged-before page (inr (inr miscounted)) = inr (inr (record {
+      good = subst (λ (b : List ℕ). AreGood place.shape b place.first place.pages) same_side miscounted.good;
+      joins = subst (λ (b : List ℕ). AllJoin (entries_of place.shape b place.first place.pages) delta) same_side miscounted.joins;
+      counted = subst (λ (b : List ℕ). by_arity (entries_of place.shape b place.first place.pages) ≢ counts_of forest.body.counts (tree_of forest.mapping t)) same_side miscounted.counted;
+      first = miscounted.first;
+    }))
 
     -- and where it is damaged now it was damaged before
     pub damage-before : (stop : RefreshStop) → TellsDamageFor forest y t delta stop → TellsDamageFor forest x t delta stop

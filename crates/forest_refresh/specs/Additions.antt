@@ -1,5 +1,5 @@
 -- A batch that is added to accepted facts, and what it makes of the trees.
-use Rattle.std.specs.Prelude.{◌≡◌, ◌∷◌, ◌++◌, ◌+◌, ◌<◌, ◌≤◌, ℕ, List, [], length, take, vec_len}
+use Rattle.std.specs.Prelude.{◌≡◌, ◌∷◌, ◌++◌, ◌+◌, ◌≤◌, ℕ, List, [], length, slice_index, take, vec_len}
 use Rattle.site_core.specs.Disk.{Files}
 use Rattle.fact_model.specs.declared.fact.Fact.{Fact}
 use Rattle.cube_point.specs.declared.point.Entry.{Entry}
@@ -8,13 +8,13 @@ use Rattle.select_map.specs.declared.mapping.Tree.{Tree}
 use Rattle.select_map.specs.Selection.{tree_of}
 use Rattle.view_points.specs.Codes.{names_of}
 use Rattle.delta_agg.specs.Trees.{named_tree}
-use Rattle.tree_pack.specs.Pages.{count_of}
+use Rattle.merge_pack.specs.Building.{by_arity}
 use Rattle.forest_root.specs.declared.forest.Forest.{Forest}
 use Rattle.forest_root.specs.Forest.{place_of}
 use Rattle.forest_pages.specs.Forest.{body_counts, forest as forest_bytes, tree_bytes, tree_entries}
 use Rattle.forest_store.specs.Held.{AreAccepted, IsLive}
 use Rattle.forest_refresh.specs.declared.room.Room.{Room}
-use Rattle.forest_refresh.specs.Trees.{AreAdded, by_arity, deltas_of}
+use Rattle.forest_refresh.specs.Trees.{AreAdded, deltas_of}
 
 -- a batch is added to facts that the files keep, and these are its points in each tree
 pub record IsAddition (forest : Forest) (files : Files) (deltas : List (List Entry)) (facts batch : List Fact) : Type 0 where
@@ -35,18 +35,13 @@ pub record AreWritten (schema : Schema) (all : List Fact) (side numbers : List �
   pub bytes : take (length (forest_bytes schema all)) side ≡ forest_bytes schema all
   pub counts : numbers ≡ body_counts schema all
 
--- these are the points of a tree over these facts, and its bytes stand behind those before them
-pub record IsWritten (schema : Schema) (all : List Fact) (tree : Tree) (first : ℕ) (entries : List Entry) (before now : List ℕ) : Type 0 where
-  pub points : entries ≡ tree_entries schema all tree
+-- so many points of each arity has a tree over these facts, and its bytes stand behind those before them
+pub record IsWritten (schema : Schema) (all : List Fact) (tree : Tree) (first : ℕ) (row before now : List ℕ) : Type 0 where
+  pub counts : row ≡ by_arity (tree_entries schema all tree)
   pub bytes : now ≡ before ++ tree_bytes schema all first tree
 
--- the tree has of each arity no more points than the body has facts and a batch adds to it
-abbrev pub AreFewWith : Forest → ℕ → List Entry → List Entry → Type 0
-AreFewWith forest t delta entries =
-    (most : ℕ) → AreAdded (place_of forest t).shape most delta → (arity : ℕ) → arity < 9 → count_of arity entries ≤ forest.body.facts + most
-
--- the numbers of the tree's points are a row more
+-- the numbers of the tree's points are a row more: of each arity no more than the body has facts and a batch adds to it
 pub record HasRow (forest : Forest) (t : ℕ) (delta : List Entry) (old new : Room) : Type 0 where
-  pub items : new.rows.items ≡ old.rows.items ++ by_arity new.merged.items ∷ []
+  pub items : new.rows.items ≡ old.rows.items ++ new.merge.new_counts ∷ []
   pub len : vec_len new.rows ≡ vec_len old.rows + 1
-  pub few : AreFewWith forest t delta new.merged.items
+  pub few : (most : ℕ) → AreAdded (place_of forest t).shape most delta → (arity : ℕ) → slice_index new.merge.new_counts arity ≤ forest.body.facts + most

@@ -6,5 +6,4 @@ pub mod Next
 pub mod Pages
 pub mod Prepared
 pub mod Refreshed
-pub mod Rooms
 pub mod Trees

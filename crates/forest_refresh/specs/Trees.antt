@@ -1,6 +1,5 @@
 -- The points of a tree, read from its pages.
 use Rattle.std.specs.Prelude.{◌≡◌, ◌≢◌, ◌⊎◌, ℕ, ◌+◌, ◌*◌, ◌<◌, ◌≤◌, List, [], get_or, length, map}
-use Rattle.std.specs.List.{range_with_len}
 use Rattle.site_core.specs.Disk.{Files}
 use Rattle.fact_model.specs.declared.fact.Fact.{Fact}
 use Rattle.cube_point.specs.declared.point.Entry.{Entry}
@@ -14,6 +13,7 @@ use Rattle.delta_agg.specs.Joins.{AllJoin}
 use Rattle.delta_agg.specs.Trees.{named_tree}
 use Rattle.forest_root.specs.declared.forest.Forest.{Forest}
 use Rattle.forest_root.specs.Forest.{counts_of, place_of}
+use Rattle.merge_pack.specs.Building.{IsFirstApart, by_arity}
 use Rattle.page_fmt.specs.declared.page.Place.{Place}
 use Rattle.tree_pack.specs.Pages.{count_of}
 use Rattle.tree_scan.specs.Scanning.{AreGood, ArePoints, IsFirstBad, entries_of}
@@ -21,10 +21,6 @@ use Rattle.tree_scan.specs.declared.stop.ScanStop.{ScanStop}
 use Rattle.tree_scan.specs.declared.stop.ScanStop.TheVariants as scans
 use Rattle.forest_refresh.specs.declared.stop.RefreshStop.{RefreshStop}
 use Rattle.forest_refresh.specs.declared.stop.RefreshStop.TheVariants as stops
-
--- how many of the points have each arity from 0 to 8
-abbrev pub by_arity : List Entry → List ℕ
-by_arity es = map (λ arity. count_of arity es) (range_with_len 0 9)
 
 -- the points of all pages that stand there, and that these pages are good, or which is the first that is not
 abbrev pub entries_at : Place → Files → List Entry
@@ -36,6 +32,10 @@ AreGoodIn place files = AreGood place.shape (files place.file) place.first place
 abbrev pub IsFirstBadIn : Place → Files → ℕ → Type 0
 IsFirstBadIn place files page = IsFirstBad place.shape (files place.file) place.first place.pages page
 
+-- of pages that are good the first with a cell that does not join with that of these points
+abbrev pub IsFirstApartIn : Place → Files → List Entry → ℕ → Type 0
+IsFirstApartIn place files delta page = IsFirstApart place.shape (files place.file) place.first place.pages delta page
+
 -- these are the points of a tree in these files: each of its pages is there and lawful, its points come after all before them, and there
 -- are as many of each arity as the body counts
 pub record IsTreeIn (forest : Forest) (files : Files) (t : ℕ) (es : List Entry) : Type 0 where
@@ -43,20 +43,12 @@ pub record IsTreeIn (forest : Forest) (files : Files) (t : ℕ) (es : List Entry
   pub points : es ≡ entries_at (place_of forest t) files
   pub counted : by_arity es ≡ counts_of forest.body.counts (tree_of forest.mapping t)
 
--- the tree is damaged at this page: it is the first that is not good; or all are good, but the points are not as many as the body counts,
--- and it is the tree's first page
-abbrev pub IsDamagedAt : Forest → Files → ℕ → ℕ → Type 0
-IsDamagedAt forest files t page =
-    IsFirstBadIn (place_of forest t) files page
-    ⊎ (AreGoodIn (place_of forest t) files
-    × (by_arity (entries_at (place_of forest t) files) ≢ counts_of forest.body.counts (tree_of forest.mapping t))
-    × (page ≡ (place_of forest t).first))
-
--- damage that is told is where the tree is damaged
-abbrev pub TellsDamage : Forest → Files → ℕ → RefreshStop → Type 0
-TellsDamage forest files t (stops.Damaged file offset) =
-    (page : ℕ) × IsDamagedAt forest files t page × (file ≡ (place_of forest t).file) × (offset ≡ 4096 * page)
-TellsDamage forest files t stops.Disk = Unit {0}
+-- all pages of the tree fit, but its points are not as many as the body counts, and this is its first page
+pub record IsMiscounted (forest : Forest) (files : Files) (t : ℕ) (delta : List Entry) (page : ℕ) : Type 0 where
+  pub good : AreGoodIn (place_of forest t) files
+  pub joins : AllJoin (entries_at (place_of forest t) files) delta
+  pub counted : by_arity (entries_at (place_of forest t) files) ≢ counts_of forest.body.counts (tree_of forest.mapping t)
+  pub first : page ≡ (place_of forest t).first
 
 -- points that a batch adds to a tree, of each arity at most so many
 pub record AreAdded (shape : Shape) (most : ℕ) (es : List Entry) : Type 0 where
@@ -82,12 +74,11 @@ IsWholeFor forest files t delta = (es : List Entry) × IsTreeIn forest files t e
 abbrev pub AreAllWhole : Forest → Files → List (List Entry) → Type 0
 AreAllWhole forest files deltas = (t : ℕ) → t < length forest.mapping.trees → IsWholeFor forest files t (get_or deltas t [])
 
--- the tree is damaged at this page for these points: it is damaged there whatever they are; or it is whole, but not all its cells that meet
--- theirs join, and it is the tree's first page
+-- the tree is damaged at this page for these points: it is the first that is not good, or has a cell that does not join; or it is the first
+-- of a tree that is miscounted
 abbrev pub IsDamagedFor : Forest → Files → ℕ → List Entry → ℕ → Type 0
 IsDamagedFor forest files t delta page =
-    IsDamagedAt forest files t page
-    ⊎ ((es : List Entry) × IsTreeIn forest files t es × (AllJoin es delta → ⊥) × (page ≡ (place_of forest t).first))
+    IsFirstBadIn (place_of forest t) files page ⊎ (IsFirstApartIn (place_of forest t) files delta page ⊎ IsMiscounted forest files t delta page)
 
 -- damage that is told is where the tree is damaged for these points
 abbrev pub TellsDamageFor : Forest → Files → ℕ → List Entry → RefreshStop → Type 0

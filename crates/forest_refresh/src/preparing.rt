@@ -17,7 +17,6 @@ ghost use Rattle.forest_refresh.specs.Begun.{IsBegun, IsRefreshOf};
 ghost use Rattle.forest_refresh.specs.Limits.{IsBatchOf, TellsLimit};
 ghost use Rattle.forest_refresh.specs.Next.{AddsNames, AreCoded, next_body};
 ghost use Rattle.forest_refresh.specs.Prepared.{begun_with};
-ghost use Rattle.forest_refresh.specs.Rooms.{HasRoom};
 ghost use Rattle.forest_refresh.specs.Trees.{deltas_by};
 
 use crate::limits::{masses, names_len, total};
@@ -52,7 +51,7 @@ pub(crate) fn prepare(
     requires whole { IsWhole store.old }
 
     ensures prepared { IfOk result (λ p. IsBegun (begun_with store.new p)) }
-    ensures room { IfOk result (λ p. HasRoom store.old.forest p.deltas (vec_capacity p.room.before) (vec_capacity p.room.merged) (vec_capacity p.room.rows)) }
+    ensures room { IfOk result (λ p. length p.deltas ≤ vec_capacity p.room.rows) }
     ensures adds { (accepted : List declared.Fact) (files : Files) → IsStoreOf store.old accepted files
         → IfOk result (λ p. IsRefreshOf (begun_with store.new p) accepted facts.now files) }
     ensures points { IfOk result (λ p. p.deltas ≡ deltas_by (names_with store.old.dicts facts.now) store.old.forest.schema facts.now) }
@@ -95,7 +94,7 @@ fn prepare_with(
     requires limit { entries_len store.now.dicts ≤ entries_limit }
 
     ensures prepared { IfOk result (λ p. IsBegun (begun_with store.now p)) }
-    ensures room { IfOk result (λ p. HasRoom store.now.forest p.deltas (vec_capacity p.room.before) (vec_capacity p.room.merged) (vec_capacity p.room.rows)) }
+    ensures room { IfOk result (λ p. length p.deltas ≤ vec_capacity p.room.rows) }
     ensures adds { (accepted : List declared.Fact) (files : Files) → AreAccepted store.now.forest.schema accepted
         → IsLive store.now.forest.schema store.now.forest.body accepted files
         → ((a : ℕ) → shown_names store.now.dicts store.now.shown.at a ≡ names_of accepted a)
@@ -117,7 +116,7 @@ fn prepare_with(
         &admitted.coded,
         facts,
     )?;
-    let room = take_room(alloc, forest, &deltas)?;
+    let room = take_room(alloc, deltas.as_slice().len())?;
     Ok(Prepared {
         deltas,
         names: admitted.names,

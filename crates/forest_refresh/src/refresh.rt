@@ -17,7 +17,6 @@ ghost use Rattle.forest_refresh.specs.Begun.{IsBegun, IsNextStore, IsReady, IsRe
 ghost use Rattle.forest_refresh.specs.Limits.{IsBatchOf, TellsLimit};
 ghost use Rattle.forest_refresh.specs.Prepared.{begun_with};
 ghost use Rattle.forest_refresh.specs.Refreshed.{IsNoDamage, KeepsEither, NamesPageIn};
-ghost use Rattle.forest_refresh.specs.Rooms.{HasRoom};
 ghost use Rattle.forest_refresh.specs.Trees.{AreAllWhole, TellsFirstDamage, deltas_by};
 
 use crate::committing::commit;
@@ -44,15 +43,14 @@ pub struct Refresh {
 }
 
 impl Model for Refresh {
-    ghost use Rattle.std.specs.Prelude.{vec_capacity};
+    ghost use Rattle.std.specs.Prelude.{◌≤◌, length, vec_capacity};
     ghost use Rattle.forest_refresh.specs.Begun.{Begun, IsBegun};
-    ghost use Rattle.forest_refresh.specs.Rooms.{HasRoom};
 
     ghost Value = { Begun };
 
     ghost view = { λ r. record { store = r.store; deltas = r.deltas; entries = r.names; next = r.next } };
 
-    ghost invariant = { λ r. record { begun : IsBegun (record { store = r.store; deltas = r.deltas; entries = r.names; next = r.next }); room : HasRoom r.store.forest r.deltas (vec_capacity r.room.before) (vec_capacity r.room.merged) (vec_capacity r.room.rows) } };
+    ghost invariant = { λ r. record { begun : IsBegun (record { store = r.store; deltas = r.deltas; entries = r.names; next = r.next }); room : length r.deltas ≤ vec_capacity r.room.rows } };
 }
 
 impl Refresh {
@@ -116,8 +114,9 @@ impl Refresh {
     /// answer is the store of all facts; after a stop the store is gone, and the files are to be opened again.
     ///
     /// A stop at any moment leaves the facts without the batch or all of them. `Damaged` comes exactly where a tree of the live side is
-    /// damaged, unless a file fails before. It names the page at which the first of them is so, which is the tree's first page where its
-    /// cells do not join with those of the batch.
+    /// damaged, unless a file fails before. It names the first page that does not fit: it is short, not lawful, out of order, or has a cell
+    /// that does not join with that of the batch; or the tree's first page, where all fit, but hold other numbers of points than the body
+    /// counts.
     pub fn finish<T: Site>(self, site: &mut T) -> Result<Store, RefreshStop>
         requires ready { IsTrue T.tells → IsReady self (T.disk site.old) }
 
@@ -171,7 +170,7 @@ impl Refresh {
 /// Shuts the gate of the next generation for what was prepared.
 fn shut_gate<T: Site>(site: &mut T, store: Store, prepared: Prepared) -> Result<Refresh, BeginFault>
     requires begun { IsBegun (begun_with store prepared) }
-    requires room { HasRoom store.forest prepared.deltas (vec_capacity prepared.room.before) (vec_capacity prepared.room.merged) (vec_capacity prepared.room.rows) }
+    requires room { length prepared.deltas ≤ vec_capacity prepared.room.rows }
     requires opened { IsTrue T.tells → IsOpened store.forest.body (T.disk site.old) }
 
     ensures begun { IfOk result (λ refresh. refresh ≡ begun_with store prepared) }

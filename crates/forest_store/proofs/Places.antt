@@ -16,7 +16,7 @@ use Rattle.delta_agg.proofs.Rising.{schema-selection}
 use Rattle.forest_root.specs.declared.forest.Forest.{Forest}
 use Rattle.forest_root.specs.Forest.{pages_of, pages_of_all, place_of, shape_of}
 use Rattle.forest_root.proofs.Trees.{trees-few}
-use Rattle.forest_pages.proofs.Bounds.{pages-within, place-within}
+use Rattle.forest_pages.proofs.Bounds.{pages-few, pages-within, place-within}
 use Rattle.forest_pages.proofs.Selected.{tree-shape}
 use Rattle.forest_store.specs.Sides.{page_total}
 use Rattle.forest_store.proofs.Schemas.{few_views}
@@ -73,6 +73,11 @@ module _ (forest : Forest) where
     pub place-shape : IsShape (place_of forest t).shape
     unfolding place_of
     place-shape = shape-lawful
+
+    -- no tree has more than 2^41 pages
+    pub place-pages : (place_of forest t).pages ≤ 2 ^ 41
+    unfolding place_of
+    place-pages = pages-few forest.schema forest.lawful forest.body.counts few-counts (tree_of forest.mapping t) shape-lawful.dims
 
     pub nine-slots : length (tree_of forest.mapping t).view_of ≡ 9
     nine-slots = subst (λ (m : Mapping). length (tree_of m t).view_of ≡ 9) (sym forest.mapped) (nine-in forest.schema.views t there)

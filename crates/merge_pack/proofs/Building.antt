@@ -11,9 +11,13 @@ use Rattle.page_fmt.specs.declared.page.TheConstants.{PAGE}
 use Rattle.page_fmt.specs.Trees.{fanout_of, room_of}
 use Rattle.page_fmt.specs.Writing.{IsShape}
 use Rattle.leaf_pack.specs.Leaf.{arity_of}
-use Rattle.delta_agg.specs.Joins.{merged_entries}
+use Rattle.std.proofs.lemmas.Bool.{cases_lt}
+use Rattle.std.specs.Prelude.{slice_index}
+use Rattle.delta_agg.specs.Joins.{AllJoin, merged_entries}
+use Rattle.delta_agg.proofs.Merging.{no-meeting_new}
+use Rattle.tree_pack.specs.Packing.{AreTreeViews}
 use Rattle.tree_pack.specs.Moving.{Moving, with_inner}
-use Rattle.tree_pack.specs.Pages.{PointPage, page_bytes}
+use Rattle.tree_pack.specs.Pages.{PointPage, Views, count_of, page_bytes, pages_of}
 use Rattle.tree_scan.specs.Scanning.{entries_of, leaf_entries}
 use Rattle.page_fmt.specs.InFiles.{page_at}
 use Rattle.tree_scan.specs.Streaming.{HasTaken, IsScanning, Scanned, after_page}
@@ -21,17 +25,18 @@ use Rattle.tree_scan.proofs.Extending.{entries-split}
 use Rattle.tree_scan.proofs.Streaming.{scanning-reads, scanning-stops}
 use Rattle.merge_pack.specs.declared.side.Advance.{Advance}
 use Rattle.merge_pack.specs.declared.side.Advance.TheVariants as advances
-use Rattle.merge_pack.specs.Merging.{Goes, IsMerging, Keeps, Merger, Merging, closes_full, closes_last, closes_leaf, closes_rest, is_done, lowest_due, merging_of, moves_point, needs_page, page_of, turns_leaf}
+use Rattle.merge_pack.specs.Merging.{Goes, IsMerging, KeepsOn, Merger, Merging, closes_full, closes_last, closes_leaf, closes_rest, is_done, lowest_due, merging_of, moved_on, moves_point, needs_page, old_after, page_of, turns_leaf}
 use Rattle.merge_pack.specs.Safe.{IsSafe}
 use Rattle.merge_pack.specs.Stepping.{HasStopped, Steps, in_memory, pages_made, reads}
 use Rattle.tree_scan.specs.declared.stop.ScanStop.{ScanStop}
 use Rattle.tree_scan.specs.declared.stop.ScanStop.TheVariants as stops
 use Rattle.merge_pack.proofs.Joining.{goes-joins, joins-all, joins-apart}
-use Rattle.merge_pack.specs.Building.{AreJoining, IsBuilding, IsBuilt, IsDamaged, made_by}
+use Rattle.merge_pack.specs.Building.{AreCounted, AreJoining, IsBuilding, IsBuilt, IsCounted, IsDamaged, IsFirstApart, JoinsSoFar, made_by}
+use Rattle.merge_pack.proofs.Counting.{counts-all, goes-counted}
 use Rattle.merge_pack.proofs.Going.{ended, ends-full, ends-last, ends-turn, merge-begins, next-arity, turns-other}
-use Rattle.merge_pack.proofs.Safety.{goes-next, goes-page, goes-shape}
-use Rattle.merge_pack.proofs.Steps.{Points, full-merges, leaf-merges, merged-all, point-merges, read-merges, rest-merges}
-use Rattle.merge_pack.specs.Merging.{turns_at}
+use Rattle.merge_pack.proofs.Safety.{goes-next, goes-page, goes-shape, number-less, safe-may}
+use Rattle.merge_pack.proofs.Steps.{Points, full-merges, leaf-merges, merged-all, merged-front, point-merges, read-merges, rest-merges}
+use Rattle.merge_pack.specs.Merging.{IsApart, turns_at}
 
 -- ---- which page a move makes
 
@@ -66,6 +71,14 @@ module _ (first : ℕ) (old new : List Entry) (pages : List PointPage) (unread :
       subst (λ (k : ℕ). IsMerging first old new (pages ++ Inner (children_at k m.at.levels) ∷ []) unread (record m { at = with_inner i m.at })) level
       (rest-merges first old new pages unread m is i end.held (none_left (ready end.held)) end.delta empty none rest)
   goes-makes n a (is_done none ready over empty rest) = same m is
+
+-- how many
+pub many-made : (a : Advance) (m : Moving) → length (made_by a m) ≡ pages_made a
+many-made advances.Leaf m = refl
+many-made advances.Inner m = refl
+many-made advances.Page m = refl
+many-made advances.Point m = refl
+many-made advances.Done m = refl
 
 -- its bytes
 bytes-made : (a : Advance) (m : Moving) → flat_map (page_bytes m.shape) (made_by a m) ≡ page_of a m
@@ -111,6 +124,11 @@ next-unread shape bytes next left some =
     entries-split shape bytes next 1 (left - 1) (next + 1) left refl (omega (arith, some))
     ∙ ap (λ (l : List Entry). l ++ entries_of shape bytes (next + 1) (left - 1)) (append-nil (leaf_entries shape (page_at bytes next)))
 
+next-more : (shape : Shape) (bytes : List ℕ) (next more : ℕ) → entries_of shape bytes next (more + 1) ≡ leaf_entries shape (page_at bytes next) ++ entries_of shape bytes (next + 1) more
+next-more shape bytes next more =
+    let less : more + 1 - 1 ≡ more = omega arith in
+    next-unread shape bytes next (more + 1) (omega arith) ∙ ap (λ (n : ℕ). leaf_entries shape (page_at bytes next) ++ entries_of shape bytes (next + 1) n) less
+
 -- the same pages are good where the scan only passed over points
 scan-held : (bytes : List ℕ) (old_first total : ℕ) (v : Scanned) (held : List Entry) → IsScanning bytes old_first total v → IsScanning bytes old_first total (record v { held = held })
 scan-held bytes old_first total v held is = record { from = is.from; all = is.all; so_far = is.so_far }
@@ -128,7 +146,16 @@ module _ (bytes : List ℕ) (old_first total first : ℕ) (new : List Entry) (fr
   delta-points : Points (drop v.taken new)
   delta-points i d lt = (safe.led.delta.good i d lt).point
 
-  builds-in_memory : (w : Merger) (a : Advance) → Goes v.scan.left (merging_of v new) a (merging_of w new) → Keeps v w → PAGE * v.at.next_page ≤ length side → length (page_of a v.at) ≡ 4096 * pages_made a
+  -- with each number of pages that are looked at, the cells that are left tell whether all join
+  joins-on : (w : Merger) (a : Advance) → Goes v.scan.left (merging_of v new) a (merging_of w new) → JoinsSoFar bytes old_first new (record v.scan { held = w.scan.held }) (drop w.taken new)
+  joins-on w a goes = record {
+    before = is.joins.before;
+    left = λ pages more few here.
+        goes-joins (entries_of v.scan.shape bytes old_first pages) new (entries_of v.scan.shape bytes v.scan.next more) v.scan.left (merging_of v new)
+        (λ none. none-unread v.scan.shape bytes v.scan.next more (omega (arith, none, few))) held-points delta-points (is.joins.left pages more few here) (merging_of w new) a goes;
+  }
+
+  builds-in_memory : (w : Merger) (a : Advance) → Goes v.scan.left (merging_of v new) a (merging_of w new) → KeepsOn a new v w → PAGE * v.at.next_page ≤ length side → length (page_of a v.at) ≡ 4096 * pages_made a
       → IsBuilding bytes old_first total first new front (side_after a v.at.next_page (page_of a v.at) side) w
   builds-in_memory w a goes keeps reach long =
       let makes = goes-makes first old new is.pages unread v.scan.left (merging_of v new) is.merging (none-unread v.scan.shape bytes v.scan.next v.scan.left) held-points delta-points (merging_of w new) a goes in
@@ -138,8 +165,13 @@ module _ (bytes : List ℕ) (old_first total first : ℕ) (new : List Entry) (fr
       record {
         scanning = subst (IsScanning bytes old_first total) (sym keeps.scan) (scan-held bytes old_first total v.scan w.scan.held is.scanning);
         pages = is.pages ++ made_by a v.at;
-        joins = subst (λ (s : Scanned). AreJoining (entries_of s.shape bytes old_first total) new (w.scan.held ++ entries_of s.shape bytes s.next s.left) (drop w.taken new)) (sym keeps.scan)
-            (goes-joins old new unread v.scan.left (merging_of v new) (none-unread v.scan.shape bytes v.scan.next v.scan.left) held-points delta-points is.joins (merging_of w new) a goes);
+        number = omega (arith, next, is.number, length-append is.pages (made_by a v.at), many-made a v.at);
+        joins = subst (λ (s : Scanned). JoinsSoFar bytes old_first new s (drop w.taken new)) (sym keeps.scan) (joins-on w a goes);
+        counted = subst (λ (s : Scanned). AreCounted (entries_of s.shape bytes old_first total) new (entries_of s.shape bytes s.next s.left) w.scan.held (drop w.taken new) w.old_counts w.new_counts) (sym keeps.scan)
+            (subst (λ (olds : List ℕ). AreCounted old new unread w.scan.held (drop w.taken new) olds w.new_counts) (sym keeps.old_counts)
+            (subst (λ (news : List ℕ). AreCounted old new unread w.scan.held (drop w.taken new) (old_after (moved_on a v.scan.held (drop v.taken new)) v.scan.held (drop v.taken new) v.old_counts) news) (sym keeps.new_counts)
+            (goes-counted v.scan.left (merging_of v new) new v.old_counts v.new_counts safe.sound (number-less v new safe) (safe-may v new safe) safe.counts old unread
+            (none-unread v.scan.shape bytes v.scan.next v.scan.left) held-points delta-points is.counted (merging_of w new) a goes)));
         merging = subst (λ (s : Scanned). IsMerging first (entries_of s.shape bytes old_first total) new (is.pages ++ made_by a v.at) (entries_of s.shape bytes s.next s.left) (merging_of w new)) (sym keeps.scan) makes;
         written = ap (λ (n : ℕ). take (4096 * n) now) next
             ∙ (page-front a v.at v.at.next_page side reach long
@@ -150,21 +182,37 @@ module _ (bytes : List ℕ) (old_first total first : ℕ) (new : List Entry) (fr
       }
 
   builds-read : (w : Merger) → Goes v.scan.left (merging_of v new) advances.Page (merging_of v new) → HasTaken true bytes v.scan w.scan → drop w.taken new ≡ drop v.taken new → w.at ≡ v.at
-      → IsBuilding bytes old_first total first new front side w
-  builds-read w goes has taken at =
+      → w.old_counts ≡ v.old_counts → w.new_counts ≡ v.new_counts → IsBuilding bytes old_first total first new front side w
+  builds-read w goes has taken at olds news =
       let page = goes-page v.scan.left (merging_of v new) (merging_of v new) advances.Page goes refl in
       let es = leaf_entries v.scan.shape has.page in
       let there : es ≡ leaf_entries v.scan.shape (page_at bytes v.scan.next) = ap (leaf_entries v.scan.shape) (has.read refl).bytes_are in
       let more = entries_of v.scan.shape bytes (v.scan.next + 1) (v.scan.left - 1) in
       let split : unread ≡ es ++ more = next-unread v.scan.shape bytes v.scan.next v.scan.left page.1 ∙ ap (λ (l : List Entry). l ++ more) (sym there) in
+      let all : v.scan.held ++ unread ≡ es ++ more = (λ i. page.0 i ++ unread) ∙ split in
       let merges = read-merges first old new is.pages unread (merging_of v new) is.merging es more page.0 split in
       let of-scan : (P : Scanned → List Entry → Moving → Type 0) → P (after_page v.scan es) (drop v.taken new) v.at → P w.scan (drop w.taken new) w.at =
       λ P p. subst (λ (s : Scanned). P s (drop w.taken new) w.at) (sym has.scan) (subst (λ (d : List Entry). P (after_page v.scan es) d w.at) (sym taken) (subst (P (after_page v.scan es) (drop v.taken new)) (sym at) p)) in
       record {
         scanning = scanning-reads bytes old_first total v.scan is.scanning w.scan page.1 has;
         pages = is.pages;
-        joins = of-scan (λ s d a. AreJoining (entries_of s.shape bytes old_first total) new (s.held ++ entries_of s.shape bytes s.next s.left) d)
-            (subst (λ (l : List Entry). AreJoining old new l (drop v.taken new)) ((λ i. page.0 i ++ unread) ∙ split) is.joins);
+        number = ap (λ (m : Moving). m.next_page) at ∙ is.number;
+        joins = of-scan (λ s d a. JoinsSoFar bytes old_first new s d) (record {
+          before = λ pages here.
+              let joining = is.joins.left pages 0 (omega arith) (omega (arith, here)) in
+              joining.joins (subst (λ (l : List Entry). AllJoin (l ++ []) (drop v.taken new)) (sym page.0) (no-meeting_new (drop v.taken new)));
+          left = λ pages more few here.
+              subst (λ (l : List Entry). AreJoining (entries_of v.scan.shape bytes old_first pages) new l (drop v.taken new))
+              ((λ i. page.0 i ++ entries_of v.scan.shape bytes v.scan.next (more + 1)) ∙ (next-more v.scan.shape bytes v.scan.next more ∙ ap (λ (l : List Entry). l ++ entries_of v.scan.shape bytes (v.scan.next + 1) more) (sym there)))
+              (is.joins.left pages (more + 1) (omega (arith, few, page.1)) (omega (arith, here)));
+        });
+        counted = of-scan (λ s d a. AreCounted (entries_of s.shape bytes old_first total) new (entries_of s.shape bytes s.next s.left) s.held d w.old_counts w.new_counts)
+            (subst (λ (l : List ℕ). AreCounted old new more es (drop v.taken new) l w.new_counts) (sym olds)
+            (subst (λ (l : List ℕ). AreCounted old new more es (drop v.taken new) v.old_counts l) (sym news)
+            (record {
+              passed = λ arity. ap (λ (l : List Entry). slice_index v.old_counts arity + count_of arity l) (sym all) ∙ is.counted.passed arity;
+              moved = λ arity. ap (λ (l : List Entry). slice_index v.new_counts arity + count_of arity (merged_entries l (drop v.taken new))) (sym all) ∙ is.counted.moved arity;
+            })));
         merging = of-scan (λ s d a. IsMerging first (entries_of s.shape bytes old_first total) new is.pages (entries_of s.shape bytes s.next s.left) (record { held = s.held; delta = d; at = a })) merges;
         written = subst (λ (m : Moving). take (PAGE * m.next_page) side ≡ take (PAGE * first) front ++ flat_map (page_bytes m.shape) is.pages) (sym at) is.written;
       }
@@ -172,7 +220,7 @@ module _ (bytes : List ℕ) (old_first total first : ℕ) (new : List Entry) (fr
   pub steps-build : (a : Advance) (w : Merger) → Steps true bytes v new a w → PAGE * v.at.next_page ≤ length side → length (page_of a v.at) ≡ 4096 * pages_made a
       → IsBuilding bytes old_first total first new front (side_after a v.at.next_page (page_of a v.at) side) w
   steps-build a w (in_memory not goes keeps) reach long = builds-in_memory w a goes keeps reach long
-  steps-build a w (reads goes has taken file at) reach long = builds-read w goes has taken at
+  steps-build a w (reads goes has taken file at olds news) reach long = builds-read w goes has taken at olds news
 
   -- where no move is left, all are made
   pub done-built : (n : Merging) (a : Advance) → Goes v.scan.left (merging_of v new) a n → a ≡ advances.Done → IsBuilt bytes v.scan.shape old_first total first new front side v.at.next_page
@@ -187,7 +235,7 @@ module _ (bytes : List ℕ) (old_first total first : ℕ) (new : List Entry) (fr
       let end = ended v.scan.held (drop v.taken new) over in
       let no_left : v.scan.left ≡ 0 = ready end.held in
       record {
-        joins = joins-all old new (v.scan.held ++ unread) (drop v.taken new) ((λ i. end.held i ++ unread) ∙ none-unread v.scan.shape bytes v.scan.next v.scan.left no_left) end.delta is.joins;
+        joins = joins-all old new (v.scan.held ++ []) (drop v.taken new) ((λ i. end.held i ++ [])) end.delta (is.joins.left total 0 (omega arith) (omega (arith, is.scanning.all, no_left)));
         good = (is.scanning.so_far total (omega (arith, is.scanning.all, no_left))).0;
         tree = λ views are.
             let all = merged-all v.scan.shape (subst IsShape (sym safe.shape) safe.sound.shape) views first old new are is.pages unread (merging_of v new) (sym safe.shape) is.merging
@@ -195,11 +243,52 @@ module _ (bytes : List ℕ) (old_first total first : ℕ) (new : List Entry) (fr
             is.written ∙ (λ i. take (PAGE * first) front ++ flat_map (page_bytes (sym safe.shape i)) (all i));
       }
 
-  -- where it stops, a page is damaged, or cells do not join
+  -- and all points are counted
+  pub done-counted : (n : Merging) (a : Advance) → Goes v.scan.left (merging_of v new) a n → a ≡ advances.Done → IsCounted bytes v.scan.shape old_first total new v
+  done-counted n a (closes_full full) done = absurd cc
+  done-counted n a (closes_leaf none full) done = absurd cc
+  done-counted n a (needs_page none room_left empty some) done = absurd cc
+  done-counted n a (turns_leaf side none room_left ready on turn) done = absurd cc
+  done-counted n a (moves_point side none room_left ready on same moves) done = absurd cc
+  done-counted n a (closes_last none ready over some) done = absurd cc
+  done-counted n a (closes_rest none ready over empty rest) done = absurd cc
+  done-counted n a (is_done none ready over empty rest) done =
+      let end = ended v.scan.held (drop v.taken new) over in
+      let nothing : v.scan.held ++ unread ≡ [] = (λ i. end.held i ++ none-unread v.scan.shape bytes v.scan.next v.scan.left (ready end.held) i) in
+      record {
+        passed = counts-all v.old_counts old safe.counts.passed.nine (λ arity. omega (arith, is.counted.passed arity, ap (count_of arity) nothing));
+        moved = counts-all v.new_counts (merged_entries old new) safe.counts.moved.nine (λ arity. omega (arith, is.counted.moved arity, ap (count_of arity) (λ i. merged_entries (nothing i) (end.delta i))));
+      }
+
+  -- no more pages are written than the tree has, with the one that a move makes
+  pub made-few : (views : Views) → AreTreeViews v.scan.shape views (merged_entries old new) → (n : Merging) (a : Advance) → Goes v.scan.left (merging_of v new) a n
+      → v.at.next_page + pages_made a ≤ first + length (pages_of v.scan.shape first views)
+  made-few views are n a goes =
+      let makes = goes-makes first old new is.pages unread v.scan.left (merging_of v new) is.merging (none-unread v.scan.shape bytes v.scan.next v.scan.left) held-points delta-points n a goes in
+      let shape = goes-shape v.scan.left (merging_of v new) n a goes in
+      let front = merged-front v.scan.shape (subst IsShape (sym safe.shape) safe.sound.shape) views first old new are (is.pages ++ made_by a v.at) unread n (shape ∙ sym safe.shape) makes in
+      omega (arith, is.number, length-append is.pages (made_by a v.at), many-made a v.at, ap length front.1, length-append (is.pages ++ made_by a v.at) front.0)
+
+  pub written-few : (views : Views) → AreTreeViews v.scan.shape views (merged_entries old new) → v.at.next_page ≤ first + length (pages_of v.scan.shape first views)
+  written-few views are =
+      let front = merged-front v.scan.shape (subst IsShape (sym safe.shape) safe.sound.shape) views first old new are is.pages unread (merging_of v new) (sym safe.shape) is.merging in
+      omega (arith, is.number, ap length front.1, length-append is.pages front.0)
+
+  -- the page of cells that do not join is the first that does not fit
+  apart-first : (page : ℕ) → page + 1 ≡ v.scan.next → IsApart v.scan.held (drop v.taken new) → IsFirstApart v.scan.shape bytes old_first total new page
+  apart-first page here apart = record {
+    from = elim (cases_lt page old_first) [
+      | inl lt ↦ absurd (joins-apart (entries_of v.scan.shape bytes old_first 0) new [] v.scan.held (drop v.taken new) (is.joins.left 0 0 (omega arith) (omega (arith, lt, here, is.scanning.from))) apart (no-meeting_new new))
+      | inr le ↦ le
+    ];
+    within = omega (arith, here, is.scanning.all);
+    good = λ count at. (is.scanning.so_far count (omega (arith, here, at))).0;
+    before = λ count at. is.joins.before count (omega (arith, here, at));
+    apart = λ count at. joins-apart (entries_of v.scan.shape bytes old_first count) new [] v.scan.held (drop v.taken new) (is.joins.left count 0 (omega arith) (omega (arith, here, at))) apart;
+  }
+
+  -- where it stops, the page that does not fit is told
   pub stops-damaged : (stop : ScanStop) → HasStopped true bytes v new stop → IsDamaged bytes v.scan.shape old_first total new stop
   stops-damaged stops.Disk has = tt
   stops-damaged (stops.Damaged page) (inl refused) = inl (scanning-stops bytes old_first total v.scan is.scanning page refused.0 refused.1)
-  stops-damaged (stops.Damaged page) (inr apart) = inr (
-    λ count here. (is.scanning.so_far count (omega (arith, here, apart.0))).0,
-    joins-apart old new unread v.scan.held (drop v.taken new) is.joins apart.1,
-  )
+  stops-damaged (stops.Damaged page) (inr apart) = inr (apart-first page apart.0 apart.1)

@@ -1,21 +1,26 @@
 -- A run of moves over the files of a site.
-use Rattle.std.proofs.Common.{arith, ◌≡◌, ◌≢◌, ◌≤◌, ◌*◌, ℕ, Bool, true, IsTrue, List, length, refl, ap, sym, ◌∙◌, subst}
+use Rattle.std.proofs.Common.{arith, inl, inr, ◌≡◌, ◌≢◌, ◌≤◌, ◌+◌, ◌*◌, ℕ, Bool, true, IsTrue, List, length, refl, ap, sym, ◌∙◌, subst}
 use Rattle.site_core.specs.Calls.{Changes}
 use Rattle.site_core.proofs.Run.{Changes-then, Changes-wider}
 use Rattle.site_core.specs.Disk.{Disk, Files, Torn, overwritten, DiffersPast}
 use Rattle.site_core.proofs.Files.{with_file-other, with_file-same}
+use Rattle.site_core.proofs.Past.{past-then, torn-past}
 use Rattle.cube_point.specs.declared.point.Entry.{Entry}
 use Rattle.cube_point.specs.declared.point.Shape.{Shape}
 use Rattle.page_fmt.specs.declared.page.TheConstants.{PAGE}
+use Rattle.delta_agg.specs.Joins.{merged_entries}
+use Rattle.tree_pack.specs.Packing.{AreTreeViews}
+use Rattle.tree_pack.specs.Pages.{Views, pages_of}
+use Rattle.tree_scan.specs.Scanning.{entries_of}
 use Rattle.tree_scan.specs.Streaming.{Scanned}
 use Rattle.tree_scan.specs.declared.stop.ScanStop.{ScanStop}
 use Rattle.merge_pack.specs.declared.side.Advance.{Advance}
 use Rattle.merge_pack.specs.declared.side.Advance.TheVariants as advances
-use Rattle.merge_pack.specs.Building.{IsBuilding, IsBuilt, IsDamaged}
+use Rattle.merge_pack.specs.Building.{IsBuilding, IsBuilt, IsCounted, IsDamaged}
 use Rattle.merge_pack.specs.Merging.{Goes, Merger, Merging, closes_full, closes_last, closes_leaf, closes_rest, is_done, moves_point, needs_page, turns_leaf, merging_of, page_of}
 use Rattle.merge_pack.specs.Safe.{IsSafe}
-use Rattle.merge_pack.specs.Stepping.{HasStopped, Steps, files_after, in_memory, pages_made, reads}
-use Rattle.merge_pack.proofs.Building.{done-built, side_after, steps-build, stops-damaged}
+use Rattle.merge_pack.specs.Stepping.{HasStopped, HasTried, Steps, files_after, in_memory, pages_made, reads}
+use Rattle.merge_pack.proofs.Building.{done-built, done-counted, made-few, side_after, steps-build, stops-damaged, written-few}
 
 -- no move changes where the merge reads and writes
 pub record IsSame (v w : Merger) : Type 0 where
@@ -25,7 +30,7 @@ pub record IsSame (v w : Merger) : Type 0 where
 
 pub steps-same : (tells : Bool) (bytes : List ℕ) (v w : Merger) (new : List Entry) (a : Advance) → Steps tells bytes v new a w → IsSame v w
 steps-same tells bytes v w new a (in_memory not goes keeps) = record { file = keeps.file; old_file = ap (λ (s : Scanned). s.file) keeps.scan; shape = ap (λ (s : Scanned). s.shape) keeps.scan }
-steps-same tells bytes v w new a (reads goes has taken file at) = record { file = file; old_file = ap (λ (s : Scanned). s.file) has.scan; shape = ap (λ (s : Scanned). s.shape) has.scan }
+steps-same tells bytes v w new a (reads goes has taken file at olds news) = record { file = file; old_file = ap (λ (s : Scanned). s.file) has.scan; shape = ap (λ (s : Scanned). s.shape) has.scan }
 
 -- the file that is written, and the others
 files-side : (a : Advance) (file number : ℕ) (page : List ℕ) (files : Files) → files_after a file number page files file ≡ side_after a number page (files file)
@@ -55,7 +60,7 @@ again left m n b (is_done none ready over empty rest) is = is_done none ready ov
 
 done-goes : (bytes : List ℕ) (v w : Merger) (new : List Entry) (a : Advance) → Steps true bytes v new a w → a ≡ advances.Done → Goes w.scan.left (merging_of w new) advances.Done (merging_of w new)
 done-goes bytes v w new a (in_memory not goes keeps) is = subst (λ (l : ℕ). Goes l (merging_of w new) advances.Done (merging_of w new)) (sym (ap (λ (s : Scanned). s.left) keeps.scan)) (again v.scan.left (merging_of v new) (merging_of w new) a goes is)
-done-goes bytes v w new a (reads goes has taken file at) is = absurd cc
+done-goes bytes v w new a (reads goes has taken file at olds news) is = absurd cc
 
 -- a move of a run that began with these files and this merge
 module _ (begun now next : Files) (start v w : Merger) (new : List Entry) (a : Advance) (file : v.file ≡ start.file) (old_file : v.scan.file ≡ start.scan.file) (shape : v.scan.shape ≡ start.scan.shape)
@@ -88,6 +93,27 @@ module _ (begun now next : Files) (start v w : Merger) (new : List Entry) (a : A
         subst (λ (s : Shape). IsBuilt (begun start.scan.file) s old_first total first new front (next start.file) w.at.next_page) (same.shape ∙ shape)
         (done-built (begun start.scan.file) old_first total first new front (next start.file) w safe_next builds (merging_of w new) advances.Done goes refl)
 
+    pub counted-all : PAGE * v.at.next_page ≤ length (now v.file) → length (page_of a v.at) ≡ 4096 * pages_made a → a ≡ advances.Done → IsSafe w new → IsCounted (begun start.scan.file) start.scan.shape old_first total new w
+    counted-all reach long done safe_next =
+        let builds = builds-next reach long in
+        let same = steps-same true (begun start.scan.file) v w new a known in
+        let goes = done-goes (begun start.scan.file) v w new a known done in
+        subst (λ (s : Shape). IsCounted (begun start.scan.file) s old_first total new w) (same.shape ∙ shape)
+        (done-counted (begun start.scan.file) old_first total first new front (next start.file) w safe_next builds (merging_of w new) advances.Done goes refl)
+
+-- no more writes are tried than the tree has pages
+pub tries-few : (bytes : List ℕ) (shape : Shape) (old_first total first : ℕ) (new : List Entry) (front side : List ℕ) (v : Merger) → v.scan.shape ≡ shape → IsSafe v new → IsBuilding bytes old_first total first new front side v
+    → (before after : ℕ) → HasTried v new before after → (views : Views) → AreTreeViews shape views (merged_entries (entries_of shape bytes old_first total) new)
+    → after + v.at.next_page ≤ before + first + length (pages_of shape first views)
+tries-few bytes shape old_first total first new front side v same safe is before after tried views are =
+    subst (λ (s : Shape). after + v.at.next_page ≤ before + first + length (pages_of s first views)) same
+    (by tried (subst (λ (s : Shape). AreTreeViews s views (merged_entries (entries_of s bytes old_first total) new)) (sym same) are))
+  where
+    by : HasTried v new before after → AreTreeViews v.scan.shape views (merged_entries (entries_of v.scan.shape bytes old_first total) new)
+        → after + v.at.next_page ≤ before + first + length (pages_of v.scan.shape first views)
+    by (inl none) are = omega (arith, none, written-few bytes old_first total first new front side v safe is views are)
+    by (inr (a, n, goes, one)) are = omega (arith, one, made-few bytes old_first total first new front side v safe is views are n a goes)
+
 -- where the run stops
 pub stops-next : (begun now : Files) (start v : Merger) (new : List Entry) (old_file : v.scan.file ≡ start.scan.file) (shape : v.scan.shape ≡ start.scan.shape) → ((g : ℕ) → g ≢ start.file → now g ≡ begun g)
     → (tells : Bool) → IsTrue tells → start.file ≢ start.scan.file → IsSafe v new → (stop : ScanStop) → HasStopped tells (now v.scan.file) v new stop → (old_first total first : ℕ) (front side : List ℕ)
@@ -100,20 +126,6 @@ stops-next begun now start v new old_file shape others tells telling apart safe 
 
 -- ---- what a stop leaves
 
-torn-differs : (file from at n end : ℕ) (x y : Files) → from ≤ at → Torn file at n end x y → DiffersPast file from x y
-torn-differs file from at n end x y low torn = record {
-  others = torn.others;
-  no_shorter = torn.bytes.no_shorter;
-  before = λ i inside under. torn.bytes.before i inside (omega (arith, under, low));
-}
-
-differs-then : (file from : ℕ) (x y z : Files) → DiffersPast file from x y → DiffersPast file from y z → DiffersPast file from x z
-differs-then file from x y z first second = record {
-  others = λ g not. second.others g not ∙ first.others g not;
-  no_shorter = omega (arith, first.no_shorter, second.no_shorter);
-  before = λ i inside under. second.before i (omega (arith, inside, first.no_shorter)) under ∙ first.before i inside under;
-}
-
 pub step-differs : (file from at n end : ℕ) (a b c : Disk) → from ≤ at → Changes (DiffersPast file from) a b → Changes (Torn file at n end) b c → Changes (DiffersPast file from) a c
 step-differs file from at n end a b c low so_far step =
-    Changes-then (DiffersPast file from) a b c (differs-then file from) so_far (Changes-wider (Torn file at n end) (DiffersPast file from) b c (λ x y. torn-differs file from at n end x y low) step)
+    Changes-then (DiffersPast file from) a b c (past-then file from) so_far (Changes-wider (Torn file at n end) (DiffersPast file from) b c (λ x y. torn-past file from at n end x y low) step)

@@ -16,8 +16,9 @@ use Rattle.tree_scan.specs.declared.stop.ScanStop.{ScanStop}
 use Rattle.tree_scan.specs.declared.stop.ScanStop.TheVariants as stops
 use Rattle.merge_pack.specs.declared.side.Advance.{Advance}
 use Rattle.merge_pack.specs.declared.side.Advance.TheVariants as advances
-use Rattle.merge_pack.specs.Merging.{Goes, IsApart, IsNext, Keeps, MayTakeNext, Merger, Merging, closes_full, closes_last, closes_leaf, closes_rest, is_done, merging_of, moves_point, needs_page, next_both, next_new, next_old, turns_leaf}
-use Rattle.merge_pack.specs.Safe.{AreSound, IsLed, IsSafe, falls, may_come}
+use Rattle.merge_pack.specs.Merging.{Goes, IsApart, IsNext, KeepsOn, MayTakeNext, Merger, Merging, closes_full, closes_last, closes_leaf, closes_rest, is_done, merging_of, moved_on, moves_point, needs_page, new_after, next_both, next_new, next_old, old_after, turns_leaf}
+use Rattle.merge_pack.specs.Safe.{AreCounts, AreSound, IsLed, IsSafe, MayCount, falls, may_come}
+use Rattle.merge_pack.proofs.Counting.{goes-counts, may-less}
 use Rattle.merge_pack.specs.Stepping.{HasRefused, HasStopped, Steps, in_memory, pages_made, pages_read, reads}
 use Rattle.site_core.specs.Disk.{Files}
 use Rattle.merge_pack.proofs.Falling.{goes-falls, read-falls}
@@ -41,7 +42,7 @@ next-held hs ds e h d (next_old on) = omega arith
 next-held hs ds e h d (next_new on) = omega arith
 next-held hs ds e h d (next_both on fits) = omega arith
 
-goes-held : (left : ℕ) (m n : Merging) (a : Advance) → Goes left m a n → length n.held ≤ length m.held
+pub goes-held : (left : ℕ) (m n : Merging) (a : Advance) → Goes left m a n → length n.held ≤ length m.held
 goes-held left m n a (closes_full full) = omega arith
 goes-held left m n a (closes_leaf none full) = omega arith
 goes-held left m n a (needs_page none room_left empty some) = omega arith
@@ -113,10 +114,17 @@ page-case advances.Page = inl refl
 page-case advances.Point = inr (λ e. cc)
 page-case advances.Done = inr (λ e. cc)
 
-module _ (tells : Bool) (files : Files) (v u w : Merger) (new : List Entry) (a : Advance) (goes : Goes v.scan.left (merging_of v new) a (merging_of u new)) (keeps : Keeps v u)
+module _ (tells : Bool) (files : Files) (v u w : Merger) (new : List Entry) (a : Advance) (goes : Goes v.scan.left (merging_of v new) a (merging_of u new)) (keeps : KeepsOn a new v u)
     (taken : a ≡ advances.Page → HasTaken tells (files u.scan.file) u.scan w.scan) (idle : (a ≡ advances.Page → ⊥) → w.scan ≡ u.scan) (kept : w ≡ record u { scan = w.scan }) where
   pub page-scan : a ≡ advances.Page → u.scan ≡ v.scan
   page-scan page = keeps.scan ∙ ap (λ (x : Merging). record v.scan { held = x.held }) (goes-page_is v.scan.left (merging_of v new) (merging_of u new) a goes page)
+
+  -- no point is counted
+  page-olds : a ≡ advances.Page → u.old_counts ≡ v.old_counts
+  page-olds page = keeps.old_counts ∙ ap (λ (b : Advance). old_after (moved_on b v.scan.held (drop v.taken new)) v.scan.held (drop v.taken new) v.old_counts) page
+
+  page-news : a ≡ advances.Page → u.new_counts ≡ v.new_counts
+  page-news page = keeps.new_counts ∙ ap (λ (b : Advance). new_after (moved_on b v.scan.held (drop v.taken new)) v.scan.held (drop v.taken new) v.new_counts) page
 
   pub step-steps : Steps tells (files v.scan.file) v new a w
   step-steps = elim (page-case a) [
@@ -127,7 +135,9 @@ module _ (tells : Bool) (files : Files) (v u w : Merger) (new : List Entry) (a :
         (subst (λ (s : Scanned). HasTaken tells (files s.file) s w.scan) (page-scan page) (taken page))
         (ap (λ (x : Merger). drop x.taken new) kept ∙ ap (λ (x : Merging). x.delta) same)
         (ap (λ (x : Merger). x.file) kept ∙ keeps.file)
-        (ap (λ (x : Merger). x.at) kept ∙ ap (λ (x : Merging). x.at) same))
+        (ap (λ (x : Merger). x.at) kept ∙ ap (λ (x : Merging). x.at) same)
+        (ap (λ (x : Merger). x.old_counts) kept ∙ page-olds page)
+        (ap (λ (x : Merger). x.new_counts) kept ∙ page-news page))
     | inr not ↦
         let same : w ≡ u = kept ∙ ap (λ (s : Scanned). record u { scan = s }) (idle not) in
         subst (Steps tells (files v.scan.file) v new a) (sym same) (in_memory not goes keeps)
@@ -175,7 +185,7 @@ module _ (v : Merger) (new : List Entry) (safe : IsSafe v new) where
   pub number-few : v.at.next_page < 2 ^ 52
   number-few = omega (arith, safe.number)
 
-  number-less : v.at.next_page < 2 ^ 60
+  pub number-less : v.at.next_page < 2 ^ 60
   number-less = omega (arith, safe.number)
 
   -- what a move in memory asks
@@ -185,15 +195,18 @@ module _ (v : Merger) (new : List Entry) (safe : IsSafe v new) where
   pub safe-may : MayTakeNext m
   safe-may = led-may left v.scan.last m safe.sound.shape.measures safe.led
 
+  pub safe-counts : MayCount 0 v.old_counts × MayCount 0 v.new_counts
+  safe-counts = (may-less (falls left m) 0 v.old_counts (omega arith) safe.counts.passed, may-less (falls left m) 0 v.new_counts (omega arith) safe.counts.moved)
+
   pub safe-measures : All (λ (o : Entry). All (λ (d : Entry). o.cell.measures ≡ d.cell.measures) new) v.scan.held
   safe-measures i o lt j d le = (safe.led.held.good i o lt).measures ∙ sym (safe.new_fit j d le).measures
 
-  pub safe-falls : (w : Merger) (a : Advance) → Goes left m a (merging_of w new) → (a ≡ advances.Page → ⊥) → (a ≡ advances.Done → ⊥) → Keeps v w → falls w.scan.left (merging_of w new) < falls left m
+  pub safe-falls : (w : Merger) (a : Advance) → Goes left m a (merging_of w new) → (a ≡ advances.Page → ⊥) → (a ≡ advances.Done → ⊥) → KeepsOn a new v w → falls w.scan.left (merging_of w new) < falls left m
   safe-falls w a goes no_page not_done keeps =
       subst (λ (l : ℕ). falls l (merging_of w new) < falls left m) (sym (ap (λ (s : Scanned). s.left) keeps.scan)) (goes-falls left m (merging_of w new) a safe.sound number-less goes no_page not_done).less
 
   -- and after it
-  pub goes-safe : (w : Merger) (a : Advance) → Goes left m a (merging_of w new) → (a ≡ advances.Page → ⊥) → Keeps v w → w.taken ≤ length new → IsSafe w new
+  pub goes-safe : (w : Merger) (a : Advance) → Goes left m a (merging_of w new) → (a ≡ advances.Page → ⊥) → KeepsOn a new v w → w.taken ≤ length new → IsSafe w new
   goes-safe w a goes no_page keeps within =
       let n = merging_of w new in
       let same_left : left ≡ w.scan.left = sym (ap (λ (s : Scanned). s.left) keeps.scan) in
@@ -209,10 +222,15 @@ module _ (v : Merger) (new : List Entry) (safe : IsSafe v new) where
         number = subst (λ (l : ℕ). w.at.next_page + falls l n < 2 ^ 52) same_left (omega (arith, safe.number, goes-number left m n a safe.sound number-less goes no_page));
         led = subst (λ (l : ℕ). IsLed l w.scan.last n) same_left (subst (λ (p : Option Point). IsLed left p n) same_last (goes-led left v.scan.last m n a safe.led goes));
         read = λ some. omega (arith, same_next, safe.read (omega (arith, some, goes-held left m n a goes)));
+        counts = subst (λ (l : ℕ). AreCounts (falls l n) n.delta new w.old_counts w.new_counts) same_left
+            (subst (λ (olds : List ℕ). AreCounts (falls left n) n.delta new olds w.new_counts) (sym keeps.old_counts)
+            (subst (λ (news : List ℕ). AreCounts (falls left n) n.delta new (old_after (moved_on a m.held m.delta) m.held m.delta v.old_counts) news) (sym keeps.new_counts)
+            (goes-counts left m new v.old_counts v.new_counts safe.sound number-less safe-may safe.counts n a goes)));
       }
 
   -- after a page was read
-  module _ (tells : Bool) (bytes : List ℕ) (w : Merger) (goes : Goes left m advances.Page m) (has : HasTaken tells bytes v.scan w.scan) (taken : drop w.taken new ≡ drop v.taken new) (file : w.file ≡ v.file) (at : w.at ≡ v.at) where
+  module _ (tells : Bool) (bytes : List ℕ) (w : Merger) (goes : Goes left m advances.Page m) (has : HasTaken tells bytes v.scan w.scan) (taken : drop w.taken new ≡ drop v.taken new) (file : w.file ≡ v.file) (at : w.at ≡ v.at)
+      (olds : w.old_counts ≡ v.old_counts) (news : w.new_counts ≡ v.new_counts) where
     abbrev es : List Entry
     es = leaf_entries v.scan.shape has.page
 
@@ -256,26 +274,30 @@ module _ (v : Merger) (new : List Entry) (safe : IsSafe v new) where
       number = of-scan (λ s d a. a.next_page + falls s.left (record { held = s.held; delta = d; at = a }) < 2 ^ 52) (omega (arith, safe.number, less));
       led = of-scan (λ s d a. IsLed s.left s.last (record { held = s.held; delta = d; at = a })) (read-led left (left - 1) v.scan.last m es safe.led empty some points has.may.after);
       read = of-scan (λ s d a. 0 < length s.held → 0 < s.next) (λ _. omega arith);
+      counts = of-scan (λ s d a. AreCounts (falls s.left (record { held = s.held; delta = d; at = a })) d new w.old_counts w.new_counts)
+          (subst (λ (l : List ℕ). AreCounts (falls (left - 1) read_of) m.delta new l w.new_counts) (sym olds)
+          (subst (λ (l : List ℕ). AreCounts (falls (left - 1) read_of) m.delta new v.old_counts l) (sym news)
+          (record { passed = may-less (falls left m) (falls (left - 1) read_of) v.old_counts (omega (arith, less)) safe.counts.passed; moved = may-less (falls left m) (falls (left - 1) read_of) v.new_counts (omega (arith, less)) safe.counts.moved; few = safe.counts.few })));
     }
 
   pub steps-safe : (tells : Bool) (bytes : List ℕ) (a : Advance) (w : Merger) → Steps tells bytes v new a w → w.taken ≤ length new → IsSafe w new
   steps-safe tells bytes a w (in_memory not goes keeps) within = goes-safe w a goes not keeps within
-  steps-safe tells bytes a w (reads goes has taken file at) within = read-safe tells bytes w goes has taken file at within
+  steps-safe tells bytes a w (reads goes has taken file at olds news) within = read-safe tells bytes w goes has taken file at olds news within
 
   pub steps-fall : (tells : Bool) (bytes : List ℕ) (a : Advance) (w : Merger) → Steps tells bytes v new a w → (a ≡ advances.Done → ⊥) → falls w.scan.left (merging_of w new) < falls left m
   steps-fall tells bytes a w (in_memory not goes keeps) not_done = safe-falls w a goes not not_done keeps
-  steps-fall tells bytes a w (reads goes has taken file at) not_done = read-less tells bytes w goes has taken file at
+  steps-fall tells bytes a w (reads goes has taken file at olds news) not_done = read-less tells bytes w goes has taken file at olds news
 
 -- where the cells of the next points do not join, a page was read
+pub apart-some : (hs ds : List Entry) → IsApart hs ds → 0 < length hs
+apart-some [] ds h = absurd h
+apart-some (o ∷ os) ds h = omega arith
+
 pub apart-read : (v : Merger) (new : List Entry) → IsSafe v new → IsApart v.scan.held (drop v.taken new) → 0 < v.scan.next
-apart-read v new safe apart = safe.read (some v.scan.held (drop v.taken new) apart)
-  where
-    some : (hs ds : List Entry) → IsApart hs ds → 0 < length hs
-    some [] ds h = absurd h
-    some (o ∷ os) ds h = omega arith
+apart-read v new safe apart = safe.read (apart-some v.scan.held (drop v.taken new) apart)
 
 -- a call that is refused is the read of the next page
-pub call-stopped : (tells : Bool) (files : Files) (v u : Merger) (new : List Entry) (a : Advance) (stop : ScanStop) → Goes v.scan.left (merging_of v new) a (merging_of u new) → Keeps v u
+pub call-stopped : (tells : Bool) (files : Files) (v u : Merger) (new : List Entry) (a : Advance) (stop : ScanStop) → Goes v.scan.left (merging_of v new) a (merging_of u new) → KeepsOn a new v u
     → HasRefused a tells (files u.scan.file) u.scan stop → HasStopped tells (files v.scan.file) v new stop
 call-stopped tells files v u new a stops.Disk goes keeps refused = tt
 call-stopped tells files v u new a (stops.Damaged page) goes keeps refused =
@@ -296,8 +318,8 @@ steps-left tells bytes v w new a (in_memory not goes keeps) = omega (arith, ap (
     none advances.Page not = absurd (not refl)
     none advances.Point not = refl
     none advances.Done not = refl
-steps-left tells bytes v w new a (reads goes has taken file at) = omega (arith, ap (λ (s : Scanned). s.left) has.scan, (goes-page v.scan.left (merging_of v new) (merging_of v new) advances.Page goes refl).1)
+steps-left tells bytes v w new a (reads goes has taken file at olds news) = omega (arith, ap (λ (s : Scanned). s.left) has.scan, (goes-page v.scan.left (merging_of v new) (merging_of v new) advances.Page goes refl).1)
 
 pub steps-next : (tells : Bool) (bytes : List ℕ) (v w : Merger) (new : List Entry) (a : Advance) → Steps tells bytes v new a w → w.at.next_page ≡ v.at.next_page + pages_made a
 steps-next tells bytes v w new a (in_memory not goes keeps) = goes-next v.scan.left (merging_of v new) (merging_of w new) a goes
-steps-next tells bytes v w new a (reads goes has taken file at) = omega (arith, ap (λ (x : Moving). x.next_page) at)
+steps-next tells bytes v w new a (reads goes has taken file at olds news) = omega (arith, ap (λ (x : Moving). x.next_page) at)

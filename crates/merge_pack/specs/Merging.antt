@@ -1,5 +1,5 @@
 -- The merge of an old tree with new points, between two moves.
-use Rattle.std.specs.Prelude.{◌≡◌, ◌≤◌, ◌<◌, ℕ, true, false, List, [], ◌∷◌, ◌++◌, Option, Some, None, Bool, ◌==◌, not, drop, length}
+use Rattle.std.specs.Prelude.{◌≡◌, ◌≤◌, ◌<◌, ℕ, true, false, List, [], ◌∷◌, ◌++◌, Option, Some, None, Bool, ◌==◌, ◌+◌, not, drop, length, set, slice_index}
 use Rattle.std.specs.declared.cmp.Ordering.{Ordering}
 use Rattle.std.specs.declared.cmp.Ordering.TheVariants.{Less, Equal, Greater}
 use Rattle.fact_model.specs.Cell.{FitCells}
@@ -39,6 +39,9 @@ pub record Merger : Type 0 where
   -- the leaf and the inner page that were made last
   pub leaf : List ℕ
   pub inner : List ℕ
+  -- by arity, how many old points were passed over, and how many points were moved
+  pub old_counts : List ℕ
+  pub new_counts : List ℕ
 
 -- what a merge holds of these new points
 abbrev pub merging_of : Merger → List Entry → Merging
@@ -130,10 +133,44 @@ IsApart [] ds = ⊥
 IsApart (o ∷ os) [] = ⊥
 IsApart (o ∷ os) (d ∷ ds) = (point_cmp o.point.at d.point.at ≡ Equal) × (FitCells o.cell d.cell → ⊥)
 
--- a move in memory changes of the scan what it holds alone
-pub record Keeps (v w : Merger) : Type 0 where
+-- one more of this arity
+abbrev pub one_more : ℕ → List ℕ → List ℕ
+one_more arity counts = set counts arity (slice_index counts arity + 1)
+
+-- the side of the point that is moved; None where none is
+abbrev pub moved_on : Advance → List Entry → List Entry → Option Side
+moved_on advances.Point held delta = side_of held delta
+moved_on advances.Leaf held delta = None
+moved_on advances.Inner held delta = None
+moved_on advances.Page held delta = None
+moved_on advances.Done held delta = None
+
+-- the numbers of the points moved, behind the next point on that side
+abbrev pub new_after : Option Side → List Entry → List Entry → List ℕ → List ℕ
+new_after None held delta counts = counts
+new_after (Some side) held delta counts = one_more (arity_on side held delta) counts
+
+-- the numbers of old points, behind a point of this side and arity
+abbrev pub counted_on : Side → ℕ → List ℕ → List ℕ
+counted_on sides.Old arity counts = one_more arity counts
+counted_on sides.Both arity counts = one_more arity counts
+counted_on sides.New arity counts = counts
+
+-- the numbers of the old points passed over, behind the next point on that side
+abbrev pub old_after : Option Side → List Entry → List Entry → List ℕ → List ℕ
+old_after None held delta counts = counts
+old_after (Some side) held delta counts = counted_on side (arity_on side held delta) counts
+
+-- of the scan what it holds alone is changed, and the next point is counted, where it is moved on that side
+pub record Keeps (side : Option Side) (new : List Entry) (v w : Merger) : Type 0 where
   pub scan : w.scan ≡ record v.scan { held = w.scan.held }
   pub file : w.file ≡ v.file
+  pub old_counts : w.old_counts ≡ old_after side v.scan.held (drop v.taken new) v.old_counts
+  pub new_counts : w.new_counts ≡ new_after side v.scan.held (drop v.taken new) v.new_counts
+
+-- the same of a move in memory
+abbrev pub KeepsOn : Advance → List Entry → Merger → Merger → Type 0
+KeepsOn advance new v w = Keeps (moved_on advance v.scan.held (drop v.taken new)) new v w
 
 -- the level that is closed next
 abbrev pub lowest_due : Option ℕ → Option ℕ → ℕ

@@ -1,11 +1,11 @@
 //! The merge of one tree.
 
-ghost use Rattle.std.specs.Prelude.{◌≡◌, ◌≢◌, ◌<◌, ◌≤◌, ◌+◌, ◌*◌, ◌^◌, ℕ, List, [], ◌∷◌, Some, None, false, drop, length, IfOk, IfErr, OnOk, OnErr, IsTrue};
+ghost use Rattle.std.specs.Prelude.{◌≡◌, ◌≢◌, ◌<◌, ◌≤◌, ◌+◌, ◌*◌, ◌^◌, ℕ, List, [], ◌∷◌, Some, None, false, drop, length, replicate, IfOk, IfErr, OnOk, OnErr, IsTrue};
 ghost use Rattle.fact_model.specs.Cell.{FitCells};
 ghost use Rattle.cube_point.specs.declared.point.Entry as declared;
 ghost use Rattle.view_points.specs.Entries.{both};
 ghost use Rattle.tree_pack.specs.Moving.{HasPageIn, HasRoomIn, begun, with_point};
-ghost use Rattle.merge_pack.specs.Merging.{Goes, IsNext, MayTake, MayTakeNext, MovesPoint, IsApart, Keeps, Makes, Merger, NeedsNoPage, arity_on, merging_of, page_of, side_of, turns_at};
+ghost use Rattle.merge_pack.specs.Merging.{Goes, IsNext, MayTake, MayTakeNext, MovesPoint, IsApart, Keeps, KeepsOn, Makes, Merger, NeedsNoPage, arity_on, merging_of, counted_on, one_more, page_of, side_of, turns_at};
 ghost use Rattle.packing.specs.Levels.{full_level, rest_level};
 ghost use Rattle.page_fmt.specs.Trees.{fanout_of};
 ghost use Rattle.page_fmt.specs.Writing.{IsShape, leaf_arity};
@@ -15,18 +15,22 @@ ghost use Rattle.site_core.specs.Calls.{Changes};
 ghost use Rattle.site_core.specs.Disk.{Torn, DiffersPast};
 ghost use Rattle.site_core.specs.Causes.{HasCauseWhere};
 ghost use Rattle.site_core.specs.Frames.{Calls, CallsOnly};
-ghost use Rattle.tree_scan.specs.Scanning.{ArePoints};
+ghost use Rattle.tree_pack.specs.Packing.{AreTreeViews};
+ghost use Rattle.tree_pack.specs.Pages.{Views, pages_of};
+ghost use Rattle.delta_agg.specs.Joins.{merged_entries};
+ghost use Rattle.tree_scan.specs.Scanning.{NamesPage, entries_of};
 ghost use Rattle.tree_scan.specs.Streaming.{HasTaken, at_start};
-ghost use Rattle.merge_pack.specs.Building.{IsBuilding, IsBuilt, IsDamaged};
-ghost use Rattle.merge_pack.specs.Safe.{IsSafe, falls};
-ghost use Rattle.merge_pack.specs.Stepping.{HasRefused, HasStopped, Steps, files_after, made_last, pages_made, pages_read};
+ghost use Rattle.merge_pack.specs.Building.{IsBuilding, IsBuilt, IsCounted, IsDamaged, MayMerge};
+ghost use Rattle.merge_pack.specs.Few.{AreFewPoints, HasFewPages, HoldAtMost, most_pages, total};
+ghost use Rattle.merge_pack.specs.Safe.{IsSafe, MayCount, falls};
+ghost use Rattle.merge_pack.specs.Stepping.{HasRefused, HasStopped, HasTried, Steps, files_after, made_last, pages_made, pages_read};
 
 use crate::side::{Advance, Side};
 use crate::step::write_page;
 use cube_point::Entry;
 use delta_agg::{DoesNotJoin, joined};
 use fact_model::Memory;
-use page_fmt::Place;
+use page_fmt::{ARITIES, Place};
 use site_core::Site;
 use std::alloc::Global;
 use std::cmp::Ordering;
@@ -96,12 +100,14 @@ pub struct Merge {
     packer: Packer,
     taken: usize,
     file: u32,
+    old_counts: [u64; ARITIES],
+    new_counts: [u64; ARITIES],
 }
 
 impl Model for Merge {
     ghost Value = { Merger };
 
-    ghost view = { λ s. record { scan = s.scan; taken = s.taken; file = s.file; at = s.packer.at; leaf = s.packer.leaf; inner = s.packer.inner } };
+    ghost view = { λ s. record { scan = s.scan; taken = s.taken; file = s.file; at = s.packer.at; leaf = s.packer.leaf; inner = s.packer.inner; old_counts = s.old_counts; new_counts = s.new_counts } };
 }
 
 impl Merge {
@@ -112,7 +118,7 @@ impl Merge {
         requires measures { All (λ o. All (λ d. o.cell.measures ≡ d.cell.measures) delta.now) self.old.scan.held }
         requires may { (e : declared.Entry) (h d : List declared.Entry) → IsNext self.old.scan.held (drop self.old.taken delta.now) e h d → MayTake self.old.at e }
         ensures moved { OnOk result (MovesPoint (merging_of self.old delta.now) (merging_of self.new delta.now)) }
-        ensures kept { OnOk result (Keeps self.old self.new) }
+        ensures kept { OnOk result (Keeps None delta.now self.old self.new) }
         ensures within { OnOk result (self.new.taken ≤ length delta.now) }
         ensures apart { OnErr result (IsApart self.old.scan.held (drop self.old.taken delta.now)) }
     {
@@ -130,19 +136,39 @@ impl Merge {
         Ok(())
     }
 
-    /// Whether the buffer is of another arity than the next point, which is on this side.
-    fn turns(&self, delta: &[Entry], side: Side) -> bool
+    /// The arity of the next point, which is on this side.
+    fn arity_on(&self, delta: &[Entry], side: Side) -> u8
         requires within { self.now.taken ≤ length delta.now }
         requires side { side_of self.now.scan.held (drop self.now.taken delta.now) ≡ Some side }
-        ensures { result ≡ turns_at self.now.at.buffer (arity_on side self.now.scan.held (drop self.now.taken delta.now)) }
+        ensures { result ≡ arity_on side self.now.scan.held (drop self.now.taken delta.now) }
     {
-        let next = match side {
+        match side {
             Side::New => delta[self.taken].point.arity,
             Side::Old | Side::Both => self.old_arity(),
-        };
+        }
+    }
+
+    /// Whether the buffer is of another arity.
+    fn turns(&self, arity: u8) -> bool
+        ensures { result ≡ turns_at self.now.at.buffer arity }
+    {
         match self.packer.arity() {
-            Some(arity) => arity != next,
+            Some(buffered) => buffered != arity,
             None => false,
+        }
+    }
+
+    /// Counts a point of this side and arity.
+    fn count(&mut self, side: Side, arity: u8)
+        requires arity { arity ≤ 8 }
+        requires old { MayCount 0 self.old.old_counts }
+        requires new { MayCount 0 self.old.new_counts }
+        ensures { self.new ≡ record self.old { old_counts = counted_on side arity self.old.old_counts; new_counts = one_more arity self.old.new_counts } }
+    {
+        self.new_counts[arity as usize] += 1;
+        match side {
+            Side::New => {}
+            Side::Old | Side::Both => self.old_counts[arity as usize] += 1,
         }
     }
 
@@ -162,21 +188,25 @@ impl Merge {
         requires side { side_of self.old.scan.held (drop self.old.taken delta.now) ≡ Some side }
         requires measures { All (λ o. All (λ d. o.cell.measures ≡ d.cell.measures) delta.now) self.old.scan.held }
         requires none { full_level (fanout_of self.old.at.shape) self.old.at.levels ≡ None }
+        requires dims { self.old.at.shape.dims ≤ 8 }
+        requires counts { MayCount 0 self.old.old_counts × MayCount 0 self.old.new_counts }
         requires room_left { is_full self.old.at.shape self.old.at.buffer ≡ false }
         requires leaf_room { HasRoomIn 0 self.old.at }
         requires may { (e : declared.Entry) (h d : List declared.Entry) → turns_at self.old.at.buffer (arity_on side self.old.scan.held (drop self.old.taken delta.now)) ≡ false
             → IsNext self.old.scan.held (drop self.old.taken delta.now) e h d → MayTake self.old.at e }
         ensures goes { (left : ℕ) → NeedsNoPage left (merging_of self.old delta.now) → IfOk result (λ advance. Goes left (merging_of self.old delta.now) advance (merging_of self.new delta.now)) }
-        ensures kept { OnOk result (Keeps self.old self.new) }
+        ensures kept { IfOk result (λ advance. KeepsOn advance delta.now self.old self.new) }
         ensures within { OnOk result (self.new.taken ≤ length delta.now) }
         ensures makes { IfOk result (λ advance. Makes advance self.old self.new) }
         ensures apart { OnErr result (IsApart self.old.scan.held (drop self.old.taken delta.now)) }
     {
-        if self.turns(delta, side) {
+        let arity = self.arity_on(delta, side);
+        if self.turns(arity) {
             self.packer.close_leaf();
             return Ok(Advance::Leaf);
         }
         self.move_point(delta, side)?;
+        self.count(side, arity);
         Ok(Advance::Point)
     }
 
@@ -187,7 +217,7 @@ impl Merge {
         requires rest_page { (i : ℕ) → rest_level self.old.at.levels ≡ Some i → HasPageIn i self.old.at }
         ensures goes { (left : ℕ) (delta : List declared.Entry) → NeedsNoPage left (merging_of self.old delta) → side_of self.old.scan.held (drop self.old.taken delta) ≡ None
             → Goes left (merging_of self.old delta) result (merging_of self.new delta) }
-        ensures kept { Keeps self.old self.new }
+        ensures kept { (delta : List declared.Entry) → Keeps None delta self.old self.new }
         ensures taken { self.new.taken ≡ self.old.taken }
         ensures makes { Makes result self.old self.new }
     {
@@ -223,9 +253,11 @@ impl Merge {
         requires full_page { (i : ℕ) → full_level (fanout_of self.old.at.shape) self.old.at.levels ≡ Some i → HasPageIn i self.old.at }
         requires rest_page { (i : ℕ) → rest_level self.old.at.levels ≡ Some i → HasPageIn i self.old.at }
         requires leaf_room { full_level (fanout_of self.old.at.shape) self.old.at.levels ≡ None → HasRoomIn 0 self.old.at }
+        requires dims { self.old.at.shape.dims ≤ 8 }
+        requires counts { MayCount 0 self.old.old_counts × MayCount 0 self.old.new_counts }
         requires may { MayTakeNext (merging_of self.old delta.now) }
         ensures goes { IfOk result (λ advance. Goes left (merging_of self.old delta.now) advance (merging_of self.new delta.now)) }
-        ensures kept { OnOk result (Keeps self.old self.new) }
+        ensures kept { IfOk result (λ advance. KeepsOn advance delta.now self.old self.new) }
         ensures within { OnOk result (self.new.taken ≤ length delta.now) }
         ensures makes { IfOk result (λ advance. Makes advance self.old self.new) }
         ensures apart { OnErr result (IsApart self.old.scan.held (drop self.old.taken delta.now)) }
@@ -254,6 +286,8 @@ impl Merge {
             packer: Packer::new(alloc)?,
             taken: 0,
             file: 0,
+            old_counts: [0; ARITIES],
+            new_counts: [0; ARITIES],
         })
     }
 
@@ -266,11 +300,29 @@ impl Merge {
         ensures taken { self.new.taken ≡ 0 }
         ensures file { self.new.file ≡ file }
         ensures at { self.new.at ≡ begun old.now.shape first }
+        ensures old_counts { self.new.old_counts ≡ replicate 9 0 }
+        ensures new_counts { self.new.new_counts ≡ replicate 9 0 }
     {
         self.scan.start(old.file, old.first, old.pages, old.shape);
         self.packer.start(old.shape, first);
         self.taken = 0;
         self.file = file;
+        self.old_counts = [0; ARITIES];
+        self.new_counts = [0; ARITIES];
+    }
+
+    /// How many old points of each arity the tree had, as far as it was merged.
+    pub fn old_counts(&self) -> [u64; ARITIES]
+        ensures { result ≡ self.now.old_counts }
+    {
+        self.old_counts
+    }
+
+    /// How many points of each arity the new tree has, as far as it was merged.
+    pub fn new_counts(&self) -> [u64; ARITIES]
+        ensures { result ≡ self.now.new_counts }
+    {
+        self.new_counts
     }
 
     /// Makes the next move, with at most one call on a file: the write of the page that was made, or the read of the next old page. It
@@ -284,6 +336,7 @@ impl Merge {
 
         ensures steps { IfOk result (λ advance. Steps T.tells ((T.disk site.old).files self.old.scan.file) self.old delta.now advance self.new) }
         ensures stopped { IfErr result (HasStopped T.tells ((T.disk site.old).files self.old.scan.file) self.old delta.now) }
+        ensures tried { OnErr result (HasTried self.old delta.now (T.writes site.old) (T.writes site.new)) }
         ensures safe { OnOk result (IsSafe self.new delta.now) }
         ensures falls { IfOk result (λ advance. (advance ≡ Advance.Done → ⊥)
             → falls self.new.scan.left (merging_of self.new delta.now) < falls self.old.scan.left (merging_of self.old delta.now)) }
@@ -343,17 +396,30 @@ impl Merge {
         requires safe { IsSafe self.old delta.now }
         requires place { IsTrue T.tells → 4096 * self.old.at.next_page ≤ length ((T.disk site.old).files self.old.file) }
 
-        ensures built { IsTrue T.tells → self.old.file ≢ self.old.scan.file → OnOk result ((old_first total first : ℕ) (front : List ℕ)
-            → IsBuilding ((T.disk site.old).files self.old.scan.file) old_first total first delta.now front ((T.disk site.old).files self.old.file) self.old
-            → IsBuilt ((T.disk site.old).files self.old.scan.file) self.old.scan.shape old_first total first delta.now front
+        ensures built { IsTrue T.tells → self.old.file ≢ self.old.scan.file → OnOk result ((old_first pages first : ℕ) (front : List ℕ)
+            → IsBuilding ((T.disk site.old).files self.old.scan.file) old_first pages first delta.now front ((T.disk site.old).files self.old.file) self.old
+            → IsBuilt ((T.disk site.old).files self.old.scan.file) self.old.scan.shape old_first pages first delta.now front
             ((T.disk site.new).files self.old.file) self.new.at.next_page) }
-        ensures damaged { IsTrue T.tells → self.old.file ≢ self.old.scan.file → IfErr result (λ stop. (old_first total first : ℕ) (front : List ℕ)
-            → IsBuilding ((T.disk site.old).files self.old.scan.file) old_first total first delta.now front ((T.disk site.old).files self.old.file) self.old
-            → IsDamaged ((T.disk site.old).files self.old.scan.file) self.old.scan.shape old_first total delta.now stop) }
+        ensures counted { IsTrue T.tells → self.old.file ≢ self.old.scan.file → OnOk result ((old_first pages first : ℕ) (front : List ℕ)
+            → IsBuilding ((T.disk site.old).files self.old.scan.file) old_first pages first delta.now front ((T.disk site.old).files self.old.file) self.old
+            → IsCounted ((T.disk site.old).files self.old.scan.file) self.old.scan.shape old_first pages delta.now self.new) }
+        ensures damaged { IsTrue T.tells → self.old.file ≢ self.old.scan.file → IfErr result (λ stop. (old_first pages first : ℕ) (front : List ℕ)
+            → IsBuilding ((T.disk site.old).files self.old.scan.file) old_first pages first delta.now front ((T.disk site.old).files self.old.file) self.old
+            → IsDamaged ((T.disk site.old).files self.old.scan.file) self.old.scan.shape old_first pages delta.now stop) }
+        ensures tried { IsTrue T.tells → self.old.file ≢ self.old.scan.file → (old_first pages first : ℕ) (front : List ℕ) (views : Views)
+            → IsBuilding ((T.disk site.old).files self.old.scan.file) old_first pages first delta.now front ((T.disk site.old).files self.old.file) self.old
+            → AreTreeViews self.old.scan.shape views (merged_entries (entries_of self.old.scan.shape ((T.disk site.old).files self.old.scan.file) old_first pages) delta.now)
+            → T.writes site.new + self.old.at.next_page ≤ T.writes site.old + first + length (pages_of self.old.scan.shape first views) }
+        ensures names { self.old.scan.held ≡ [] → IfErr result (NamesPage self.old.scan.next self.old.scan.left) }
+        ensures few { OnOk result ((pages : ℕ) → HoldAtMost pages self.old → AreFewPoints pages delta.now self.new) }
+        ensures pages { (first : ℕ) → HasFewPages first (total self.old.new_counts) self.old.scan.left (merging_of self.old delta.now)
+            → OnOk result (self.new.at.next_page ≤ first + most_pages (total self.new.new_counts)) }
+        ensures behind { OnOk result (self.old.at.next_page ≤ self.new.at.next_page) }
+        ensures reach { IsTrue T.tells → OnOk result (4096 * self.new.at.next_page ≤ length ((T.disk site.new).files self.old.file)) }
         ensures others { IsTrue T.tells → (g : ℕ) → g ≢ self.old.file → (T.disk site.new).files g ≡ (T.disk site.old).files g }
         ensures disk { IsTrue T.tells → Changes (DiffersPast self.old.file (4096 * self.old.at.next_page)) (T.disk site.old) (T.disk site.new) }
         ensures calls { Calls T.Site (HasCauseWhere ScanStop.Disk) self.old.scan.left site.old site.new result }
-        ensures writes { OnOk result (T.writes site.new + self.old.at.next_page ≤ T.writes site.old + self.new.at.next_page) }
+        ensures wrote { OnOk result (T.writes site.new + self.old.at.next_page ≤ T.writes site.old + self.new.at.next_page) }
     {
         loop {
             if self.step(delta, site)? == Advance::Done {
@@ -363,7 +429,10 @@ impl Merge {
     }
 
     /// Merges a whole tree of points with new points, into the pages of a file from page `first` on; answers the number behind the last of
-    /// them.
+    /// them. `old_counts` and `new_counts` tell then how many points both trees have. Each page is written once, in their order.
+    ///
+    /// `Damaged` names the first page of the old tree that does not fit: it is short, not lawful, out of order, or has a cell that does not
+    /// join with that of the new point there.
     pub fn merge_tree<T: Site>(
         &mut self,
         old: &Place,
@@ -372,25 +441,28 @@ impl Merge {
         first: u64,
         site: &mut T,
     ) -> Result<u64, ScanStop>
-        requires old_file { old.now.file < 4 }
-        requires few { old.now.first + old.now.pages ≤ 2 ^ 50 }
-        requires shape { IsShape old.now.shape }
-        requires delta { ArePoints old.now.shape delta.now }
-        requires pages { old.now.pages ≤ 2 ^ 41 }
-        requires points { length delta.now ≤ 2 ^ 44 }
-        requires file { file < 4 }
-        requires first { first ≤ 2 ^ 50 }
-        requires other { file ≢ old.now.file }
+        requires may { MayMerge old.now delta.now file first }
         requires place { IsTrue T.tells → 4096 * first ≤ length ((T.disk site.old).files file) }
 
         ensures built { IsTrue T.tells → IfOk result (λ next.
             IsBuilt ((T.disk site.old).files old.now.file) old.now.shape old.now.first old.now.pages first delta.now ((T.disk site.old).files file)
             ((T.disk site.new).files file) next) }
+        ensures counted { IsTrue T.tells → OnOk result (IsCounted ((T.disk site.old).files old.now.file) old.now.shape old.now.first old.now.pages delta.now self.new) }
         ensures damaged { IsTrue T.tells → IfErr result (IsDamaged ((T.disk site.old).files old.now.file) old.now.shape old.now.first old.now.pages delta.now) }
+        ensures tried { IsTrue T.tells → (views : Views)
+            → AreTreeViews old.now.shape views (merged_entries (entries_of old.now.shape ((T.disk site.old).files old.now.file) old.now.first old.now.pages) delta.now)
+            → T.writes site.new ≤ T.writes site.old + length (pages_of old.now.shape first views) }
+
+        // Whatever the file holds.
+        ensures names { IfErr result (NamesPage old.now.first old.now.pages) }
+        ensures few { OnOk result (AreFewPoints old.now.pages delta.now self.new) }
+        ensures pages { IfOk result (λ next. next ≤ first + most_pages (total self.new.new_counts)) }
+        ensures behind { IfOk result (λ next. first ≤ next) }
+        ensures reach { IsTrue T.tells → IfOk result (λ next. 4096 * next ≤ length ((T.disk site.new).files file)) }
         ensures others { IsTrue T.tells → (g : ℕ) → g ≢ file → (T.disk site.new).files g ≡ (T.disk site.old).files g }
         ensures disk { IsTrue T.tells → Changes (DiffersPast file (4096 * first)) (T.disk site.old) (T.disk site.new) }
         ensures calls { Calls T.Site (HasCauseWhere ScanStop.Disk) old.now.pages site.old site.new result }
-        ensures writes { IfOk result (λ next. T.writes site.new + first ≤ T.writes site.old + next) }
+        ensures wrote { IfOk result (λ next. T.writes site.new + first ≤ T.writes site.old + next) }
     {
         self.start(old, file, first);
         self.run(delta, site)?;

@@ -1,17 +1,16 @@
 -- A page behind the last point of the pages before it.
 use Rattle.std.proofs.Common.{◌≡◌, ◌+◌, ◌-◌, ◌*◌, ◌<◌, ◌≤◌, ℕ, zero, suc, Bool, true, false, List, [], ◌∷◌, ◌++◌, length, Option, Some, None, refl, sym, ap, ◌∙◌, subst, arith}
-use Rattle.std.specs.Prelude.{◌&&◌}
+use Rattle.std.specs.Prelude.{◌&&◌, IsOk}
 use Rattle.std.proofs.lemmas.List.{append-nil}
 use Rattle.cube_point.specs.declared.point.Entry.{Entry}
 use Rattle.cube_point.specs.declared.point.Point.{Point}
 use Rattle.cube_point.specs.declared.point.Shape.{Shape}
 use Rattle.cube_point.specs.Points.{comes_before}
-use Rattle.page_fmt.specs.Taking.{ascend, entry_before}
+use Rattle.page_fmt.specs.Taking.{ascend, entry_before, taken}
 use Rattle.page_fmt.proofs.Laws.{and-both}
 use Rattle.tree_scan.specs.declared.stop.ScanStop.TheVariants as stops
 use Rattle.tree_scan.specs.Scanning.{AreGood, ArePoints, IsFirstBad, entries_of, leaf_entries}
 use Rattle.page_fmt.specs.InFiles.{page_at}
-use Rattle.tree_scan.specs.Steps.{MayFollow}
 use Rattle.tree_scan.specs.Streaming.{HasTaken, IsRefused, IsScanning, MayCome, Scanned, at_start, comes_behind, last_point}
 use Rattle.tree_scan.proofs.Extending.{entries-more, more-good}
 use Rattle.tree_scan.proofs.Orders.{ascend-front, ascend-join, ascend-seam}
@@ -96,16 +95,13 @@ module _ (bytes : List ℕ) (first total : ℕ) (v : Scanned) (is : IsScanning b
       let same : behind-this ≡ count = omega (arith, at, here) in
       ((is.so_far count at).0, ap (entries_of v.shape bytes first) same)
 
-  follows : (page : List ℕ) → ascend entry_before (leaf_entries v.shape page) ≡ true → MayCome v.shape v.next page v.last → MayFollow v.shape v.next page so-far
-  follows page order may = record {
-    lawful = may.lawful;
-    after = behind-ascends so-far (leaf_entries v.shape page) (ordered behind-this here) order (ap (λ (l : Option Point). comes_behind l (leaf_entries v.shape page)) (sym last-is) ∙ may.after);
-  }
+  follows : (page : List ℕ) → ascend entry_before (leaf_entries v.shape page) ≡ true → MayCome v.shape v.next page v.last → ascend entry_before (so-far ++ leaf_entries v.shape page) ≡ true
+  follows page order may = behind-ascends so-far (leaf_entries v.shape page) (ordered behind-this here) order (ap (λ (l : Option Point). comes_behind l (leaf_entries v.shape page)) (sym last-is) ∙ may.after)
 
-  comes : (page : List ℕ) → MayFollow v.shape v.next page so-far → MayCome v.shape v.next page v.last
-  comes page may = record {
-    lawful = may.lawful;
-    after = ap (λ (l : Option Point). comes_behind l (leaf_entries v.shape page)) last-is ∙ ascends-behind so-far (leaf_entries v.shape page) may.after;
+  comes : (page : List ℕ) → IsOk (taken v.shape v.next page) → ascend entry_before (so-far ++ leaf_entries v.shape page) ≡ true → MayCome v.shape v.next page v.last
+  comes page lawful order = record {
+    lawful = lawful;
+    after = ap (λ (l : Option Point). comes_behind l (leaf_entries v.shape page)) last-is ∙ ascends-behind so-far (leaf_entries v.shape page) order;
   }
 
   -- a page that was taken is good too
@@ -116,7 +112,7 @@ module _ (bytes : List ℕ) (first total : ℕ) (v : Scanned) (is : IsScanning b
         from = omega (arith, is.from);
         all = omega (arith, is.all, some);
         so_far = λ count at.
-            let more = more-good v.shape bytes first v.next has.page so-far goods is.from (has.read refl) (follows has.page has.points.order has.may) (so-far ++ es) refl count at in
+            let more = more-good v.shape bytes first v.next has.page so-far goods is.from (has.read refl) has.may.lawful (follows has.page has.points.order has.may) (so-far ++ es) refl count at in
             (more.0, ap (λ (l : Option Point). last_point l es) last-is ∙ (sym (last-more None so-far es) ∙ ap (last_point None) more.1));
       })
 
@@ -127,10 +123,8 @@ module _ (bytes : List ℕ) (first total : ℕ) (v : Scanned) (is : IsScanning b
         from = is.from;
         within = omega (arith, is.all, some);
         before = λ other low high. (is.so_far behind-this here).0 other low (omega (arith, high, here));
-        bad = λ good. bad.1 refl good.whole (comes (page_at bytes v.next) (record {
-          lawful = good.lawful;
-          after = ap (ascend entry_before) (sym (entries-more v.shape bytes first behind-this v.next here)) ∙ good.after (behind-this + 1) (omega (arith, here));
-        }));
+        bad = λ good. bad.1 refl good.whole (comes (page_at bytes v.next) good.lawful
+            (ap (ascend entry_before) (sym (entries-more v.shape bytes first behind-this v.next here)) ∙ good.after (behind-this + 1) (omega (arith, here))));
       })
 
 -- ---- what a page adds

@@ -1,5 +1,5 @@
 -- What the pages of a tree in a file hold, and the first of them that is damaged.
-use Rattle.std.specs.Prelude.{◌≡◌, ℕ, ◌+◌, ◌*◌, ◌<◌, ◌≤◌, ◌==◌, true, List, [], length, flat_map, slice_index, if◌then◌else◌, Result, Ok, Err, IsOk}
+use Rattle.std.specs.Prelude.{◌≡◌, ℕ, ◌+◌, ◌*◌, ◌<◌, ◌≤◌, ◌==◌, true, List, [], length, flat_map, slice_index, if◌then◌else◌, IsOk}
 use Rattle.std.specs.List.{All, range_with_len}
 use Rattle.cube_point.specs.declared.point.Entry.{Entry}
 use Rattle.cube_point.specs.declared.point.Shape.{Shape}
@@ -43,12 +43,6 @@ pub record IsFirstBad (shape : Shape) (bytes : List ℕ) (first count number : �
   pub within : number < first + count
   pub before : (other : ℕ) → first ≤ other → other < number → IsGood shape bytes first other
   pub bad : IsGood shape bytes first number → ⊥
-
--- these are the entries of all pages, which are good; or the first page that is not is told
-abbrev pub IsScanned : Shape → List ℕ → ℕ → ℕ → List Entry → Result (Unit {0}) ScanStop → Type 0
-IsScanned shape bytes first count found (Ok done) = AreGood shape bytes first count × (found ≡ entries_of shape bytes first count)
-IsScanned shape bytes first count found (Err (stops.Damaged page)) = IsFirstBad shape bytes first count page
-IsScanned shape bytes first count found (Err stops.Disk) = Unit {0}
 
 -- points of a tree, whatever the file holds: in order, of arities that it has, and each as a leaf may hold it
 pub record ArePoints (shape : Shape) (es : List Entry) : Type 0 where

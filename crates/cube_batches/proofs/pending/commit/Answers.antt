@@ -1,4 +1,7 @@
 use Rattle.cube_batches.proofs.Takings.{commit_moments, committed_answer}
+use Rattle.std.proofs.Common.{subst, sym}
+use Rattle.cube_state.specs.Stops.{IsNoDamage}
+use Rattle.cube_batches.proofs.Takings.{same_damage}
 use Rattle.cube_batches.proofs.pending.commit.Goals as goal
 
 pub returns-in-Ok-clause-answer : goal.returns-in-Ok-clause-answer
@@ -13,3 +16,7 @@ returns-in-Ok-clause-any_moment g c = λ t warehouse batch is.
 pub returns-in-Err-clause-any_moment : goal.returns-in-Err-clause-any_moment
 returns-in-Err-clause-any_moment g c = λ t warehouse batch is.
     commit_moments c.args.refresh _ _ warehouse batch is (c.finish.ensures.any_moment t warehouse.facts batch is.adds)
+
+pub returns-in-Err-clause-undamaged : goal.returns-in-Err-clause-undamaged
+returns-in-Err-clause-undamaged g c = λ t warehouse batch is.
+    subst IsNoDamage (sym c.from.ensures) (same_damage c.in-Err.stop (c.in-Err.ensures.undamaged t warehouse.facts batch is.adds.read))

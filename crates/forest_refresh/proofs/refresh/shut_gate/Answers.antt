@@ -1,7 +1,8 @@
-use Rattle.std.proofs.Common.{◌≢◌, ◌<◌, arith, subst, sym}
+use Rattle.std.proofs.Common.{◌≢◌, ◌<◌, ℕ, ap, arith, length, subst, sym}
 use Rattle.forest_root.proofs.Kept.{shut_keeps}
 use Rattle.forest_store.specs.Held.{held}
-use Rattle.forest_store.proofs.Standing.{live_now}
+use Rattle.forest_root.specs.Root.{IsShut}
+use Rattle.forest_store.proofs.Standing.{all_stable, live_now}
 use Rattle.forest_refresh.proofs.Committed.{live_facts, other_slot}
 use Rattle.forest_refresh.proofs.refresh.shut_gate.Goals as goal
 
@@ -30,3 +31,22 @@ returns-in-Err-clause-any_moment g c = λ t accepted now.
     let is = now.read in
     let other : is.slot ≢ c.slot.result = subst (λ k. is.slot ≢ k) (sym c.slot.ensures) (other_slot live c.args.prepared.next c.args.prepared.names c.requires.begun.next is.slot is.at.decodes.1.within.side) in
     live_facts schema accepted is.slot live _ _ (c.begin.ensures.any_moment t (held schema accepted) is.slot live other (live_now schema live accepted _ now))
+
+pub begin-requires-clause-root : goal.begin-requires-clause-root
+begin-requires-clause-root g c = λ t. (c.requires.opened t).stable
+
+pub returns-in-Ok-clause-others : goal.returns-in-Ok-clause-others
+returns-in-Ok-clause-others g c = λ t. (c.in-Ok.ensures.disk t).files.range.others
+
+pub returns-in-Ok-clause-ready : goal.returns-in-Ok-clause-ready
+returns-in-Ok-clause-ready g c = λ t.
+    let new = g.T.Site.disk c.begin.new.site in
+    let range = (c.in-Ok.ensures.disk t).files.range in
+    let root = (c.requires.opened t).root in
+    record {
+      opened = record {
+        stable = all_stable new (c.in-Ok.ensures.stable t);
+        root = record { gate = omega (arith, root.gate, range.no_shorter); names = omega (arith, root.names, ap length (range.others 1 (λ e. omega (arith, e)))) };
+      };
+      shut = subst (λ (k : ℕ). IsShut k (new.files 0)) c.slot.ensures (c.in-Ok.ensures.shut t);
+    }

@@ -6,9 +6,9 @@ use Rattle.forest_commit.specs.Commit.{page_size}
 use Rattle.forest_refresh.specs.Additions.{IsAddition, IsAdditionAt}
 use Rattle.forest_refresh.specs.Next.{HasNumbers, counts_from}
 use Rattle.forest_refresh.specs.Refreshed.{IsNoDamage, NamesPageIn}
-use Rattle.forest_refresh.specs.Trees.{IsWholeFor, TellsDamageFor, TellsFirstDamage, by_arity}
+use Rattle.forest_refresh.specs.Trees.{IsWholeFor, TellsDamageFor, TellsFirstDamage}
 use Rattle.forest_refresh.proofs.Damages.{first-damage, one-more, page-in}
-use Rattle.forest_refresh.proofs.Packings.{AreFew, at-tree, counted-all, delta-added, has-numbers, row-few, rows-few}
+use Rattle.forest_refresh.proofs.Packings.{AreFew, at-tree, counted-all, delta-added, has-numbers, rows-few}
 use Rattle.forest_refresh.proofs.Ready.{err_if, err_then}
 use Rattle.forest_refresh.proofs.Sides.{addition-at, damage-before, side-all, side-few, side-long, side-more, whole-before}
 use Rattle.forest_refresh.proofs.Writings.{written-on}
@@ -44,20 +44,12 @@ overflow_cast-tree g c =
 pub add_tree-requires-clause-room : goal.add_tree-requires-clause-room
 add_tree-requires-clause-room g c =
     let at = (goal.at.add_tree-requires-clause-room g c).After-as_slice-delta in
-    let t : ℕ = c.loop-tree.tree in
-    let inv = c.loop-tree.invariant in
-    let room = c.requires.room in
-    record {
-      points = record {
-        old = omega (arith, room.old t (below g at), inv.room.before);
-        merged = omega (arith, room.merged t (below g at), inv.room.merged, ap length (at-tree c.args.forest.now c.args.deltas.now t c.index-as_slice-tree.result c.as_slice-delta.result.now (below g at) (is g at)));
-      };
-      row = omega (arith, inv.rows, below g at, room.counts, inv.room.rows);
-    }
+    omega (arith, c.loop-tree.invariant.rows, below g at, c.requires.room, c.loop-tree.invariant.room)
 
 pub add_tree-requires-clause-first : goal.add_tree-requires-clause-first
 add_tree-requires-clause-first g c = record {
   low = c.requires.slot;
+  other = c.requires.other;
   few = omega (arith, c.loop-tree.invariant.low, low g (goal.at.add_tree-requires-clause-first g c).After-as_slice-delta, few-trees c.args.forest.now);
   place = c.loop-tree.invariant.place;
 }
@@ -122,15 +114,14 @@ loop-tree-preserved g c =
       within = omega (arith, below g at);
       rows = omega (arith, c.in_ok-first.ensures.row.len, inv.rows);
       few = λ most are. subst (AreFew (forest.body.facts + most) (t + 1)) (sym c.in_ok-first.ensures.row.items)
-          (rows-few (forest.body.facts + most) t c.loop-tree.room.rows.items (by_arity c.add_tree.new.room.merged.items) (omega (arith, inv.rows)) (inv.few most are)
-          (row-few (forest.body.facts + most) c.add_tree.new.room.merged.items
-          (c.in_ok-first.ensures.row.few most (delta-added forest deltas t c.index-as_slice-tree.result delta (below g at) (is g at) c.requires.lists most are))));
+          (rows-few (forest.body.facts + most) t c.loop-tree.room.rows.items c.add_tree.new.room.merge.new_counts (omega (arith, inv.rows)) (inv.few most are)
+          (c.in_ok-first.ensures.row.few most (delta-added forest deltas t c.index-as_slice-tree.result delta (below g at) (is g at) c.requires.lists most are)));
       low = omega (arith, inv.low, c.in_ok-first.ensures.next.few);
       place = c.in_ok-first.ensures.next.place;
       packed = λ tells accepted batch adds.
           let written = c.in_ok-first.ensures.written tells accepted batch (adds-here g at tells accepted batch adds) in
           side-more forest (accepted ++ batch) adds.all t c.loop-tree.first _ c.loop-tree.room.rows.items (inv.place tells) (inv.packed tells accepted batch adds) (low g at)
-          c.in_ok-first.first _ c.add_tree.new.room.rows.items c.add_tree.new.room.merged.items written.bytes written.points c.in_ok-first.ensures.row.items;
+          c.in_ok-first.first _ c.add_tree.new.room.rows.items c.add_tree.new.room.merge.new_counts written.bytes written.counts c.in_ok-first.ensures.row.items;
       joined = λ tells.
           let whole = whole-before c.args.slot 0 files _ (inv.disk tells).files forest c.requires.other t delta (c.in_ok-first.ensures.joined tells) in
           one-more (λ s. IsWholeFor forest files s (get_or deltas s [])) t (inv.joined tells)
@@ -140,11 +131,7 @@ loop-tree-preserved g c =
       told_faults = search rules;
       reads = omega (arith, inv.reads, c.add_tree.ensures.calls.reads, pages-more forest t (low g at));
       writes = omega (arith, inv.writes, c.in_ok-first.ensures.next.wrote);
-      room = record {
-        before = omega (arith, inv.room.before, c.add_tree.ensures.room.before);
-        merged = omega (arith, inv.room.merged, c.add_tree.ensures.room.merged);
-        rows = omega (arith, inv.room.rows, c.add_tree.ensures.room.rows);
-      };
+      room = omega (arith, inv.room, c.add_tree.ensures.room);
     }
 
 -- all trees
@@ -182,3 +169,9 @@ returns-clause-few g c = λ most are.
 pub returns-clause-joined : goal.returns-clause-joined
 returns-clause-joined g c = λ tells t lt.
     c.loop-tree.invariant.joined tells t (omega (arith, lt, end g (goal.at.returns-clause-joined g c).After-view_counts))
+
+pub add_tree-requires-clause-added : goal.add_tree-requires-clause-added
+add_tree-requires-clause-added g c =
+    let at = (goal.at.add_tree-requires-clause-added g c).After-as_slice-delta in
+    let added = c.requires.added in
+    (added.0, delta-added c.args.forest.now c.args.deltas.now c.loop-tree.tree c.index-as_slice-tree.result c.as_slice-delta.result.now (below g at) (is g at) c.requires.lists added.0 added.1, added.2)

@@ -1,5 +1,5 @@
 use Rattle.std.proofs.Common.{◌≡◌, ◌<◌, ◌≤◌, ◌+◌, ◌*◌, ℕ, IsTrue, List, [], ◌++◌, length, get_or, take}
-use Rattle.std.specs.Prelude.{vec_len}
+use Rattle.std.specs.Prelude.{vec_capacity, vec_len}
 use Rattle.site_core.specs.Calls.{Changes}
 use Rattle.fact_model.specs.declared.fact.Fact.{Fact}
 use Rattle.site_core.specs.Disk.{DiffersPast}
@@ -7,7 +7,6 @@ use Rattle.forest_commit.specs.Commit.{page_size}
 use Rattle.forest_root.specs.Forest.{pages_of_all}
 use Rattle.forest_refresh.specs.Additions.{IsAddition}
 use Rattle.forest_refresh.specs.Pages.{front_pages, max_tree_pages}
-use Rattle.forest_refresh.specs.Rooms.{KeepsRoom}
 use Rattle.forest_refresh.specs.Trees.{AreAllAdded, IsWholeFor}
 use Rattle.forest_refresh.proofs.Packings.{AreFew, ArePacked}
 use Rattle.forest_refresh.proofs.writing.write_trees.Given as goal
@@ -28,5 +27,5 @@ invariant-loop-tree g l = record {
   told_faults : g.T.Site.told_faults l.site ≡ g.T.Site.told_faults l.fn.site;
   reads : g.T.Site.reads l.site ≤ g.T.Site.reads l.fn.site + pages_of_all l.forest.schema l.forest.body.counts (take l.tree l.forest.mapping.trees);
   writes : g.T.Site.writes l.site ≤ g.T.Site.writes l.fn.site + l.first;
-  room : KeepsRoom l.fn.room l.room;
+  room : vec_capacity l.fn.room.rows ≤ vec_capacity l.room.rows;
 }

@@ -6,6 +6,9 @@ use Rattle.forest_refresh.specs.Begun.{Begun, IsRefreshOf, batch_size}
 use Rattle.forest_refresh.specs.Refreshed.{IsNoDamage}
 use Rattle.forest_refresh.specs.Trees.{AreAllWhole, TellsFirstDamage}
 use Rattle.forest_refresh.proofs.Finishes.{addition_of, body_of_all, damage_by, either_by, few_facts, next_with, on_side, still_live, store_of, then_committed, while_written}
+use Rattle.forest_root.specs.Root.{IsShut}
+use Rattle.forest_commit.specs.Commit.{slot_of}
+use Rattle.forest_commit.proofs.Kept.{root_paged, shut_paged}
 use Rattle.forest_refresh.proofs.Ready.{err_if, err_then, more_names}
 use Rattle.forest_refresh.proofs.refresh.Refresh.finish.Goals as goal
 
@@ -137,3 +140,12 @@ returns-in_err-counts-clause-calls g c = record {
 
 pub commit-requires-clause-names : goal.commit-requires-clause-names
 commit-requires-clause-names g c = c.self.invariant.begun.names_len
+
+pub commit-requires-clause-root : goal.commit-requires-clause-root
+commit-requires-clause-root g c = λ t. root_paged c.slot.result 0 (g.T.Site.disk c.args.site.now) (g.T.Site.disk c.write_trees.new.site) (c.write_trees.ensures.disk t) (c.requires.ready t).opened.stable
+
+pub commit-requires-clause-shut : goal.commit-requires-clause-shut
+commit-requires-clause-shut g c = λ t.
+    let old = g.T.Site.disk c.args.site.now in
+    let shut = subst (λ (r : Begun). IsShut (slot_of r.next) (old.files 0)) (sym c.self.view_is) (c.requires.ready t).shut in
+    shut_paged c.slot.result 0 old (g.T.Site.disk c.write_trees.new.site) (c.write_trees.ensures.disk t) (slot_of c.self.inside.next) shut

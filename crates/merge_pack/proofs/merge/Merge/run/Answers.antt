@@ -1,6 +1,11 @@
-use Rattle.std.proofs.Common.{rules, ◌≡◌, ◌*◌, length, subst, arith, ◌∙◌, ℕ, List}
+use Rattle.std.proofs.Common.{rules, inl, ◌≡◌, ◌*◌, length, refl, ap, subst, arith, ◌∙◌, ℕ, List}
 use Rattle.merge_pack.specs.declared.side.Advance.TheVariants as advances
-use Rattle.merge_pack.proofs.Running.{built-all, builds-next, others-next, steps-same, stops-next, step-differs}
+use Rattle.tree_scan.specs.Scanning.{NamesPage}
+use Rattle.merge_pack.specs.Few.{total}
+use Rattle.merge_pack.specs.Merging.{merging_of}
+use Rattle.merge_pack.proofs.Few.{few-pages, few-points, steps-few, steps-held}
+use Rattle.merge_pack.proofs.Reading.{reading-begins, steps-reading, stops-names}
+use Rattle.merge_pack.proofs.Running.{built-all, builds-next, counted-all, others-next, steps-same, stops-next, step-differs, tries-few}
 use Rattle.merge_pack.proofs.Safety.{if-err, steps-next}
 use Rattle.site_core.specs.Calls.{Changes}
 use Rattle.site_core.specs.Disk.{Torn}
@@ -15,6 +20,85 @@ returns-then-eq-clause-built g c = λ tells apart old_first total first front is
     built-all (g.T.Site.disk c.args.site.now).files (g.T.Site.disk c.loop.site).files (g.T.Site.disk c.step.new.site).files c.args.self.now c.loop.self c.step.new.self c.args.delta.now c.in_ok-step.field-0
     inv.file inv.old_file inv.shape (inv.others tells) (step.files tells) g.T.Site.tells tells apart inv.safe step.steps old_first total first front (inv.builds tells apart old_first total first front is)
     (inv.place tells) step.long done step.safe
+
+pub returns-then-eq-clause-counted : goal.returns-then-eq-clause-counted
+returns-then-eq-clause-counted g c = λ tells apart old_first pages first front is.
+    let inv = c.loop.invariant in
+    let step = c.in_ok-step.ensures in
+    let done : c.in_ok-step.field-0 ≡ advances.Done = search rules in
+    counted-all (g.T.Site.disk c.args.site.now).files (g.T.Site.disk c.loop.site).files (g.T.Site.disk c.step.new.site).files c.args.self.now c.loop.self c.step.new.self c.args.delta.now c.in_ok-step.field-0
+    inv.file inv.old_file inv.shape (inv.others tells) (step.files tells) g.T.Site.tells tells apart inv.safe step.steps old_first pages first front (inv.builds tells apart old_first pages first front is)
+    (inv.place tells) step.long done step.safe
+
+pub returns-then-eq-clause-tried : goal.returns-then-eq-clause-tried
+returns-then-eq-clause-tried g c = λ tells apart old_first pages first front views is are.
+    let inv = c.loop.invariant in
+    let step = c.in_ok-step.ensures in
+    let same = steps-same g.T.Site.tells ((g.T.Site.disk c.loop.site).files c.loop.self.scan.file) c.loop.self c.step.new.self c.args.delta.now c.in_ok-step.field-0 step.steps in
+    let builds = builds-next (g.T.Site.disk c.args.site.now).files (g.T.Site.disk c.loop.site).files (g.T.Site.disk c.step.new.site).files c.args.self.now c.loop.self c.step.new.self c.args.delta.now c.in_ok-step.field-0
+    inv.file inv.old_file inv.shape (inv.others tells) (step.files tells) g.T.Site.tells tells apart inv.safe step.steps old_first pages first front (inv.builds tells apart old_first pages first front is)
+    (inv.place tells) step.long in
+    let few = tries-few ((g.T.Site.disk c.args.site.now).files c.args.self.now.scan.file) c.args.self.now.scan.shape old_first pages first c.args.delta.now front ((g.T.Site.disk c.step.new.site).files c.args.self.now.file) c.step.new.self
+    (same.shape ∙ inv.shape) step.safe builds 0 0 (inl (omega arith)) views are in
+    omega (arith, inv.writes, step.wrote, few)
+
+pub returns-in_err-step-clause-tried : goal.returns-in_err-step-clause-tried
+returns-in_err-step-clause-tried g c = λ tells apart old_first pages first front views is are.
+    let inv = c.loop.invariant in
+    let few = tries-few ((g.T.Site.disk c.args.site.now).files c.args.self.now.scan.file) c.args.self.now.scan.shape old_first pages first c.args.delta.now front ((g.T.Site.disk c.loop.site).files c.args.self.now.file) c.loop.self
+    inv.shape inv.safe (inv.builds tells apart old_first pages first front is) (g.T.Site.writes c.loop.site) (g.T.Site.writes c.step.new.site) c.in_err-step.ensures.tried views are in
+    omega (arith, inv.writes, few)
+
+pub returns-in_err-step-clause-names : goal.returns-in_err-step-clause-names
+returns-in_err-step-clause-names g c = λ none.
+    let start = c.args.self.now.scan in
+    let stop = c.in_err-step.field-0.0 in
+    if-err c.from_residual.result (NamesPage start.next start.left) stop c.from_residual.ensures.1
+    (stops-names start g.T.Site.tells ((g.T.Site.disk c.loop.site).files c.loop.self.scan.file) c.loop.self c.args.delta.now stop c.in_err-step.ensures.stopped (c.loop.invariant.reading none))
+
+pub returns-then-eq-clause-few : goal.returns-then-eq-clause-few
+returns-then-eq-clause-few g c = λ pages most.
+    let inv = c.loop.invariant in
+    let w = c.step.new.self in
+    few-points pages w c.args.delta.now c.in_ok-step.ensures.safe
+    (steps-held pages g.T.Site.tells ((g.T.Site.disk c.loop.site).files c.loop.self.scan.file) c.loop.self w c.args.delta.now c.in_ok-step.field-0 inv.safe c.in_ok-step.ensures.steps (inv.held pages most))
+
+pub returns-then-eq-clause-pages : goal.returns-then-eq-clause-pages
+returns-then-eq-clause-pages g c = λ first few.
+    let inv = c.loop.invariant in
+    let w = c.step.new.self in
+    few-pages first (total w.new_counts) w.scan.left (merging_of w c.args.delta.now)
+    (steps-few first g.T.Site.tells ((g.T.Site.disk c.loop.site).files c.loop.self.scan.file) c.loop.self w c.args.delta.now c.in_ok-step.field-0 inv.safe c.in_ok-step.ensures.steps (inv.pages first few))
+
+pub returns-then-eq-clause-behind : goal.returns-then-eq-clause-behind
+returns-then-eq-clause-behind g c =
+    omega (arith, c.loop.invariant.next, steps-next g.T.Site.tells ((g.T.Site.disk c.loop.site).files c.loop.self.scan.file) c.loop.self c.step.new.self c.args.delta.now c.in_ok-step.field-0 c.in_ok-step.ensures.steps)
+
+pub returns-then-eq-clause-reach : goal.returns-then-eq-clause-reach
+returns-then-eq-clause-reach g c = λ tells.
+    let inv = c.loop.invariant in
+    let same = steps-same g.T.Site.tells ((g.T.Site.disk c.loop.site).files c.loop.self.scan.file) c.loop.self c.step.new.self c.args.delta.now c.in_ok-step.field-0 c.in_ok-step.ensures.steps in
+    omega (arith, c.in_ok-step.ensures.place tells, ap (λ (f : ℕ). length ((g.T.Site.disk c.step.new.site).files f)) (same.file ∙ inv.file))
+
+pub loop-init : goal.loop-init
+loop-init g c = record {
+  safe = c.requires.safe;
+  place = c.requires.place;
+  file = refl;
+  old_file = refl;
+  shape = refl;
+  others = λ tells n not. refl;
+  builds = λ tells apart old_first total first front is. is;
+  reading = reading-begins c.args.self.now.scan;
+  pages = λ first few. few;
+  held = λ most few. few;
+  next = omega arith;
+  disk = search rules;
+  faults = refl;
+  reads = omega arith;
+  writes = omega arith;
+  told_faults = refl;
+}
 
 pub loop-preserved : goal.loop-preserved
 loop-preserved g c =
@@ -35,6 +119,12 @@ loop-preserved g c =
           inv.file inv.old_file inv.shape (inv.others tells) (step.files tells) g.T.Site.tells tells apart inv.safe step.steps old_first total first front (inv.builds tells apart old_first total first front is)
           (inv.place tells) step.long;
       told_faults = step.calls.told_faults ∙ inv.told_faults;
+      reading = λ none.
+          steps-reading c.args.self.now.scan g.T.Site.tells ((g.T.Site.disk c.loop.site).files c.loop.self.scan.file) c.loop.self c.step.new.self c.args.delta.now c.in_ok-step.field-0 step.steps (inv.reading none);
+      pages = λ first few.
+          steps-few first g.T.Site.tells ((g.T.Site.disk c.loop.site).files c.loop.self.scan.file) c.loop.self c.step.new.self c.args.delta.now c.in_ok-step.field-0 inv.safe step.steps (inv.pages first few);
+      held = λ most few.
+          steps-held most g.T.Site.tells ((g.T.Site.disk c.loop.site).files c.loop.self.scan.file) c.loop.self c.step.new.self c.args.delta.now c.in_ok-step.field-0 inv.safe step.steps (inv.held most few);
       next = omega (arith, inv.next, steps-next g.T.Site.tells ((g.T.Site.disk c.loop.site).files c.loop.self.scan.file) c.loop.self c.step.new.self c.args.delta.now c.in_ok-step.field-0 step.steps);
       disk = λ tells.
           step-differs c.args.self.now.file (4096 * c.args.self.now.at.next_page) (4096 * c.loop.self.at.next_page) 4096 (length ((g.T.Site.disk c.loop.site).files c.loop.self.file))

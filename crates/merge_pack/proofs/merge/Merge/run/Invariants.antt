@@ -1,9 +1,11 @@
-use Rattle.std.proofs.Common.{◌≡◌, ◌≢◌, ◌≤◌, ◌+◌, ◌*◌, ℕ, List, IsTrue, length}
+use Rattle.std.proofs.Common.{◌≡◌, ◌≢◌, ◌≤◌, ◌+◌, ◌*◌, ℕ, List, [], IsTrue, length}
 use Rattle.merge_pack.specs.Building.{IsBuilding}
 use Rattle.site_core.specs.Calls.{Changes}
 use Rattle.site_core.specs.Disk.{DiffersPast}
 use Rattle.merge_pack.specs.Merging.{merging_of}
+use Rattle.merge_pack.specs.Few.{HasFewPages, HoldAtMost, total}
 use Rattle.merge_pack.specs.Safe.{IsSafe, falls}
+use Rattle.merge_pack.proofs.Reading.{IsReading}
 use Rattle.merge_pack.proofs.merge.Merge.run.Given as goal
 
 abbrev pub invariant-loop : goal.invariant-loop
@@ -17,6 +19,9 @@ invariant-loop g l = record {
   builds : IsTrue g.T.Site.tells → l.fn.self.file ≢ l.fn.self.scan.file → (old_first total first : ℕ) (front : List ℕ)
       → IsBuilding ((g.T.Site.disk l.fn.site).files l.fn.self.scan.file) old_first total first l.delta front ((g.T.Site.disk l.fn.site).files l.fn.self.file) l.fn.self
       → IsBuilding ((g.T.Site.disk l.fn.site).files l.fn.self.scan.file) old_first total first l.delta front ((g.T.Site.disk l.site).files l.fn.self.file) l.self;
+  reading : l.fn.self.scan.held ≡ [] → IsReading l.fn.self.scan l.self.scan;
+  pages : (first : ℕ) → HasFewPages first (total l.fn.self.new_counts) l.fn.self.scan.left (merging_of l.fn.self l.delta) → HasFewPages first (total l.self.new_counts) l.self.scan.left (merging_of l.self l.delta);
+  held : (most : ℕ) → HoldAtMost most l.fn.self → HoldAtMost most l.self;
   next : l.fn.self.at.next_page ≤ l.self.at.next_page;
   disk : IsTrue g.T.Site.tells → Changes (DiffersPast l.fn.self.file (4096 * l.fn.self.at.next_page)) (g.T.Site.disk l.fn.site) (g.T.Site.disk l.site);
   faults : g.T.Site.disk_faults l.site ≡ g.T.Site.disk_faults l.fn.site;

@@ -1,8 +1,9 @@
-use Rattle.std.proofs.Common.{◌≡◌, ℕ, inr, length, sym, ap, ◌∙◌, subst, arith}
+use Rattle.std.proofs.Common.{◌≡◌, ℕ, inl, inr, length, sym, ap, ◌∙◌, subst, arith}
 use Rattle.tree_scan.specs.Streaming.{Scanned}
 use Rattle.merge_pack.specs.Merging.{Goes, Merger, Merging, merging_of}
 use Rattle.merge_pack.specs.Stepping.{HasStopped}
-use Rattle.merge_pack.proofs.Safety.{apart-read, call-stopped, if-err, goes-next, goes-page, goes-page_is, safe-may, safe-pages, step-steps, steps-fall, read-within, steps-safe, steps-left, steps-next}
+use Rattle.merge_pack.proofs.Safety.{apart-read, call-stopped, if-err, goes-next, goes-page, goes-page_is, safe-counts, safe-may, safe-pages, step-steps, steps-fall, read-within, steps-safe, steps-left, steps-next}
+use Rattle.merge_pack.proofs.Points.{on-err}
 use Rattle.merge_pack.proofs.merge.Merge.step.Goals as goal
 
 pub advance-requires-clause-full_page : goal.advance-requires-clause-full_page
@@ -13,6 +14,24 @@ advance-requires-clause-rest_page g c = (safe-pages c.args.self.now c.args.delta
 
 pub advance-requires-clause-may : goal.advance-requires-clause-may
 advance-requires-clause-may g c = safe-may c.args.self.now c.args.delta.now c.requires.safe
+
+pub advance-requires-clause-dims : goal.advance-requires-clause-dims
+advance-requires-clause-dims g c = c.requires.safe.sound.shape.dims
+
+pub advance-requires-clause-counts : goal.advance-requires-clause-counts
+advance-requires-clause-counts g c = safe-counts c.args.self.now c.args.delta.now c.requires.safe
+
+pub returns-in-Err-clause-tried : goal.returns-in-Err-clause-tried
+returns-in-Err-clause-tried g c = inl (omega arith)
+
+pub returns-in_err-call-in-Ok-clause-tried : goal.returns-in_err-call-in-Ok-clause-tried
+returns-in_err-call-in-Ok-clause-tried g c =
+    let v = c.args.self.now in
+    let u = c.advance.new.self in
+    let delta = c.args.delta.now in
+    let left : c.left-left.result ≡ v.scan.left = c.left-left.ensures.left ∙ ap (λ (x : Merger). x.scan.left) c.self.view_is in
+    let goes = subst (λ (l : ℕ). Goes l (merging_of v delta) c.in-Ok.advance (merging_of u delta)) left c.in-Ok.ensures.goes in
+    on-err c.from_residual.result _ (inr (c.in-Ok.advance, merging_of u delta, goes, omega (arith, c.in_err-call-in-Ok.ensures.calls.writes)))
 
 pub call-requires-clause-none : goal.call-requires-clause-none
 call-requires-clause-none g c = λ page.

@@ -1,0 +1,25 @@
+//! Two cells of one point are joined.
+ghost use Rattle.std.specs.Prelude.{◌≡◌, IfOk, OnOk, OnErr};
+ghost use Rattle.fact_model.specs.Cell.{FitCells};
+ghost use Rattle.view_points.specs.Entries.{both};
+
+use cube_point::Entry;
+
+/// The cells of a point were not joined: their counts or their sums do not add up within their types.
+#[derive(Clone, Copy, Debug, PartialEq, Eq)]
+pub struct DoesNotJoin;
+
+/// The first entry with the cells of both, where they join.
+pub fn joined(old: &Entry, new: &Entry) -> Result<Entry, DoesNotJoin>
+    requires { old.now.cell.measures ≡ new.now.cell.measures }
+    ensures entry { IfOk result (λ entry. entry ≡ both old.now new.now) }
+    ensures joins { OnOk result (FitCells old.now.cell new.now.cell) }
+    ensures apart { OnErr result (FitCells old.now.cell new.now.cell → ⊥) }
+{
+    if !old.cell.fits(&new.cell) {
+        return Err(DoesNotJoin);
+    }
+    let mut both = *old;
+    both.cell.join(&new.cell);
+    Ok(both)
+}
