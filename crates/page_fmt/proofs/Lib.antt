@@ -1,5 +1,6 @@
 pub mod Again
 pub mod Children
+pub mod Coordinates
 pub mod Entries
 pub mod Fields
 pub mod Images

@@ -7,11 +7,12 @@ ghost use Rattle.page_fmt.specs.declared.page.TheConstants.{HEADER, PAGE};
 ghost use Rattle.page_fmt.specs.Pages.{entry_size, child_size};
 ghost use Rattle.page_fmt.specs.Taking.{entry_of, child_of, is_positive, is_box, ascend, entry_before, broken_by_children, broken_by_entries};
 
+use crate::order::{are_coordinates_positive, is_next_point};
 use crate::page::{BadPage, HEADER};
-use crate::read::{child_at, point_at};
-use crate::rules::{has_lawful_box, has_positive_coordinates};
+use crate::read::child_at;
+use crate::rules::has_lawful_box;
 use crate::size::{size_of_child, size_of_entry};
-use cube_point::{Shape, before};
+use cube_point::Shape;
 
 /// The first rule that the entries of a leaf break, where they are not all lawful.
 pub(crate) fn rule_of_entries(page: &[u8; 4096], shape: &Shape, arity: u8, count: u16) -> BadPage
@@ -50,7 +51,7 @@ fn are_all_positive(page: &[u8; 4096], shape: &Shape, arity: u8, count: u16) -> 
 {
     let size = size_of_entry(arity, shape.measures);
     for i in 0..count as usize {
-        if !has_positive_coordinates(&point_at(page, arity, HEADER + i * size)) {
+        if !are_coordinates_positive(page, arity, HEADER + i * size) {
             return false;
         }
     }
@@ -64,10 +65,8 @@ fn do_entries_ascend(page: &[u8; 4096], shape: &Shape, arity: u8, count: u16) ->
     ensures { result ≡ ascend entry_before (many (entry_of arity shape.now.measures) (entry_size arity shape.now.measures) count (drop HEADER page.now)) }
 {
     let size = size_of_entry(arity, shape.measures);
-    for i in 1..count as usize {
-        let left = point_at(page, arity, HEADER + (i - 1) * size);
-        let right = point_at(page, arity, HEADER + i * size);
-        if !before(&left, &right) {
+    for i in 0..count as usize {
+        if !is_next_point(page, arity, size, i) {
             return false;
         }
     }

@@ -9,11 +9,12 @@ ghost use Rattle.page_fmt.specs.Pages.{entry_bytes, entry_size};
 ghost use Rattle.page_fmt.specs.Taking.{entries, entry_of, page_count};
 ghost use Rattle.page_fmt.specs.Lawful.{HasEntries};
 
+use crate::order::compare_with;
 use crate::page::HEADER;
 use crate::put::put_bytes;
 use crate::read::{entry_at, point_at};
 use crate::size::size_of_entry;
-use cube_point::{Entry, Point, Shape, compare};
+use cube_point::{Entry, Point, Shape};
 use std::cmp::Ordering;
 use std::marker::Model;
 
@@ -68,7 +69,7 @@ impl<'a> Coded<'a> {
     pub fn compare(&self, point: &Point) -> Ordering
         ensures { result ≡ point_cmp self.now.point.at point.now.at }
     {
-        compare(&self.point(), point)
+        compare_with(self.bytes, self.arity, point)
     }
 
     /// The entry, decoded.

@@ -3,17 +3,17 @@
 ghost use Rattle.std.specs.Prelude.{◌≡◌, nat_lt, ◌≤◌, ◌+◌, ◌*◌, ◌-◌, ◌==◌, ◌||◌, drop, take};
 ghost use Rattle.std.specs.List.{list_all};
 ghost use Rattle.byte_formats.specs.Formats.{many};
-ghost use Rattle.cube_point.specs.Points.{comes_before};
 ghost use Rattle.page_fmt.specs.declared.page.TheConstants.{HEADER, PAGE, PART};
 ghost use Rattle.page_fmt.specs.Pages.{entry_size, child_size};
 ghost use Rattle.page_fmt.specs.Taking.{part_of, entry_of, child_of, is_cell, is_part, are_lawful_children, are_lawful_entries};
 
+use crate::order::{are_coordinates_positive, is_next_point};
 use crate::page::{COORDINATE, COUNT, HEADER, PART};
-use crate::read::{child_at, part_at, point_at};
-use crate::rules::{has_lawful_box, has_positive_coordinates, is_below};
+use crate::read::{child_at, part_at};
+use crate::rules::{has_lawful_box, is_below};
 use crate::size::{size_of_child, size_of_entry};
 use byte_formats::take_u64;
-use cube_point::{Point, Shape, before};
+use cube_point::Shape;
 use fact_model::Part;
 
 fn is_part_lawful(part: &Part) -> bool
@@ -47,14 +47,9 @@ fn is_cell_lawful(page: &[u8; 4096], shape: &Shape, arity: u8, at: usize) -> boo
     take_u64(page, count) > 0 && are_parts_lawful(page, shape.measures, count + COUNT)
 }
 
-/// Whether the point at an index comes after the one before it, if there is one.
-fn is_next_point(index: usize, last: &Point, point: &Point) -> bool
-    ensures { result ≡ (index == 0 || comes_before last.now point.now) }
-{
-    index == 0 || before(last, point)
-}
-
-/// Whether all entries of a leaf are lawful. Each point is read once, and no cell is kept.
+/// Whether all entries of a leaf are lawful. Nothing is copied of the page, and of two points no more coordinates are compared than tell
+/// their order. It stands apart, so that its loop has all registers.
+#[inline(never)]
 pub(crate) fn are_entries_lawful(page: &[u8; 4096], shape: &Shape, arity: u8, count: u16) -> bool
     requires arity { arity ≤ 8 }
     requires measures { shape.now.measures ≤ 4 }
@@ -62,20 +57,17 @@ pub(crate) fn are_entries_lawful(page: &[u8; 4096], shape: &Shape, arity: u8, co
     ensures { result ≡ are_lawful_entries (many (entry_of arity shape.now.measures) (entry_size arity shape.now.measures) count (drop HEADER page.now)) }
 {
     let size = size_of_entry(arity, shape.measures);
-    let mut last = Point { arity, at: [0; 8] };
     for i in 0..count as usize {
         let at = HEADER + i * size;
-        let point = point_at(page, arity, at);
-        if !has_positive_coordinates(&point) {
+        if !are_coordinates_positive(page, arity, at) {
             return false;
         }
-        if !is_next_point(i, &last, &point) {
+        if !is_next_point(page, arity, size, i) {
             return false;
         }
         if !is_cell_lawful(page, shape, arity, at) {
             return false;
         }
-        last = point;
     }
     true
 }

@@ -56,7 +56,7 @@ fn parts_at(bytes: &[u8], measures: u8, at: usize) -> [Part; 4]
 }
 
 /// The point of the entry that begins at a place.
-pub fn point_at(bytes: &[u8], arity: u8, at: usize) -> Point
+pub(crate) fn point_at(bytes: &[u8], arity: u8, at: usize) -> Point
     requires arity { arity ≤ 8 }
     requires place { at + arity * COORDINATE ≤ length bytes.now }
     ensures { (measures : ℕ) → result ≡ (entry_of arity measures (drop at bytes.now)).point }

@@ -1,4 +1,4 @@
-use Rattle.std.proofs.Common.{◌≡◌, ◌<◌, ◌+◌, ◌-◌, ◌*◌, ℕ, suc, true, take, drop}
+use Rattle.std.proofs.Common.{◌≡◌, ◌<◌, ℕ, suc, true, take, drop}
 use Rattle.std.specs.List.{list_all}
 use Rattle.byte_formats.specs.Formats.{many}
 use Rattle.page_fmt.specs.Pages.{entry_size}
@@ -11,5 +11,4 @@ invariant-loop-i l = record {
   positive : list_all is_positive (take l.i (many (entry_of l.arity l.shape.measures) (entry_size l.arity l.shape.measures) l.count (drop 8 l.page))) ≡ true;
   order : (k : ℕ) → suc k < l.i → next_less (entry_of l.arity l.shape.measures) (entry_size l.arity l.shape.measures) entry_before 8 l.page k ≡ true;
   cells : list_all is_cell (take l.i (many (entry_of l.arity l.shape.measures) (entry_size l.arity l.shape.measures) l.count (drop 8 l.page))) ≡ true;
-  last : 0 < l.i → l.last ≡ (entry_of l.arity l.shape.measures (drop (8 + (l.i - 1) * entry_size l.arity l.shape.measures) l.page)).point;
 }

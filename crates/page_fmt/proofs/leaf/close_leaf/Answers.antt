@@ -1,5 +1,5 @@
-use Rattle.std.proofs.Common.{◌≡◌, ◌+◌, ◌*◌, ◌-◌, ◌≤◌, ℕ, List, ◌++◌, take, ap, sym, ◌∙◌, arith}
-use Rattle.page_fmt.specs.Pages.{entry_size, zeros}
+use Rattle.std.proofs.Common.{◌+◌, ◌*◌, ◌-◌, ℕ, ◌++◌, take, ap, ◌∙◌}
+use Rattle.page_fmt.specs.Pages.{zeros}
 use Rattle.page_fmt.proofs.Images.{closed-leaf}
 use Rattle.page_fmt.proofs.leaf.close_leaf.Goals as goal
 

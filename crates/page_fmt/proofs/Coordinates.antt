@@ -1,0 +1,95 @@
+-- A point where its bytes lie: its coordinates, and the walk from the last one down.
+use Rattle.std.proofs.Common.{◌≡◌, ◌≢◌, ◌≤◌, ◌<◌, ◌+◌, ◌-◌, ◌*◌, ℕ, zero, suc, Bool, List, ◌++◌, length, take, drop, get_or, inl, inr, refl, sym, ap, ◌∙◌, arith}
+use Rattle.std.specs.Prelude.{nat_lt, slice_index}
+use Rattle.std.specs.List.{list_all}
+use Rattle.std.specs.Cmp.{ranks, tied_itself, nat_cmp_total}
+use Rattle.std.specs.Ordering.{is_lt, nat_cmp, ordering_then, MatchOrdering}
+use Rattle.std.specs.declared.cmp.Ordering.{Ordering}
+use Rattle.std.specs.declared.cmp.Ordering.TheVariants.{Less, Equal, Greater}
+use Rattle.std.proofs.lemmas.Bool.{cases_eq, lt-ltb, le-ltb}
+use Rattle.std.proofs.lemmas.List.{drop_at, drop-drop, get_or_append_left, length-append, length-replicate, take_at}
+use Rattle.byte_formats.specs.Formats.{many}
+use Rattle.byte_formats.specs.Numbers.{number}
+use Rattle.cube_point.proofs.PointOrder.{cmp_down}
+use Rattle.page_fmt.specs.Pages.{zeros}
+use Rattle.page_fmt.proofs.Entries.{tail-zero}
+use Rattle.page_fmt.proofs.Loops.{many-at, many-long}
+
+-- the coordinates of the point in front of the bytes
+abbrev pub coordinates : ℕ → List ℕ → List ℕ
+coordinates arity b = many (number 4) 4 arity b ++ zeros (8 - arity)
+
+pub eight : (arity : ℕ) (b : List ℕ) → arity ≤ 8 → length (coordinates arity b) ≡ 8
+eight arity b le = omega (arith, le, length-append (many (number 4) 4 arity b) (zeros (8 - arity)), many-long (number 4) 4 arity b, length-replicate {A = ℕ} (8 - arity) 0)
+
+-- a used one is read at its place, and the others are zero
+pub used-at : (arity k at : ℕ) (b : List ℕ) → k < arity → number 4 (drop (at + k * 4) b) ≡ slice_index (coordinates arity (drop at b)) k
+used-at arity k at b lt =
+    let there : k < length (many (number 4) 4 arity (drop at b)) = omega (arith, lt, many-long (number 4) 4 arity (drop at b)) in
+    ap (number 4) (sym (drop-drop (k * 4) at b))
+    ∙ (sym (many-at (number 4) 4 arity k (drop at b) 0 lt) ∙ sym (get_or_append_left (many (number 4) 4 arity (drop at b)) (zeros (8 - arity)) 0 k there))
+
+pub unused-at : (arity k : ℕ) (b : List ℕ) → arity ≤ k → slice_index (coordinates arity b) k ≡ 0
+unused-at arity k b le = tail-zero arity (8 - arity) (coordinates arity b) (drop_at (many (number 4) 4 arity b) (zeros (8 - arity)) arity (many-long (number 4) 4 arity b)) k le
+
+-- the used ones alone
+pub used-all : (arity : ℕ) (b : List ℕ) (p : ℕ → Bool) → list_all p (take arity (coordinates arity b)) ≡ list_all p (many (number 4) 4 arity b)
+used-all arity b p = ap (list_all p) (take_at (many (number 4) 4 arity b) (zeros (8 - arity)) arity (many-long (number 4) 4 arity b))
+
+-- ---- the walk
+
+cmp-itself : (x : ℕ) → nat_cmp x x ≡ Equal
+cmp-itself x = tied_itself nat_cmp_total x
+
+-- equal coordinates are passed over
+pub down-same : (i : ℕ) (a b : List ℕ) → get_or a i 0 ≡ get_or b i 0 → cmp_down (suc i) a b ≡ cmp_down i a b
+down-same i a b e = ap (λ (r : Ordering). ordering_then r (cmp_down i a b)) (ap (nat_cmp (get_or a i 0)) (sym e) ∙ cmp-itself (get_or a i 0))
+
+-- the first coordinates that differ decide
+then-differ : (x y : ℕ) (r : Ordering) → x ≢ y → ordering_then (nat_cmp x y) r ≡ nat_cmp x y
+then-differ x y r n = by (nat_cmp x y) (ranks x y)
+  where
+    by : (s : Ordering) → MatchOrdering s (x < y) (x ≡ y) (y < x) → ordering_then s r ≡ s
+    by Less m = refl
+    by Equal m = absurd (n m)
+    by Greater m = refl
+
+pub down-differ : (i : ℕ) (a b : List ℕ) → get_or a i 0 ≢ get_or b i 0 → cmp_down (suc i) a b ≡ nat_cmp (get_or a i 0) (get_or b i 0)
+down-differ i a b n = then-differ (get_or a i 0) (get_or b i 0) (cmp_down i a b) n
+
+-- past the arity all are equal
+pub down-tail : (n : ℕ) (a b : List ℕ) (k : ℕ) → k ≤ n → ((i : ℕ) → k ≤ i → i < n → get_or a i 0 ≡ get_or b i 0) → cmp_down n a b ≡ cmp_down k a b
+down-tail zero a b k le same = let e : zero ≡ k = omega (arith, le) in ap (λ (m : ℕ). cmp_down m a b) e
+down-tail (suc n) a b k le same = elim (cases_eq (suc n) k) [
+  | inl is ↦ ap (λ (m : ℕ). cmp_down m a b) is
+  | inr other ↦ down-same n a b (same n (omega (arith, le, other)) (omega arith)) ∙ down-tail n a b k (omega (arith, le, other)) (λ i past lt. same i past (omega (arith, lt)))
+]
+
+-- or the second has a coordinate there alone, and comes after
+pub down-past : (n : ℕ) (a b : List ℕ) (k arity : ℕ) → arity ≤ k → k < n → 0 < get_or b k 0 → ((i : ℕ) → arity ≤ i → get_or a i 0 ≡ 0) → cmp_down n a b ≡ Less
+down-past zero a b k arity le lt some none = absurd (omega (arith, lt))
+down-past (suc n) a b k arity le lt some none =
+    let here = none n (omega (arith, le, lt)) in
+    elim (cases_eq (get_or b n 0) 0) [
+      | inl empty ↦ down-same n a b (here ∙ sym empty) ∙ down-past n a b k arity le (omega (arith, lt, other n k empty some)) some none
+      | inr there ↦ down-differ n a b (λ e. there (sym e ∙ here)) ∙ (ap (λ (x : ℕ). nat_cmp x (get_or b n 0)) here ∙ first (get_or b n 0) there)
+    ]
+  where
+    other : (n k : ℕ) → get_or b n 0 ≡ 0 → 0 < get_or b k 0 → k ≢ n
+    other n k empty some = λ e. let same : get_or b k 0 ≡ get_or b n 0 = ap (λ (j : ℕ). get_or b j 0) e in omega (arith, same, empty, some)
+
+    first : (x : ℕ) → x ≢ 0 → nat_cmp 0 x ≡ Less
+    first x not = by (nat_cmp 0 x) (ranks 0 x)
+      where
+        by : (s : Ordering) → MatchOrdering s (0 < x) (0 ≡ x) (x < 0) → s ≡ Less
+        by Less m = refl
+        by Equal m = absurd (not (sym m))
+        by Greater m = absurd (omega (arith, m))
+
+pub below-is : (x y : ℕ) → is_lt (nat_cmp x y) ≡ nat_lt x y
+below-is x y = by (nat_cmp x y) (ranks x y)
+  where
+    by : (s : Ordering) → MatchOrdering s (x < y) (x ≡ y) (y < x) → is_lt s ≡ nat_lt x y
+    by Less m = sym (lt-ltb x y m)
+    by Equal m = sym (le-ltb x y (omega (arith, m)))
+    by Greater m = sym (le-ltb x y (omega (arith, m)))

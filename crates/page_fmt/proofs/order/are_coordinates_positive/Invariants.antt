@@ -1,0 +1,9 @@
+use Rattle.std.proofs.Common.{◌≡◌, true, take, drop}
+use Rattle.std.specs.Prelude.{nat_lt}
+use Rattle.std.specs.List.{list_all}
+use Rattle.byte_formats.specs.Formats.{many}
+use Rattle.byte_formats.specs.Numbers.{number}
+use Rattle.page_fmt.proofs.order.are_coordinates_positive.Given as goal
+
+abbrev pub invariant-loop-dimension : goal.invariant-loop-dimension
+invariant-loop-dimension l = list_all (λ n. nat_lt 0 n) (take l.dimension (many (number 4) 4 l.arity (drop l.at l.page))) ≡ true

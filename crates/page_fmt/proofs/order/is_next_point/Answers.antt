@@ -1,0 +1,24 @@
+use Rattle.std.proofs.Common.{◌≡◌, ◌<◌, ◌+◌, ◌-◌, ◌*◌, ℕ, suc, Bool, drop, sym, ap, ◌∙◌, arith}
+use Rattle.std.specs.Prelude.{◌||◌}
+use Rattle.std.proofs.lemmas.Bool.{ne_eqb}
+use Rattle.cube_point.specs.declared.point.Entry.{Entry}
+use Rattle.cube_point.specs.Points.{comes_before}
+use Rattle.page_fmt.specs.Taking.{entry_before, entry_of}
+use Rattle.page_fmt.proofs.Passes.{before-is}
+use Rattle.page_fmt.proofs.order.is_next_point.Goals as goal
+
+next-place : (i size : ℕ) → 0 < i → (i - 1) * size + size ≡ i * size
+next-place i size some =
+    let j = i - 1 in
+    let next : suc j ≡ i = omega (arith, some) in
+    let times : j * size + size ≡ suc j * size = omega arith in
+    times ∙ ap (λ (k : ℕ). k * size) next
+
+pub returns : goal.returns
+returns c = λ measures.
+    let back = 8 + (c.args.index - 1) * c.args.size in
+    let last : Entry = entry_of c.args.arity measures (drop back c.args.page.now) in
+    let this : Entry = entry_of c.args.arity measures (drop (8 + c.args.index * c.args.size) c.args.page.now) in
+    let next : back + c.args.size ≡ 8 + c.args.index * c.args.size = omega (arith, next-place c.args.index c.args.size (omega (arith, c.if-index-eq0.false))) in
+    c.is_before.ensures measures ∙ (ap (λ (k : ℕ). comes_before last.point (entry_of c.args.arity measures (drop k c.args.page.now)).point) next
+    ∙ (sym (before-is last this) ∙ ap (λ (t : Bool). t || entry_before last this) (sym (ne_eqb c.args.index 0 c.if-index-eq0.false))))
