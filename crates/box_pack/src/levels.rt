@@ -1,6 +1,6 @@
 //! The inner levels of the tree that is being packed.
 
-ghost use Rattle.std.specs.Prelude.{◌≡◌, ◌<◌, ℕ, List, [], length, slice_set, true, IfOk};
+ghost use Rattle.std.specs.Prelude.{◌≡◌, ◌<◌, ◌≤◌, ℕ, List, [], length, slice_set, true, IfOk};
 ghost use Rattle.std.specs.List.{All};
 ghost use Rattle.cube_point.specs.declared.point.Shape.{Shape};
 ghost use Rattle.page_fmt.specs.declared.page.Child.{Child};
@@ -31,6 +31,7 @@ pub const LEVELS: usize = 12;
 pub struct Levels {
     levels: Vec<Level>,
     shape: Shape,
+    lowest_full: Option<usize>,
 }
 
 impl Model for Levels {
@@ -38,7 +39,15 @@ impl Model for Levels {
 
     ghost view = { λ s. record { levels = children_of s.levels.items; shape = s.shape } };
 
-    ghost invariant = { λ s. record { shape : IsShape s.shape; count : length s.levels.items ≡ LEVELS; children : (i : ℕ) → AreChildren s.shape (children_at i (children_of s.levels.items)) } };
+    ghost invariant = { λ s. record { shape : IsShape s.shape; count : length s.levels.items ≡ LEVELS; children : (i : ℕ) → AreChildren s.shape (children_at i (children_of s.levels.items)); lowest_full : s.lowest_full ≡ full_level (fanout_of s.shape) (children_of s.levels.items) } };
+}
+
+/// The lowest level without room for another child in a tree of this shape.
+fn full_of(levels: &[Level], shape: &Shape) -> Option<usize>
+    requires { shape.now.dims ≤ 8 }
+    ensures { result ≡ full_level (fanout_of shape.now) (children_of levels.now) }
+{
+    lowest_full(levels, inner_room(shape.dims))
 }
 
 impl Levels {
@@ -52,12 +61,15 @@ impl Levels {
             let level = Level::new(alloc)?;
             levels.push(level)?;
         }
+        let shape = Shape {
+            dims: 0,
+            measures: 1,
+        };
+        let lowest_full = full_of(&levels, &shape);
         Ok(Levels {
             levels,
-            shape: Shape {
-                dims: 0,
-                measures: 1,
-            },
+            shape,
+            lowest_full,
         })
     }
 
@@ -68,6 +80,7 @@ impl Levels {
     {
         clear_all(&mut self.levels);
         self.shape = shape;
+        self.lowest_full = full_of(&self.levels, &self.shape);
     }
 
     /// Adds a child behind the others of the level.
@@ -79,13 +92,14 @@ impl Levels {
         ensures { self.new ≡ record { levels = put_at level child self.old.levels; shape = self.old.shape } }
     {
         self.levels[level].push(child);
+        self.lowest_full = full_of(&self.levels, &self.shape);
     }
 
     /// The lowest level without room for another child; None exactly where every level has room.
     pub fn full(&self) -> Option<usize>
         ensures { result ≡ full_level (fanout_of self.now.shape) self.now.levels }
     {
-        lowest_full(&self.levels, inner_room(self.shape.dims))
+        self.lowest_full
     }
 
     /// The lowest level that holds a child; None exactly where all levels together hold fewer than
@@ -114,6 +128,7 @@ impl Levels {
         let bounds = box_of(&self.levels[level].children);
         put_inner(into, &self.shape, number, &self.levels[level].children);
         self.levels[level].clear();
+        self.lowest_full = full_of(&self.levels, &self.shape);
         bounds
     }
 }

@@ -13,7 +13,7 @@ ghost use Rattle.leaf_pack.specs.Leaf.{is_full as full, is_other, is_after, firs
 use crate::cover::box_of;
 use cube_point::{Bounds, Entry, Shape};
 use fact_model::Memory;
-use page_fmt::{Coded, HEADER, PAGE, close_leaf, leaf_room, put_entry};
+use page_fmt::{Coded, HEADER, PAGE, close_leaf, put_entry, size_of_entry};
 use std::alloc::Global;
 use std::marker::Model;
 
@@ -110,7 +110,7 @@ impl LeafBuffer {
     pub fn is_full(&self) -> bool
         ensures { result ≡ full self.now.shape self.now.entries }
     {
-        self.count > 0 && self.count as usize == leaf_room(self.arity, self.shape.measures)
+        self.count > 0 && PAGE - self.end < size_of_entry(self.arity, self.shape.measures)
     }
 
     /// The arity of the entries; None where there is no entry.

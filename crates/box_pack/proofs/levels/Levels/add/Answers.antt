@@ -28,6 +28,7 @@ invariant_of-self c =
       count = search rules;
       children = subst (λ (k : List (List Child)). (i : ℕ) → AreChildren c.self.inside.shape (get_or k i [])) (sym added)
           (set-each (AreChildren c.self.inside.shape) ls level (get_or ls level [] ++ c.args.child ∷ []) c.self.invariant.children are);
+      lowest_full = search rules;
     }
 
 pub returns : goal.returns
