@@ -1,17 +1,15 @@
 -- The first attribute that is full.
-use Rattle.std.proofs.Common.{◌≡◌, ℕ, zero, suc, ◌+◌, ◌<◌, ◌≤◌, Bool, true, false, List, [], Some, None, length, get_or, refl, sym, ap, ◌∙◌, ⊎_elim, arith}
+use Rattle.std.proofs.Common.{◌≡◌, ℕ, zero, suc, ◌+◌, ◌<◌, ◌≤◌, Bool, true, false, cond, List, [], Some, None, length, get_or, refl, sym, ap, ◌∙◌, ⊎_elim, arith}
 use Rattle.std.specs.Prelude.{find, nat_lt}
 use Rattle.std.specs.List.{range_with_len}
-use Rattle.std.proofs.lemmas.Bool.{cases_eq, lt-ltb, le-ltb, cond-true, cond-false}
-use Rattle.fact_model.specs.declared.fact.Fact.{Fact}
+use Rattle.std.proofs.lemmas.Bool.{cases_eq, cases_lt, lt-ltb, le-ltb, ltb-false, cond-true, cond-false}
+use Rattle.std.proofs.lemmas.List.{get_or_default, get_or_past, get_or_read}
+use Rattle.cube_schema.specs.declared.Kind.{Kind}
 use Rattle.cube_schema.specs.declared.Kind.TheVariants as kind
 use Rattle.cube_schema.specs.Kinds.{max_of}
-use Rattle.std.specs.Str.{bytes_eq}
-use Rattle.std.proofs.Math.ListN.{set}
-use Rattle.std.proofs.lemmas.List.{get_or_read, get_or_default, get_or-set_same}
-use Rattle.view_points.specs.Codes.{Text, admitted, texts_at}
-use Rattle.attr_dict.specs.Book.{Book, kind_at, names_at}
-use Rattle.attr_dict.specs.Admitting.{names_with, first_full}
+use Rattle.view_points.specs.Agree.{name_limit}
+use Rattle.view_points.specs.Codes.{Text}
+use Rattle.attr_dict.specs.Coding.{HasFew}
 
 find-none : (p : ℕ → Bool) (a n : ℕ) → ((k : ℕ) → a ≤ k → k < a + n → p k ≡ false) → find p (range_with_len a n) ≡ None
 find-none p a zero none = refl
@@ -28,28 +26,48 @@ find-first p a (suc n) v low high is none =
     ∙ find-first p (a + 1) n v (omega arith) (omega arith) is (λ k l h. none k (omega arith) h))
     (cases_eq a v)
 
--- the attribute is not full
-not-full : (b : Book) (facts : List Fact) (names : List (List Text)) (a : ℕ) → get_or names a [] ≡ names_with b facts a → length (get_or names a []) ≤ max_of (kind_at b a) → nat_lt (max_of (kind_at b a)) (length (names_with b facts a)) ≡ false
-not-full b facts names a is within = ap (λ ns. nat_lt (max_of (kind_at b a)) (length ns)) (sym is) ∙ le-ltb (max_of (kind_at b a)) (length (get_or names a [])) within
+pub find-all : (p : ℕ → Bool) (a n : ℕ) → find p (range_with_len a n) ≡ None → (k : ℕ) → a ≤ k → k < a + n → p k ≡ false
+find-all p a zero none k low high = absurd (omega arith)
+find-all p a (suc n) none k low high =
+    elim (p a) as (λ b. p a ≡ b → cond b (Some a) (find p (range_with_len (a + 1) n)) ≡ None → p k ≡ false) [
+      | true ↦ λ here e. absurd (cc)
+      | false ↦ λ here e. ⊎_elim (λ (q : a ≡ k). ap p (sym q) ∙ here) (λ (q : a ≡ k → ⊥). find-all p (a + 1) n e k (omega arith) (omega arith)) (cases_eq a k)
+    ] refl none
 
-pub none-full : (b : Book) (facts : List Fact) (names : List (List Text)) → ((a : ℕ) → a < length b.kinds → get_or names a [] ≡ names_with b facts a) → ((a : ℕ) → a < length b.kinds → length (get_or names a []) ≤ max_of (kind_at b a))
-    → first_full b facts ≡ None
-none-full b facts names are within = find-none _ 0 (length b.kinds) (λ k low high. not-full b facts names k (are k (omega arith)) (within k (omega arith)))
+pub find-before : (p : ℕ → Bool) (a n v : ℕ) → find p (range_with_len a n) ≡ Some v → (v < a + n) × (p v ≡ true) × ((k : ℕ) → a ≤ k → k < v → p k ≡ false)
+find-before p a zero v some = absurd (cc)
+find-before p a (suc n) v some =
+    elim (p a) as (λ b. p a ≡ b → cond b (Some a) (find p (range_with_len (a + 1) n)) ≡ Some v → (v < a + suc n) × (p v ≡ true) × ((k : ℕ) → a ≤ k → k < v → p k ≡ false)) [
+      | true ↦ λ here e. (let is : a ≡ v = cc in (omega arith, ap p (sym is) ∙ here, λ k low high. absurd (omega arith)))
+      | false ↦ λ here e.
+          (let rest = find-before p (a + 1) n v e in
+          let high = rest.0 in
+          (omega arith, rest.1, λ k low lt. ⊎_elim (λ (q : a ≡ k). ap p (sym q) ∙ here) (λ (q : a ≡ k → ⊥). rest.2 k (omega arith) lt) (cases_eq a k)))
+    ] refl some
 
-pub first-full : (b : Book) (facts : List Fact) (names : List (List Text)) (here : List Text) (attr : ℕ) → attr < length b.kinds → ((a : ℕ) → a < attr → get_or names a [] ≡ names_with b facts a)
-    → ((a : ℕ) → a < attr → length (get_or names a []) ≤ max_of (kind_at b a)) → here ≡ names_with b facts attr → max_of (kind_at b attr) < length here → first_full b facts ≡ Some attr
-first-full b facts names here attr lt are within is more =
-    find-first _ 0 (length b.kinds) attr (omega arith) (omega arith) (ap (λ ns. nat_lt (max_of (kind_at b attr)) (length ns)) (sym is) ∙ lt-ltb (max_of (kind_at b attr)) (length here) more)
-    (λ k low high. not-full b facts names k (are k high) (within k high))
+module _ (kinds : List Kind) (names : List (List Text)) where
+  -- the attribute has more names than its `max`
+  abbrev is_full : ℕ → Bool
+  is_full a = nat_lt (max_of (get_or kinds a kind.Number)) (length (get_or names a []))
 
--- the attribute at which a loop stops
-pub full-here : (b : Book) (facts : List Fact) (names : List (List Text)) (old here read : List Text) (attr most len : ℕ) → attr < length names → length names ≡ length b.kinds
-    → ((a : ℕ) → a < attr → get_or names a [] ≡ names_with b facts a) → ((a : ℕ) → a < attr → length (get_or names a []) ≤ max_of (kind_at b a)) → get_or names attr [] ≡ names_at b attr
-    → old ≡ get_or names attr old → here ≡ admitted bytes_eq old (texts_at attr facts) → read ≡ get_or (set names attr here) attr read → len ≡ length read → most ≡ max_of (get_or b.kinds attr (kind.Word 0)) → most < len
-    → first_full b facts ≡ Some attr
-full-here b facts names old here read attr most len lt same are within before old-is here-is read-is len-is most-is more =
-    let was : old ≡ names_at b attr = get_or_read names attr old lt old-is [] ∙ before in
-    let reads : read ≡ here = read-is ∙ get_or-set_same names attr here read lt in
-    let bound : most ≡ max_of (kind_at b attr) = most-is ∙ ap max_of (get_or_default b.kinds attr (kind.Word 0) kind.Number (omega arith)) in
-    let size : len ≡ length here = len-is ∙ ap length reads in
-    first-full b facts names here attr (omega arith) are within (here-is ∙ ap (λ ns. admitted bytes_eq ns (texts_at attr facts)) was) (omega arith)
+  pub none-full : ((a : ℕ) → a < length kinds → length (get_or names a []) ≤ max_of (get_or kinds a kind.Number)) → find is_full (range_with_len 0 (length kinds)) ≡ None
+  none-full within = find-none is_full 0 (length kinds) (λ k low high. le-ltb (max_of (get_or kinds k kind.Number)) (length (get_or names k [])) (within k (omega arith)))
+
+  -- the attribute at which a loop stops
+  pub full-here : (here : List Text) (attr most len : ℕ) → attr < length names → length names ≡ length kinds → ((a : ℕ) → a < attr → length (get_or names a []) ≤ max_of (get_or kinds a kind.Number))
+      → here ≡ get_or names attr here → len ≡ length here → most ≡ max_of (get_or kinds attr (kind.Word 0)) → most < len → find is_full (range_with_len 0 (length kinds)) ≡ Some attr
+  full-here here attr most len lt same within read len-is most-is more =
+      let size : length here ≡ length (get_or names attr []) = ap length (get_or_read names attr here lt read []) in
+      let bound : most ≡ max_of (get_or kinds attr kind.Number) = most-is ∙ ap max_of (get_or_default kinds attr (kind.Word 0) kind.Number (omega arith)) in
+      find-first is_full 0 (length kinds) attr (omega arith) (omega arith) (lt-ltb (max_of (get_or kinds attr kind.Number)) (length (get_or names attr [])) (omega arith))
+      (λ k low high. le-ltb (max_of (get_or kinds k kind.Number)) (length (get_or names k [])) (within k high))
+
+  module _ (none : find is_full (range_with_len 0 (length kinds)) ≡ None) where
+    pub none-within : (a : ℕ) → a < length kinds → length (get_or names a []) ≤ max_of (get_or kinds a kind.Number)
+    none-within a lt = ltb-false (max_of (get_or kinds a kind.Number)) (length (get_or names a [])) (find-all is_full 0 (length kinds) none a (omega arith) (omega arith))
+
+    -- so no attribute has more names than 32 bits can tell
+    pub none-many : length names ≡ length kinds → ((a : ℕ) → max_of (get_or kinds a kind.Number) ≤ name_limit) → (a : ℕ) → HasFew (get_or names a [])
+    none-many same ranges a =
+        ⊎_elim (λ (lt : a < length kinds). (let within = none-within a lt in let range = ranges a in omega arith))
+        (λ (le : length kinds ≤ a). (let past = ap length (get_or_past names a [] (omega arith)) in omega arith)) (cases_lt a (length kinds))

@@ -1,7 +1,7 @@
 -- What is kept of accepted facts: their names, and a names file that grows at its end.
-use Rattle.std.proofs.Common.{inl, inr, ◌≡◌, ℕ, zero, suc, ◌+◌, ◌^◌, ◌-◌, ◌<◌, ◌≤◌, Bool, true, false, cond, List, [], ◌∷◌, ◌++◌, Some, None, length, get_or, map, take, refl, sym, ap, subst, ◌∙◌, ⊎_elim, arith, append_assoc, append-nil}
-use Rattle.std.specs.Prelude.{find, nat_lt, not, slice_set}
-use Rattle.std.specs.List.{All, AllZip, IsDistinct, list_any, cons_option, range_with_len}
+use Rattle.std.proofs.Common.{inl, inr, ◌≡◌, ℕ, zero, suc, ◌^◌, ◌-◌, ◌<◌, ◌≤◌, true, false, cond, List, [], ◌∷◌, ◌++◌, Some, None, length, get_or, map, take, refl, sym, ap, subst, ◌∙◌, ⊎_elim, arith, append_assoc, append-nil}
+use Rattle.std.specs.Prelude.{nat_lt, not, slice_set}
+use Rattle.std.specs.List.{All, AllZip, IsDistinct, list_any, cons_option}
 use Rattle.std.specs.Str.{bytes_eq}
 use Rattle.std.specs.Cmp.Lexicographic.{bytes_decides}
 use Rattle.std.proofs.lemmas.Bool.Decides.{nat_tests}
@@ -32,6 +32,7 @@ use Rattle.attr_dict.specs.Admitting.{Agrees, HasSmallCodes, names_with, first_f
 use Rattle.attr_dict.specs.Entering.{can_enter, entered, all_enter, after_entries}
 use Rattle.attr_dict.proofs.Books.{book-new, unnamed}
 use Rattle.attr_dict.proofs.Columns.{distinct-take, own-short, short-admitted, texts-short}
+use Rattle.attr_dict.proofs.Fulls.{find-all, find-before}
 use Rattle.attr_dict.proofs.Onwards.{text-append, admitted-fresh}
 use Rattle.attr_dict.proofs.Rooms.{book-after}
 
@@ -148,25 +149,6 @@ pub names-grow : (xs ys : List Fact) (a : ℕ) → length (names_of xs a) ≤ le
 names-grow xs ys a = (let more = names-longer xs ys a in omega (arith, ap length more.1, length-append (names_of xs a) more.0))
 
 -- ---- the first full attribute
-
-find-all : (p : ℕ → Bool) (a n : ℕ) → find p (range_with_len a n) ≡ None → (k : ℕ) → a ≤ k → k < a + n → p k ≡ false
-find-all p a zero none k low high = absurd (omega arith)
-find-all p a (suc n) none k low high =
-    elim (p a) as (λ b. p a ≡ b → cond b (Some a) (find p (range_with_len (a + 1) n)) ≡ None → p k ≡ false) [
-      | true ↦ λ here e. absurd (cc)
-      | false ↦ λ here e. ⊎_elim (λ (q : a ≡ k). ap p (sym q) ∙ here) (λ (q : a ≡ k → ⊥). find-all p (a + 1) n e k (omega arith) (omega arith)) (cases_eq a k)
-    ] refl none
-
-find-before : (p : ℕ → Bool) (a n v : ℕ) → find p (range_with_len a n) ≡ Some v → (v < a + n) × (p v ≡ true) × ((k : ℕ) → a ≤ k → k < v → p k ≡ false)
-find-before p a zero v some = absurd (cc)
-find-before p a (suc n) v some =
-    elim (p a) as (λ b. p a ≡ b → cond b (Some a) (find p (range_with_len (a + 1) n)) ≡ Some v → (v < a + suc n) × (p v ≡ true) × ((k : ℕ) → a ≤ k → k < v → p k ≡ false)) [
-      | true ↦ λ here e. (let is : a ≡ v = cc in (omega arith, ap p (sym is) ∙ here, λ k low high. absurd (omega arith)))
-      | false ↦ λ here e.
-          (let rest = find-before p (a + 1) n v e in
-          let high = rest.0 in
-          (omega arith, rest.1, λ k low lt. ⊎_elim (λ (q : a ≡ k). ap p (sym q) ∙ here) (λ (q : a ≡ k → ⊥). rest.2 k (omega arith) lt) (cases_eq a k)))
-    ] refl some
 
 pub full-none : (b : Book) (ys : List Fact) → first_full b ys ≡ None → (a : ℕ) → a < length b.kinds → length (names_with b ys a) ≤ max_of (kind_at b a)
 full-none b ys none a lt = ltb-false _ _ (find-all (λ c. nat_lt (max_of (kind_at b c)) (length (names_with b ys c))) 0 (length b.kinds) none a (omega arith) (omega arith))

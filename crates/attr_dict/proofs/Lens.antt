@@ -1,9 +1,9 @@
 -- How many bytes of a names file the entries of names have.
-use Rattle.std.proofs.Common.{◌≡◌, ℕ, zero, suc, ◌+◌, ◌*◌, ◌<◌, ◌≤◌, ◌==◌, true, not, cond, List, [], ◌∷◌, ◌++◌, Option, Some, None, length, get_or, map, take, Result, Ok, Err, refl, sym, ap, subst, ◌∙◌, ⊎_elim, arith, append-nil}
+use Rattle.std.proofs.Common.{◌≡◌, ℕ, zero, suc, ◌+◌, ◌*◌, ◌<◌, ◌≤◌, ◌==◌, true, not, cond, List, [], ◌∷◌, ◌++◌, Option, Some, None, length, get_or, take, Result, Ok, Err, refl, sym, ap, subst, ◌∙◌, ⊎_elim, arith, append-nil}
 use Rattle.std.specs.Prelude.{OnOk, nat_lt}
-use Rattle.std.specs.List.{cons_option, list_any}
+use Rattle.std.specs.List.{list_any}
 use Rattle.std.specs.Str.{bytes_eq}
-use Rattle.std.proofs.lemmas.Bool.{and_parts, cases_eq, cases_lt, eq-eqb, ltb-true, ne_eqb}
+use Rattle.std.proofs.lemmas.Bool.{and_parts, cases_eq, cases_lt, ltb-true}
 use Rattle.std.proofs.lemmas.List.{get_or_past, get_or-set_same, get_or-set_other, length-append, length-set, take_all, take-append-le}
 use Rattle.std.proofs.lemmas.List.Elements.{filter_map-append}
 use Rattle.std.proofs.lemmas.List.Sums.{sum_by-le, sum_by_push, sum_by-take-le}
@@ -25,6 +25,7 @@ use Rattle.attr_dict.specs.Room.{texts_len, len_of, entries_len, shown_len, entr
 use Rattle.attr_dict.proofs.Books.{unnamed}
 use Rattle.attr_dict.proofs.EntryReads.{booked}
 use Rattle.attr_dict.proofs.Kept.{entries-enter, kinds-after}
+use Rattle.attr_dict.proofs.Listed.{listed, listed-names}
 use Rattle.attr_dict.proofs.Onwards.{admitted-fresh}
 
 abbrev Entry : Type 0
@@ -97,40 +98,12 @@ read-size (Err e) kinds slice names new b bytes same view book read = tt
 abbrev text_for : ℕ → Entry → Option Text
 text_for a e = cond (e.0 == a) (Some e.1) None
 
--- entries of these names, from an attribute on
-abbrev listed : ℕ → List (List Text) → List Entry
-listed k [] = []
-listed k (ns ∷ names) = map (λ t. (k, t)) ns ++ listed (suc k) names
-
-own-texts : (k : ℕ) (ns : List Text) → for_attr k (map (λ t. (k, t)) ns) ≡ ns
-own-texts k [] = refl
-own-texts k (t ∷ ns) = ap (λ b. cons_option (cond b (Some t) None) (for_attr k (map (λ u. (k, u)) ns))) (eq-eqb k k refl) ∙ ap (λ r. t ∷ r) (own-texts k ns)
-
-other-texts : (k a : ℕ) (ns : List Text) → (k ≡ a → ⊥) → for_attr a (map (λ t. (k, t)) ns) ≡ []
-other-texts k a [] apart = refl
-other-texts k a (t ∷ ns) apart = ap (λ b. cons_option (cond b (Some t) None) (for_attr a (map (λ u. (k, u)) ns))) (ne_eqb k a apart) ∙ other-texts k a ns apart
-
-listed-before : (k a : ℕ) (names : List (List Text)) → a < k → for_attr a (listed k names) ≡ []
-listed-before k a [] lt = refl
-listed-before k a (ns ∷ names) lt =
-    filter_map-append (text_for a) (map (λ t. (k, t)) ns) (listed (suc k) names) ∙ (λ i. other-texts k a ns (λ q. omega arith) i ++ listed-before (suc k) a names (omega arith) i)
-
-listed-at : (k i a : ℕ) (names : List (List Text)) → k + i ≡ a → for_attr a (listed k names) ≡ get_or names i []
-listed-at k i a [] is = refl
-listed-at k zero a (ns ∷ names) is =
-    let here : a ≡ k = omega arith in
-    filter_map-append (text_for a) (map (λ t. (k, t)) ns) (listed (suc k) names)
-    ∙ (λ j. (ap (λ c. for_attr c (map (λ t. (k, t)) ns)) here ∙ own-texts k ns) j ++ listed-before (suc k) a names (omega arith) j) ∙ append-nil ns
-listed-at k (suc i) a (ns ∷ names) is =
-    filter_map-append (text_for a) (map (λ t. (k, t)) ns) (listed (suc k) names)
-    ∙ (λ j. other-texts k a ns (λ q. omega arith) j ++ listed-at (suc k) i a names (omega arith) j)
-
 -- the entries of the new names of facts
 pub admitted-len : (b now : Book) (facts : List Fact) (text : List ℕ) → IsBook b → IsBook now → now.kinds ≡ b.kinds → ((a : ℕ) → names_at now a ≡ names_with b facts a)
     → ((seen : List Entry) → Lists b seen → text ≡ entries_text (fresh same_entry seen (named facts))) → entries_len now ≡ entries_len b + length text
 admitted-len b now facts text book next kinds are is =
     let seen = listed 0 b.names in
-    let lists : Lists b seen = λ a. listed-at 0 a a b.names (omega arith) in
+    let lists : Lists b seen = listed-names b.names in
     let es = fresh same_entry seen (named facts) in
     let rooms : (a : ℕ) → length (names_at now a) ≤ max_of (get_or b.kinds a kind.Number) = λ a. subst (λ (ks : List Kind). length (names_at now a) ≤ max_of (get_or ks a kind.Number)) kinds (next.within a) in
     let come : (a : ℕ) → get_or b.names a [] ++ for_attr a es ≡ names_at now a = λ a.

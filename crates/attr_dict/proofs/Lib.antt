@@ -5,6 +5,8 @@ pub mod Books
 pub mod Coords
 pub mod Fulls
 pub mod Entries
+pub mod Listed
+pub mod Rounds
 pub mod Onwards
 pub mod Takes
 pub mod EntryTexts

@@ -1,14 +1,11 @@
-//! Admitting the texts of facts, attribute by attribute.
-ghost use Rattle.std.specs.Prelude.{◌≡◌, ◌<◌, ◌≤◌, ℕ, [], OnOk, IfErr, None, length, get_or};
+//! Why facts are not admitted, and the first attribute that is full.
+ghost use Rattle.std.specs.Prelude.{◌≡◌, ◌≤◌, [], length, get_or, find, nat_lt};
+ghost use Rattle.std.specs.List.{range_with_len};
 ghost use Rattle.cube_schema.specs.Kinds.{max_of};
-ghost use Rattle.attr_dict.specs.Admitting.{Grew, names_with, first_full};
-ghost use Rattle.attr_dict.specs.Full.{IsFull};
 
-use crate::column::admit_texts;
 use crate::names::Names;
 use cube_schema::Kind;
-use fact_model::{Fact, Memory};
-use std::alloc::Global;
+use fact_model::Memory;
 
 /// Why facts are not admitted.
 #[derive(Clone, Copy, Debug, PartialEq, Eq)]
@@ -38,27 +35,16 @@ fn max_of(kind: Kind) -> usize
     }
 }
 
-/// Takes in the texts of all attributes, up to the first that is full.
-pub(crate) fn admit_all(
-    alloc: Global,
-    kinds: &[Kind],
-    names: &mut Vec<Names>,
-    facts: &[Fact],
-) -> Result<(), DictRefusal>
-    requires same { length names.old.items ≡ length kinds.now }
+/// The first attribute with more names than its `max`.
+pub(crate) fn first_full(kinds: &[Kind], names: &[Names]) -> Option<u32>
+    requires same { length names.now ≡ length kinds.now }
     requires few { length kinds.now ≤ 16 }
-    ensures same { length names.new.items ≡ length names.old.items }
-    ensures names { OnOk result ((a : ℕ) → a < length kinds.now → get_or names.new.items a [] ≡ names_with (record { kinds = kinds.now; names = names.old.items }) facts.now a) }
-    ensures within { OnOk result ((a : ℕ) → a < length kinds.now → length (get_or names.new.items a []) ≤ max_of (get_or kinds.now a Kind.Number)) }
-    ensures none { OnOk result (first_full (record { kinds = kinds.now; names = names.old.items }) facts.now ≡ None) }
-    ensures full { IfErr result (IsFull (record { kinds = kinds.now; names = names.old.items }) facts.now) }
-    ensures grew { (a : ℕ) → Grew (get_or names.old.items a []) (get_or names.new.items a []) }
+    ensures { result ≡ find (λ a. nat_lt (max_of (get_or kinds.now a Kind.Number)) (length (get_or names.now a []))) (range_with_len 0 (length kinds.now)) }
 {
     for attr in 0..names.len() {
-        admit_texts(alloc, &mut names[attr], facts, attr as u32)?;
         if names[attr].len() > max_of(kinds[attr]) {
-            return Err(DictRefusal::Full(attr as u32));
+            return Some(attr as u32);
         }
     }
-    Ok(())
+    None
 }

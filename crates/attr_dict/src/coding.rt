@@ -1,136 +1,140 @@
-//! The coordinates of facts, and the entries of the names file for new names.
-ghost use Rattle.std.specs.Prelude.{◌≡◌, ◌<◌, ◌≤◌, ℕ, List, [], ◌∷◌, ◌++◌, OnOk, IfOk, All, length, get_or, map};
+//! Codes for the values of facts in one pass, and the entries of the names file for new names.
+ghost use Rattle.std.specs.Prelude.{◌≡◌, ◌<◌, ◌≤◌, ◌==◌, ◌+◌, ◌-◌, ◌^◌, ℕ, List, [], ◌∷◌, ◌++◌, OnOk, IfOk, All, length, get_or, map, if◌then◌else◌};
+ghost use Rattle.std.specs.List.{list_any};
+ghost use Rattle.std.specs.Str.{bytes_eq};
 ghost use Rattle.fact_model.specs.declared.Fact.{Fact};
-ghost use Rattle.view_points.specs.Codes.{Text, admitted, same_entry, texts_from, named};
+ghost use Rattle.fact_model.specs.declared.fact.Value.TheVariants.{Word};
+ghost use Rattle.fact_batch.specs.Values.{shown};
+ghost use Rattle.view_points.specs.Codes.{Text, admitted, texts_at, same_entry, named};
 ghost use Rattle.view_points.specs.Points.{coord};
-ghost use Rattle.attr_dict.specs.Admitting.{codes_of, entries_text, entry_text, fresh};
-ghost use Rattle.attr_dict.specs.Coding.{Fits, entry_in};
+ghost use Rattle.attr_dict.specs.Admitting.{Grew, codes_of, entries_text, entry_text, fresh};
+ghost use Rattle.attr_dict.specs.Coding.{HasFew, AreNamesOf, entry_in};
 ghost use Rattle.attr_dict.specs.Sizes.{IsSmall};
 
-use crate::lengths::{Lengths, counts_of};
 use crate::names::Names;
-use cube_point::{Coded, CoordList};
-use fact_model::{Fact, Memory, Text, Value};
+use fact_batch::{Batch, FlatRows, LentValue};
+use fact_model::{Memory, Text};
 use std::alloc::Global;
+use std::mem::replace;
 
 /// What admitting facts gives.
-#[derive(Debug, Drop)]
+#[derive(Drop)]
 pub struct Admitted {
     /// The coordinates of each fact, one for each attribute.
-    pub coded: Coded,
+    pub coded: FlatRows<u32>,
     /// The entries of the names file for the new names.
     pub names: Text,
 }
 
 /// Writes the entry of a name.
-pub(crate) fn push_entry(entries: &mut Vec<u8>, attr: usize, text: &Text) -> Result<(), Memory>
+fn push_entry(entries: &mut Vec<u8>, attr: usize, bytes: &[u8]) -> Result<(), Memory>
     requires attr { attr < 256 }
-    requires short { length text.now ≤ 255 }
-    ensures { OnOk result (entries.new.items ≡ entries.old.items ++ entry_text (attr, text.now)) }
+    requires short { length bytes.now ≤ 255 }
+    ensures { OnOk result (entries.new.items ≡ entries.old.items ++ entry_text (attr, bytes.now)) }
 {
-    let bytes = text.as_bytes();
     entries.push(attr as u8)?;
     entries.push(bytes.len() as u8)?;
     Ok(entries.extend_from_slice(bytes)?)
 }
 
-/// The coordinate of a text, whose entry is written where it is new. `next` is how many names each attribute had before.
-fn code_text(
-    names: &[Names],
-    attr: usize,
-    text: &Text,
-    next: &mut [u64; 16],
-    entries: &mut Vec<u8>,
-) -> Result<u64, Memory>
-    requires attr { attr < 16 }
-    requires there { attr < length names.now }
-    requires short { length text.now ≤ 255 }
-    ensures code { IfOk result (λ code. code ≡ coord (get_or names.now attr []) (Value.Word text.now)) }
-    ensures entries { (seen later : List (ℕ × Text)) → Fits names.now next.old seen ((attr, text.now) ∷ later)
-        → OnOk result (entries.new.items ≡ entries.old.items ++ entries_text (fresh same_entry seen ((attr, text.now) ∷ []))) }
-    ensures fits { (seen later : List (ℕ × Text)) → Fits names.now next.old seen ((attr, text.now) ∷ later)
-        → OnOk result (Fits names.now next.new (admitted same_entry seen ((attr, text.now) ∷ [])) later) }
+/// The text of these bytes, in the vector's room, which is to be given back.
+fn refilled(alloc: Global, room: &mut Vec<u8>, bytes: &[u8]) -> Result<Text, Memory>
+    ensures { IfOk result (λ text. text ≡ bytes.now) }
 {
-    let code = names[attr].code_of(text).unwrap_or(0);
-    if code <= next[attr] {
-        return Ok(code);
-    }
-    push_entry(entries, attr, text)?;
-    next[attr] = code;
-    Ok(code)
+    let mut text = replace(room, Vec::new(alloc));
+    text.clear();
+    text.extend_from_slice(bytes)?;
+    Ok(Text::from_vec(text))
 }
 
-/// The coordinate of a value.
-fn code_value(
-    names: &[Names],
+/// The code of a text, which is admitted, and whose entry is written where it is new. A code that 32 bits cannot tell becomes the
+/// greatest that they can.
+fn code_text(
+    alloc: Global,
+    names: &mut Names,
     attr: usize,
-    value: &Value,
-    next: &mut [u64; 16],
+    bytes: &[u8],
+    room: &mut Vec<u8>,
     entries: &mut Vec<u8>,
-) -> Result<u64, Memory>
-    requires attr { attr < 16 }
-    requires there { attr < length names.now }
-    requires small { IsSmall value.now }
-    ensures code { IfOk result (λ code. code ≡ coord (get_or names.now attr []) value.now) }
-    ensures entries { (seen later : List (ℕ × Text)) → Fits names.now next.old seen (entry_in attr value.now ++ later)
-        → OnOk result (entries.new.items ≡ entries.old.items ++ entries_text (fresh same_entry seen (entry_in attr value.now))) }
-    ensures fits { (seen later : List (ℕ × Text)) → Fits names.now next.old seen (entry_in attr value.now ++ later)
-        → OnOk result (Fits names.now next.new (admitted same_entry seen (entry_in attr value.now)) later) }
+) -> Result<u32, Memory>
+    requires attr { attr < 256 }
+    requires short { length bytes.now ≤ 255 }
+    ensures names { OnOk result (names.new ≡ admitted bytes_eq names.old (bytes.now ∷ [])) }
+    ensures code { (later : List Text) → Grew names.new later → HasFew later → IfOk result (λ code. code ≡ coord later (Word bytes.now)) }
+    ensures entries { OnOk result (entries.new.items ≡ entries.old.items ++ (if list_any (bytes_eq bytes.now) names.old then [] else entry_text (attr, bytes.now))) }
+    ensures grew { Grew names.old names.new }
+{
+    let text = refilled(alloc, room, bytes)?;
+    let (code, fresh) = names.admit(alloc, &text)?;
+    *room = text.into_vec();
+    if fresh {
+        push_entry(entries, attr, bytes)?;
+    }
+    Ok(code.min(u64::from(u32::MAX)) as u32)
+}
+
+/// The code of a value. A text is admitted, and its entry written where it is new.
+fn code_value(
+    alloc: Global,
+    names: &mut Vec<Names>,
+    attr: usize,
+    value: LentValue<'_>,
+    room: &mut Vec<u8>,
+    entries: &mut Vec<u8>,
+) -> Result<u32, Memory>
+    requires attr { attr < 256 }
+    requires there { attr < length names.old.items }
+    requires small { IsSmall (shown value) }
+    ensures same { length names.new.items ≡ length names.old.items }
+    ensures names { (seen : List (ℕ × Text)) → AreNamesOf seen names.old.items → OnOk result (AreNamesOf (admitted same_entry seen (entry_in attr (shown value.entry))) names.new.items) }
+    ensures code { (later : List (List Text)) → ((a : ℕ) → Grew (get_or names.new.items a []) (get_or later a [])) → ((a : ℕ) → HasFew (get_or later a [])) → IfOk result (λ code. code ≡ coord (get_or later attr []) (shown value.entry)) }
+    ensures entries { (seen : List (ℕ × Text)) → AreNamesOf seen names.old.items → OnOk result (entries.new.items ≡ entries.old.items ++ entries_text (fresh same_entry seen (entry_in attr (shown value.entry)))) }
+    ensures grew { (a : ℕ) → Grew (get_or names.old.items a []) (get_or names.new.items a []) }
 {
     match value {
-        Value::Number(number) => Ok(number + 1),
-        Value::Word(text) => code_text(names, attr, text, next, entries),
+        LentValue::Number(number) => Ok(number + 1),
+        LentValue::Word(bytes) => code_text(alloc, &mut names[attr], attr, bytes, room, entries),
     }
 }
 
-/// The coordinates of a fact's values.
-fn code_fact(
-    alloc: Global,
-    names: &[Names],
-    fact: &Fact,
-    next: &mut [u64; 16],
-    entries: &mut Vec<u8>,
-) -> Result<CoordList, Memory>
-    requires few { length names.now ≤ 16 }
-    requires values { length fact.now.values ≡ length names.now }
-    requires small { All IsSmall fact.now.values }
-    ensures codes { IfOk result (λ codes. codes ≡ codes_of names.now fact.now) }
-    ensures entries { (seen later : List (ℕ × Text)) → Fits names.now next.old seen (texts_from 0 fact.now.values ++ later)
-        → OnOk result (entries.new.items ≡ entries.old.items ++ entries_text (fresh same_entry seen (texts_from 0 fact.now.values))) }
-    ensures fits { (seen later : List (ℕ × Text)) → Fits names.now next.old seen (texts_from 0 fact.now.values ++ later)
-        → OnOk result (Fits names.now next.new (admitted same_entry seen (texts_from 0 fact.now.values)) later) }
+/// The attribute behind this one, or the first behind the last.
+fn behind(attr: usize, width: usize) -> usize
+    requires { attr < width }
+    ensures { result ≡ (if attr + 1 == width then 0 else attr + 1) }
 {
-    let mut codes = CoordList::new(alloc);
-    let mut attr = 0;
-    for value in fact.values.as_slice() {
-        codes.push(code_value(names, attr, value, next, entries)?)?;
-        attr += 1;
-    }
-    Ok(codes)
+    if attr + 1 == width { 0 } else { attr + 1 }
 }
 
-/// The coordinates of facts and the entries of their new names, where `next` is how many names each attribute had before.
-pub(crate) fn code_facts(
+/// Admits the texts of the facts, and gives the coordinates of all facts and the entries of the new names. The coordinates are right
+/// where then no attribute has more names than 32 bits can tell. After `Memory` new names may stand behind the old.
+pub(crate) fn code_batch(
     alloc: Global,
-    names: &[Names],
-    facts: &[Fact],
-    before: &Lengths,
+    names: &mut Vec<Names>,
+    facts: &Batch,
 ) -> Result<Admitted, Memory>
-    requires few { length names.now ≤ 16 }
-    requires values { All (λ (x : Fact). length x.values ≡ length names.now) facts.now }
+    requires few { length names.old.items ≤ 16 }
+    requires values { All (λ (x : Fact). length x.values ≡ length names.old.items) facts.now }
     requires small { All (λ (x : Fact). All IsSmall x.values) facts.now }
-    ensures coded { IfOk result (λ admitted. admitted.coded ≡ map (codes_of names.now) facts.now) }
-    ensures entries { (seen : List (ℕ × Text)) → Fits names.now before.now.at seen (named facts.now)
-        → IfOk result (λ admitted. admitted.names ≡ entries_text (fresh same_entry seen (named facts.now))) }
+    ensures same { length names.new.items ≡ length names.old.items }
+    ensures names { OnOk result ((a : ℕ) → get_or names.new.items a [] ≡ admitted bytes_eq (get_or names.old.items a []) (texts_at a facts.now)) }
+    ensures coded { ((a : ℕ) → HasFew (get_or names.new.items a [])) → IfOk result (λ admitted. admitted.coded ≡ map (codes_of names.new.items) facts.now) }
+    ensures entries { (seen : List (ℕ × Text)) → AreNamesOf seen names.old.items → IfOk result (λ admitted. admitted.names ≡ entries_text (fresh same_entry seen (named facts.now))) }
+    ensures grew { (a : ℕ) → Grew (get_or names.old.items a []) (get_or names.new.items a []) }
 {
-    let mut next = counts_of(before);
-    let mut coded = Coded::new(alloc);
+    let width = names.len();
+    let rows = facts.len();
+    // The batch holds as many values, so the product is met.
+    let mut codes = Vec::with_capacity(alloc, rows.saturating_mul(width))?;
     let mut entries = Vec::new(alloc);
-    for fact in facts {
-        coded.push(code_fact(alloc, names, fact, &mut next, &mut entries)?)?;
+    let mut room = Vec::new(alloc);
+    let mut attr = 0;
+    let mut values = facts.values();
+    while let Some(value) = values.next_value() {
+        codes.push(code_value(alloc, names, attr, value, &mut room, &mut entries)?)?;
+        attr = behind(attr, width);
     }
     Ok(Admitted {
-        coded,
+        coded: FlatRows::from_vec(width, rows, codes),
         names: Text::from_vec(entries),
     })
 }

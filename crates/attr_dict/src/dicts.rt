@@ -22,7 +22,8 @@ use crate::names::Names;
 use crate::read::{NamesStop, read_entries};
 use crate::take::take_in;
 use cube_schema::{Attr, Kind, Schema};
-use fact_model::{FactList, Memory, Text, Value};
+use fact_batch::Batch;
+use fact_model::{Memory, Text, Value};
 use std::alloc::Global;
 use std::marker::Model;
 
@@ -142,7 +143,7 @@ impl Dicts {
 
     /// Gives codes to the new texts of the facts, and gives the coordinates of all facts and the entries of the names file for the new
     /// names, in order of fact and then of attribute. After a refusal all is as before.
-    pub fn admit(&mut self, facts: &FactList) -> Result<Admitted, DictRefusal>
+    pub fn admit(&mut self, facts: &Batch) -> Result<Admitted, DictRefusal>
         requires { All (Agrees self.old.kinds) facts.now }
         ensures kinds { self.new.kinds ≡ self.old.kinds }
         ensures names { OnOk result ((a : ℕ) → names_at self.new a ≡ names_with self.old facts.now a) }
@@ -161,13 +162,7 @@ impl Dicts {
         ensures unchanged { OnErr result (self.new ≡ self.old) }
     {
         let before = lengths_of(self.names.as_slice());
-        let taken = take_in(
-            self.alloc,
-            self.kinds.as_slice(),
-            &mut self.names,
-            &before,
-            facts.as_slice(),
-        );
+        let taken = take_in(self.alloc, self.kinds.as_slice(), &mut self.names, facts);
         match taken {
             Ok(admitted) => Ok(admitted),
             Err(refusal) => {

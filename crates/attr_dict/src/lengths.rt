@@ -22,17 +22,6 @@ pub(crate) fn lengths_of(names: &[Names]) -> Lengths
     Lengths { at }
 }
 
-/// The lengths as wider numbers.
-pub(crate) fn counts_of(lengths: &Lengths) -> [u64; 16]
-    ensures { (a : ℕ) → slice_index result a ≡ slice_index lengths.now.at a }
-{
-    let mut counts = [0; 16];
-    for attr in 0..16 {
-        counts[attr] = u64::from(lengths.at[attr]);
-    }
-    counts
-}
-
 /// Drops the newest names down to these lengths.
 pub(crate) fn cut(names: &mut Vec<Names>, lengths: &Lengths)
     requires { length names.old.items ≤ 16 }

@@ -6,9 +6,9 @@ ghost use Rattle.cube_batches.specs.Reading.{IsOfSchema, IsRead};
 
 use cube_schema::Schema;
 use cube_state::Stop;
+use fact_batch::Batch;
 use fact_csv::{MOST_ROWS, RowRefusal, read_batch};
 use fact_gen::generate;
-use fact_model::FactList;
 use plain_machine::BatchSource;
 use script_lang::Block;
 use std::alloc::Global;
@@ -17,7 +17,7 @@ use std::alloc::Global;
 #[derive(Drop)]
 pub enum Read {
     /// These facts.
-    Batch(FactList),
+    Batch(Batch),
     /// None, and the reply that says why.
     Refused(Vec<u8>),
 }

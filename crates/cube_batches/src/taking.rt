@@ -90,7 +90,7 @@ fn take_source<T: Site>(
             }));
         }
     };
-    if batch.as_slice().is_empty() {
+    if batch.is_empty() {
         return Ok(Taken::Begun(State::Hollow(store)));
     }
     match Refresh::begin(alloc, site, store, batch) {

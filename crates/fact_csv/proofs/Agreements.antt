@@ -1,8 +1,9 @@
 -- The facts of a batch agree with the schema.
-use Rattle.std.proofs.Common.{◌≡◌, ◌≤◌, ℕ, ◌+◌, ◌==◌, Bool, true, false, List, [], ◌∷◌, length, drop, map, nat_le, ℤ, pos, negsuc, Option, Some, None, Result, Ok, Err, refl, sym, ◌∙◌, ap, subst, arith}
+use Rattle.std.proofs.Common.{◌≡◌, ◌≤◌, ℕ, ◌+◌, ◌-◌, ◌==◌, Bool, true, false, List, [], ◌∷◌, length, drop, map, nat_le, ℤ, pos, negsuc, Option, Some, None, Result, Ok, Err, refl, sym, ◌∙◌, ap, subst, arith}
 use Rattle.std.proofs.lemmas.Bool.Decides.{nat_tests}
 use Rattle.std.proofs.lemmas.List.{length-drop}
 use Rattle.std.proofs.lemmas.List.Elements.{All-cons}
+use Rattle.std.proofs.lemmas.Slice.Zip.{length-zip}
 use Rattle.std.specs.Option.{unwrap_or}
 use Rattle.std.specs.Result.{result_ok}
 use Rattle.std.specs.List.{All, AllZip, enumerate_from, zip}
@@ -83,6 +84,15 @@ all_hold f P holds first (x ∷ xs) ys is =
     let s = split (f first x) (map (λ p. f p.0 p.1) (enumerate_from (first + 1) xs)) ys is in
     subst (All P) (sym s.whole) (All-cons P s.first s.others (holds first x s.first s.is) (all_hold f P holds (first + 1) xs s.others s.are))
 
+-- there is a value for each attribute
+pub values_count : (row : ℕ) (attrs : List Attr) (fields : List (List ℕ)) (values : List Value) → length attrs ≤ length fields → values_in row attrs fields ≡ Ok values → length values ≡ length attrs
+values_count row attrs fields values short is =
+    as_many (λ number (p : Attr × List ℕ). value_in p.0.kind row number p.1) 1 (zip attrs fields) values is ∙ omega (arith, length-zip attrs fields, short)
+
+-- there is a number for each field behind the first so many
+pub numbers_count : (row attrs : ℕ) (fields : List (List ℕ)) (numbers : List ℤ) → measures_in row attrs fields ≡ Ok numbers → length numbers ≡ length fields - attrs
+numbers_count row attrs fields numbers is = as_many (measure_in row) (attrs + 1) (drop attrs fields) numbers is ∙ length-drop attrs fields
+
 -- a fact comes of all values and all numbers
 record FromBoth (values : Result (List Value) RowRefusal) (numbers : Result (List ℤ) RowRefusal) (fact : Fact) : Type 0 where
   values_are : values ≡ Ok fact.values
@@ -102,8 +112,7 @@ whole_row schema row fields fact true all is =
     let count : length fields ≡ length schema.attrs + length schema.measures = grind (arith, nat_tests) in
     record {
       values = values_kinds row 1 schema.attrs fields fact.values (omega (arith, count)) parts.values_are;
-      measures = as_many (measure_in row) (length schema.attrs + 1) (drop (length schema.attrs) fields) fact.measures parts.numbers_are
-          ∙ omega (arith, length-drop (length schema.attrs) fields, count);
+      measures = numbers_count row (length schema.attrs) fields fact.measures parts.numbers_are ∙ omega (arith, count);
     }
 whole_row schema row fields fact false all is = let wrong = rw all at is in cc wrong
 

@@ -1,5 +1,6 @@
 pub mod Agreements
 pub mod Answers
+pub mod Drafts
 pub mod Gathering
 pub mod Items
 pub mod Rows

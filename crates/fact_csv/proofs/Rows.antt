@@ -1,6 +1,6 @@
 -- What rows give, one row after the other.
-use Rattle.std.proofs.Common.{◌≡◌, ℕ, ◌+◌, ◌≤◌, List, [], ◌∷◌, ◌++◌, Result, Ok, Err, cond, length, map, refl, sym, ap, subst, ◌∙◌, arith, append-nil}
-use Rattle.std.specs.Prelude.{IfErr, IfOk}
+use Rattle.std.proofs.Common.{◌≡◌, ℕ, ◌+◌, ◌≤◌, ◌<◌, List, [], ◌∷◌, ◌++◌, Result, Ok, Err, cond, length, map, refl, sym, ap, subst, ◌∙◌, arith, append-nil}
+use Rattle.std.specs.Prelude.{IfErr, IfOk, OnOk}
 use Rattle.std.specs.Result.{IsErrAnd}
 use Rattle.std.specs.List.{All, enumerate_from}
 use Rattle.std.proofs.lemmas.Bool.{le-ltb, lt-ltb}
@@ -8,10 +8,12 @@ use Rattle.std.proofs.lemmas.List.{length-append}
 use Rattle.csv_text.specs.Records.{records_of}
 use Rattle.cube_schema.specs.Agreeing.{Agrees}
 use Rattle.cube_schema.specs.declared.schema.Schema.{Schema}
+use Rattle.fact_batch.specs.Batch.{Draft}
 use Rattle.fact_model.specs.declared.fact.Fact.{Fact}
 use Rattle.fact_csv.specs.declared.refusal.RowRefusal.{RowRefusal}
 use Rattle.fact_csv.specs.declared.refusal.RowRefusal.TheVariants as refusals
 use Rattle.fact_csv.specs.Batch.{AreRead, Refuses, batch_of, fact_in, fact_answers, facts_in}
+use Rattle.fact_csv.specs.Drafts.{HasRow, drafted}
 use Rattle.fact_csv.specs.Gathered.{with_first, gathered}
 use Rattle.fact_csv.proofs.Agreements.{facts_agree, facts_count}
 
@@ -48,21 +50,34 @@ module _ (schema : Schema) (rows : List Row) (row : Row) (number : ℕ) (at : nu
   one_more = ap gathered (answers_push schema 1 rows row ∙ ap (λ k. fact_answers schema rows ++ fact_in schema k row ∷ []) (omega arith)) ∙ gathered_push (fact_answers schema rows) (fact_in schema number row)
 
   -- a good row is one fact more
-  pub goes_on : (facts new : List Fact) (fact : Fact) → facts_in schema rows ≡ Ok facts → fact_in schema number row ≡ Ok fact → new ≡ facts ++ fact ∷ [] → facts_in schema (rows ++ row ∷ []) ≡ Ok new
+  goes_on : (facts new : List Fact) (fact : Fact) → facts_in schema rows ≡ Ok facts → fact_in schema number row ≡ Ok fact → new ≡ facts ++ fact ∷ [] → facts_in schema (rows ++ row ∷ []) ≡ Ok new
   goes_on facts new fact so_far here pushed = one_more ∙ (λ i. with_last (so_far i) (here i)) ∙ ap Ok (sym pushed)
 
   -- the first that is not good is the fault
-  pub first_fault : (facts : List Fact) (e : RowRefusal) → facts_in schema rows ≡ Ok facts → Refuses (fact_in schema number row) e → Refuses (facts_in schema (rows ++ row ∷ [])) e
+  first_fault : (facts : List Fact) (e : RowRefusal) → facts_in schema rows ≡ Ok facts → Refuses (fact_in schema number row) e → Refuses (facts_in schema (rows ++ row ∷ [])) e
   first_fault facts e so_far bad = λ other. one_more ∙ (λ i. with_last (so_far i) (bad other i))
 
   -- and stays it
   pub fault_stays : (e : RowRefusal) → Refuses (facts_in schema rows) e → Refuses (facts_in schema (rows ++ row ∷ [])) e
   fault_stays e bad = λ other. one_more ∙ ap (λ read. with_last read (fact_in schema number row)) (bad other)
 
+  -- and so with one row more in a draft
+  pub with_answer : (answer : Result (Unit {0}) RowRefusal) (old new : Draft) → facts_in schema rows ≡ Ok old.facts → OnOk answer (HasRow (fact_in schema number row) old new)
+      → IfErr answer (Refuses (fact_in schema number row)) → AreRead schema (rows ++ row ∷ []) (drafted answer new)
+  with_answer (Ok none) old new so_far has bad = goes_on old.facts new.facts has.fact so_far has.good (ap (λ (d : Draft). d.facts) has.pushed)
+  with_answer (Err e) old new so_far has bad = first_fault old.facts e so_far bad
+
 -- the fault that a `?` hands on
-pub handed_fault : (schema : Schema) (rows : List Row) (result : Result (List Fact) RowRefusal) (e : RowRefusal) → IsErrAnd result (λ s. s ≡ e) → Refuses (facts_in schema rows) e → AreRead schema rows result
-handed_fault schema rows (Ok facts) e is bad = absurd is
-handed_fault schema rows (Err s) e is bad = subst (Refuses (facts_in schema rows)) (sym is) bad
+pub handed_fault : (schema : Schema) (rows : List Row) (answer : Result (Unit {0}) RowRefusal) (draft : Draft) (e : RowRefusal) → IsErrAnd answer (λ s. s ≡ e) → Refuses (facts_in schema rows) e
+    → AreRead schema rows (drafted answer draft)
+handed_fault schema rows (Ok none) draft e is bad = absurd is
+handed_fault schema rows (Err s) draft e is bad = subst (Refuses (facts_in schema rows)) (sym is) bad
+
+-- a draft has as many facts as there are rows
+pub few_so_far : (schema : Schema) (rows : List Row) (answer : Result (Unit {0}) RowRefusal) (draft : Draft) → AreRead schema rows (drafted answer draft) → length rows < 262144
+    → OnOk answer (length draft.facts < 262144)
+few_so_far schema rows (Ok none) draft read few = (let count = facts_count schema rows draft.facts read in omega arith)
+few_so_far schema rows (Err e) draft read few = tt
 
 -- ---- the rows of a block
 

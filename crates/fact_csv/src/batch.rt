@@ -1,16 +1,18 @@
 //! The rows of a block.
-ghost use Rattle.std.specs.Prelude.{◌≡◌, ◌≤◌, ◌+◌, List, ℕ, ◌++◌, ◌∷◌, [], Ok, IfOk, IfErr, length};
+ghost use Rattle.std.specs.Prelude.{◌≡◌, ◌≤◌, ◌<◌, ◌+◌, List, ℕ, ◌++◌, ◌∷◌, [], Ok, IfOk, IfErr, OnOk, length};
 ghost use Rattle.std.specs.List.{All};
 ghost use Rattle.csv.specs.Records.{fields_of};
 ghost use Rattle.cube_schema.specs.Agreeing.{Agrees};
 ghost use Rattle.fact_csv.specs.Batch.{AreRead, batch_of, Refuses};
+ghost use Rattle.fact_batch.specs.Batch.{IsBetween};
+ghost use Rattle.fact_csv.specs.Drafts.{drafted};
 
 use crate::refusal::RowRefusal;
 use crate::row::read_row;
 use csv::ByteRecord;
 use csv_text::{block_reader, read_record};
 use cube_schema::Schema;
-use fact_model::{FactList, ListOf};
+use fact_batch::{Batch, BatchBuilder};
 use std::alloc::Global;
 
 /// The most rows of a batch.
@@ -18,7 +20,7 @@ pub const MOST_ROWS: u64 = 262_144;
 
 /// Reads the rows of a block as facts. It is refused exactly where there are more than 262,144 rows, and otherwise where a
 /// row is faulty; then the first faulty row is named, by its number of fields and else by its first faulty field.
-pub fn read_batch(alloc: Global, schema: &Schema, block: &[u8]) -> Result<FactList, RowRefusal>
+pub fn read_batch(alloc: Global, schema: &Schema, block: &[u8]) -> Result<Batch, RowRefusal>
     ensures read { IfOk result (λ facts. batch_of schema.now block.now ≡ Ok facts) }
     ensures refused { IfErr result (Refuses (batch_of schema.now block.now)) }
 
@@ -27,31 +29,48 @@ pub fn read_batch(alloc: Global, schema: &Schema, block: &[u8]) -> Result<FactLi
 {
     let mut reader = block_reader(alloc, block);
     let mut fields = ByteRecord::new(alloc);
-    let mut facts: Result<FactList, RowRefusal> = Ok(ListOf::new(alloc));
+    let attrs = schema.attrs.as_slice().len();
+    let measures = schema.measures.as_slice().len();
+    let mut builder = BatchBuilder::new(alloc, attrs, measures);
+    let mut so_far: Result<(), RowRefusal> = Ok(());
     // Too many rows are refused before any fault, so the records behind the first fault are counted.
     for row in 0..MOST_ROWS {
         if !read_record(&mut reader, &mut fields)? {
-            return facts;
+            return batch_from(builder, so_far);
         }
-        facts = with_row(alloc, schema, row + 1, &fields, facts);
+        so_far = with_row(schema, row + 1, &fields, &mut builder, so_far);
     }
     if read_record(&mut reader, &mut fields)? {
         return Err(RowRefusal::Rows);
     }
-    facts
+    batch_from(builder, so_far)
 }
 
-/// The facts of the rows so far and of the next, or the first fault.
+/// Adds the fact of the next row to those of the rows so far, or answers the first fault.
 fn with_row(
-    alloc: Global,
     schema: &Schema,
     row: u64,
     fields: &ByteRecord,
-    so_far: Result<FactList, RowRefusal>,
-) -> Result<FactList, RowRefusal>
-    ensures { (rows : List (List (List ℕ))) → row ≡ length rows + 1 → AreRead schema.now rows so_far → AreRead schema.now (rows ++ fields_of fields.now ∷ []) result }
+    builder: &mut BatchBuilder,
+    so_far: Result<(), RowRefusal>,
+) -> Result<(), RowRefusal>
+    requires between { OnOk so_far (IsBetween (length schema.now.attrs) (length schema.now.measures) builder.old) }
+    requires few { OnOk so_far (length builder.old.facts < 262144) }
+    ensures between { OnOk result (IsBetween (length schema.now.attrs) (length schema.now.measures) builder.new) }
+    ensures read { (rows : List (List (List ℕ))) → row ≡ length rows + 1 → AreRead schema.now rows (drafted so_far builder.old) → AreRead schema.now (rows ++ fields_of fields.now ∷ []) (drafted result builder.new) }
 {
-    let mut facts = so_far?;
-    facts.push(read_row(alloc, schema, row, fields)?)?;
-    Ok(facts)
+    so_far?;
+    read_row(schema, row, fields, builder)
+}
+
+/// The batch of the facts, or the first fault.
+fn batch_from(builder: BatchBuilder, so_far: Result<(), RowRefusal>) -> Result<Batch, RowRefusal>
+    requires values { OnOk so_far (builder.values ≡ []) }
+    requires numbers { OnOk so_far (builder.numbers ≡ []) }
+    ensures { result ≡ drafted so_far builder }
+{
+    match so_far {
+        Ok(()) => Ok(builder.finish()),
+        Err(refusal) => Err(refusal),
+    }
 }

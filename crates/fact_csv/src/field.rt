@@ -1,21 +1,23 @@
 //! One field of a row.
-ghost use Rattle.std.specs.Prelude.{◌≡◌, Ok, IfOk, IfErr};
+ghost use Rattle.std.specs.Prelude.{◌≡◌, OnOk, IfErr};
 ghost use Rattle.fact_csv.specs.Batch.{value_in, measure_in, Refuses};
+ghost use Rattle.fact_csv.specs.Drafts.{HasValue};
 
 use crate::refusal::RowRefusal;
 use cube_schema::Kind;
-use fact_model::{GREATEST_NUMBER, LONGEST_TEXT, Text, Value, read_number};
-use std::alloc::Global;
+use fact_batch::BatchBuilder;
+use fact_model::{GREATEST_NUMBER, LONGEST_TEXT, read_number};
 
-/// The value that a field gives an attribute of this kind.
+/// Adds the value that a field gives an attribute of this kind, or answers its fault. After a fault nothing is said of the
+/// builder.
 pub fn read_value(
-    alloc: Global,
     kind: Kind,
     row: u64,
     field: u64,
     bytes: &[u8],
-) -> Result<Value, RowRefusal>
-    ensures read { IfOk result (λ value. value_in kind row field bytes.now ≡ Ok value) }
+    builder: &mut BatchBuilder,
+) -> Result<(), RowRefusal>
+    ensures read { OnOk result (HasValue (value_in kind row field bytes.now) builder.old builder.new) }
     ensures refused { IfErr result (Refuses (value_in kind row field bytes.now)) }
 {
     match kind {
@@ -23,11 +25,11 @@ pub fn read_value(
             if bytes.len() > LONGEST_TEXT {
                 return Err(RowRefusal::Long { row, field });
             }
-            Ok(Value::Word(Text::from_bytes(alloc, bytes)?))
+            Ok(builder.push_text(bytes)?)
         }
         Kind::Number => match read_number(bytes) {
             Some(number) if 0 <= number && number <= GREATEST_NUMBER => {
-                Ok(Value::Number(number as u64))
+                Ok(builder.push_value(number as u32)?)
             }
             _ => Err(RowRefusal::Number { row, field }),
         },

@@ -1,23 +1,26 @@
 //! One row of a batch.
-ghost use Rattle.std.specs.Prelude.{◌≡◌, ◌≤◌, [], Ok, IfOk, IfErr, length, get_or};
+ghost use Rattle.std.specs.Prelude.{◌≡◌, ◌≤◌, ◌<◌, [], Ok, IfErr, OnOk, length, get_or};
 ghost use Rattle.csv.specs.Records.{fields_of};
 ghost use Rattle.fact_csv.specs.Batch.{fact_in, values_in, measures_in, Refuses};
+ghost use Rattle.fact_batch.specs.Batch.{IsBetween};
+ghost use Rattle.fact_csv.specs.Drafts.{HasRow};
 
 use crate::field::{read_measure, read_value};
 use crate::refusal::RowRefusal;
 use csv::ByteRecord;
 use cube_schema::{Attr, Schema};
-use fact_model::{Fact, ListOf, NumberList, ValueList};
-use std::alloc::Global;
+use fact_batch::BatchBuilder;
 
-/// The fact of a row, or its first fault.
+/// Adds the fact of a row, or answers its first fault. After a fault nothing is said of the builder.
 pub fn read_row(
-    alloc: Global,
     schema: &Schema,
     row: u64,
     fields: &ByteRecord,
-) -> Result<Fact, RowRefusal>
-    ensures read { IfOk result (λ fact. fact_in schema.now row (fields_of fields.now) ≡ Ok fact) }
+    builder: &mut BatchBuilder,
+) -> Result<(), RowRefusal>
+    requires between { IsBetween (length schema.now.attrs) (length schema.now.measures) builder.old }
+    requires few { length builder.old.facts < 262144 }
+    ensures read { OnOk result (HasRow (fact_in schema.now row (fields_of fields.now)) builder.old builder.new) }
     ensures refused { IfErr result (Refuses (fact_in schema.now row (fields_of fields.now))) }
 {
     let attrs = schema.attrs.as_slice();
@@ -25,46 +28,48 @@ pub fn read_row(
     if fields.len() != attrs.len() + measures {
         return Err(RowRefusal::Fields(row));
     }
-    let values = read_values(alloc, attrs, row, fields)?;
-    let measures = read_measures(alloc, attrs.len(), row, fields)?;
-    Ok(Fact { values, measures })
+    read_values(attrs, row, fields, builder)?;
+    read_measures(attrs.len(), row, fields, builder)?;
+    builder.end_fact();
+    Ok(())
 }
 
-/// The values that the first fields give the attributes, or the first fault.
+/// Adds the values that the first fields give the attributes, or answers the first fault.
 fn read_values(
-    alloc: Global,
     attrs: &[Attr],
     row: u64,
     fields: &ByteRecord,
-) -> Result<ValueList, RowRefusal>
-    requires { length attrs.now ≤ length (fields_of fields.now) }
-    ensures read { IfOk result (λ values. values_in row attrs.now (fields_of fields.now) ≡ Ok values) }
+    builder: &mut BatchBuilder,
+) -> Result<(), RowRefusal>
+    requires short { length attrs.now ≤ length (fields_of fields.now) }
+    requires none { builder.old.values ≡ [] }
+    ensures read { OnOk result (values_in row attrs.now (fields_of fields.now) ≡ Ok builder.new.values) }
+    ensures rest { OnOk result (builder.new ≡ record builder.old { values = builder.new.values }) }
     ensures refused { IfErr result (Refuses (values_in row attrs.now (fields_of fields.now))) }
 {
-    let mut values = ListOf::new(alloc);
     for (i, attr) in attrs.iter().enumerate() {
-        let value = read_value(alloc, attr.kind, row, i as u64 + 1, field(fields, i))?;
-        values.push(value)?;
+        read_value(attr.kind, row, i as u64 + 1, field(fields, i), builder)?;
     }
-    Ok(values)
+    Ok(())
 }
 
-/// The numbers that the fields behind the first so many give the measures, or the first fault.
+/// Adds the numbers that the fields behind the first so many give the measures, or answers the first fault.
 fn read_measures(
-    alloc: Global,
     attrs: usize,
     row: u64,
     fields: &ByteRecord,
-) -> Result<NumberList, RowRefusal>
-    ensures read { IfOk result (λ numbers. measures_in row attrs (fields_of fields.now) ≡ Ok numbers) }
+    builder: &mut BatchBuilder,
+) -> Result<(), RowRefusal>
+    requires none { builder.old.numbers ≡ [] }
+    ensures read { OnOk result (measures_in row attrs (fields_of fields.now) ≡ Ok builder.new.numbers) }
+    ensures rest { OnOk result (builder.new ≡ record builder.old { numbers = builder.new.numbers }) }
     ensures refused { IfErr result (Refuses (measures_in row attrs (fields_of fields.now))) }
 {
-    let mut numbers = ListOf::new(alloc);
     for i in attrs..fields.len() {
         let number = read_measure(row, i as u64 + 1, field(fields, i))?;
-        numbers.push(number)?;
+        builder.push_number(number)?;
     }
-    Ok(numbers)
+    Ok(())
 }
 
 /// The field at this place, counted from 0; empty past the last.

@@ -2,11 +2,14 @@
 use Rattle.std.proofs.Common.{◌≡◌, ℕ, min, zero, suc, ◌+◌, ◌<◌, ◌≤◌, ◌^◌, ◌-◌, List, [], ◌∷◌, ◌++◌, map, length, replicate, slice_index, Result, Ok, Err, IfErr, refl, sym, ◌∙◌, ap, subst, arith, append_assoc, length-append}
 use Rattle.std.specs.List.{All}
 use Rattle.std.proofs.lemmas.List.{get_or-drop}
-use Rattle.std.specs.Prelude.{IsErrAnd}
+use Rattle.std.specs.Prelude.{IsErrAnd, nat_abs, get_or, take}
+use Rattle.std.proofs.lemmas.List.{take_more}
+use Rattle.fact_model.specs.Fact.{measure_at}
 use Rattle.site_core.specs.Disk.{Files}
 use Rattle.fact_model.specs.declared.fact.Fact.{Fact}
 use Rattle.fact_model.specs.Fact.{mass, mass_limit}
 use Rattle.view_points.proofs.Members.{every-append, every-from_All, All-from_every}
+use Rattle.site_core.specs.Causes.{HasCauseWhere}
 use Rattle.view_points.proofs.Sums.{mass-append}
 use Rattle.forest_root.specs.declared.body.Body.{Body}
 use Rattle.forest_root.specs.Body.{IsBody, max_facts, max_names_len}
@@ -161,7 +164,28 @@ pub err_then : {A E : Type 0} (result : Result A E) (P Q : E → Type 0) → IfE
 err_then (Ok x) P Q p then = tt
 err_then (Err e) P Q p then = then e p
 
+-- the error of an answer that has one
+abbrev err_in : {B E : Type 0} → E → Result B E → E
+err_in d (Ok x) = d
+err_in d (Err e) = e
+
+-- a cause goes on where the same error is handed on
+pub cause_again : {A B E : Type 0} (fault : E) (before now : ℕ) (e : E) (result : Result B E) → HasCauseWhere {T = A} fault before now (Err e) → IsErrAnd result (λ x. x ≡ e) → HasCauseWhere fault before now result
+cause_again fault before now e (Ok x) was is = absurd is
+cause_again fault before now e (Err d) was is = record {
+  later = was.later;
+  failed = λ same. was.failed (ap Err (sym is ∙ ap (err_in d) same));
+  other = λ apart. was.other (λ same. apart (ap Err (is ∙ ap (err_in e) same)));
+  ok = tt;
+}
+
 -- an error of which something holds
 pub err_if : {A E : Type 0} (result : Result A E) (P : E → Type 0) → IsErrAnd result P → IfErr result P
 err_if (Ok x) P h = tt
 err_if (Err e) P h = h
+
+-- one fact more
+pub mass_more : (m : ℕ) (facts : List Fact) (at : ℕ) (d : Fact) → at < length facts → mass m (take (at + 1) facts) ≡ mass m (take at facts) + nat_abs (measure_at m (get_or facts at d))
+mass_more m facts at d lt =
+    let one : mass m (get_or facts at d ∷ []) ≡ nat_abs (measure_at m (get_or facts at d)) = omega arith in
+    omega (arith, ap (mass m) (take_more facts at d lt), mass-append m (take at facts) (get_or facts at d ∷ []), one)

@@ -1,13 +1,11 @@
 //! A batch is prepared: its names have codes, its points are made, and all memory is taken. No file is called.
 ghost use Rattle.std.specs.Prelude.{◌≡◌, ◌≢◌, ◌<◌, ◌≤◌, ◌+◌, ◌++◌, ℕ, IfOk, IfErr, OnErr, OnOk, List, length, slice_index, vec_capacity};
-ghost use Rattle.std.specs.List.{All};
 ghost use Rattle.site_core.specs.Disk.{Files};
 ghost use Rattle.fact_model.specs.declared.fact.Fact as declared;
 ghost use Rattle.view_points.specs.Codes.{names_of};
 ghost use Rattle.attr_dict.specs.Admitting.{names_with};
 ghost use Rattle.attr_dict.specs.Book.{HoldsNamesOf, names_at, shown_names};
 ghost use Rattle.attr_dict.specs.Room.{entries_len, entries_limit};
-ghost use Rattle.cube_schema.specs.Agreeing.{Agrees};
 ghost use Rattle.cube_schema.specs.Writing.{canonical};
 ghost use Rattle.forest_root.specs.Body.{max_facts};
 ghost use Rattle.forest_store.specs.Held.{AreAccepted, HasNames, IsLive};
@@ -23,8 +21,9 @@ use crate::limits::{masses, names_len, total};
 use crate::room::{Room, take_room};
 use crate::stop::BeginStop;
 use attr_dict::Admitted;
-use delta_agg::{DeltaList, deltas};
-use fact_model::{FactList, Text};
+use delta_agg::{Deltas, deltas};
+use fact_batch::Batch;
+use fact_model::Text;
 use forest_root::{Body, Store};
 use std::alloc::Global;
 
@@ -32,7 +31,7 @@ use std::alloc::Global;
 #[derive(Drop)]
 pub(crate) struct Prepared {
     /// The points of the batch in each tree.
-    pub deltas: DeltaList,
+    pub deltas: Deltas,
     /// The entries of the names file for its new names.
     pub names: Text,
     /// The body of the next generation, without numbers of points.
@@ -42,30 +41,26 @@ pub(crate) struct Prepared {
 }
 
 /// Prepares a batch of at least one fact. It gives codes to its new names, which slices do not know; without an Ok they are forgotten.
-pub(crate) fn prepare(
-    alloc: Global,
-    store: &mut Store,
-    facts: &FactList,
-) -> Result<Prepared, BeginStop>
-    requires batch { IsBatchOf store.old.forest.schema facts.now }
+pub(crate) fn prepare(alloc: Global, store: &mut Store, facts: Batch) -> Result<Prepared, BeginStop>
+    requires batch { IsBatchOf store.old.forest.schema facts }
     requires whole { IsWhole store.old }
 
     ensures prepared { IfOk result (λ p. IsBegun (begun_with store.new p)) }
     ensures room { IfOk result (λ p. length p.deltas ≤ vec_capacity p.room.rows) }
     ensures adds { (accepted : List declared.Fact) (files : Files) → IsStoreOf store.old accepted files
-        → IfOk result (λ p. IsRefreshOf (begun_with store.new p) accepted facts.now files) }
-    ensures points { IfOk result (λ p. p.deltas ≡ deltas_by (names_with store.old.dicts facts.now) store.old.forest.schema facts.now) }
+        → IfOk result (λ p. IsRefreshOf (begun_with store.new p) accepted facts files) }
+    ensures points { IfOk result (λ p. p.deltas ≡ deltas_by (names_with store.old.dicts facts) store.old.forest.schema facts) }
     ensures limit { (accepted : List declared.Fact) (files : Files) → IsStoreOf store.old accepted files
-        → IfErr result (TellsLimit store.old.forest.schema (accepted ++ facts.now)) }
+        → IfErr result (TellsLimit store.old.forest.schema (accepted ++ facts)) }
     ensures no_fault { IfErr result (λ stop. stop ≢ BeginStop.Disk) }
     ensures forest { store.new.forest ≡ store.old.forest }
     ensures shown { store.new.shown ≡ store.old.shown }
     ensures front { OnOk result ((a : ℕ) → shown_names store.new.dicts store.new.shown.at a ≡ names_at store.old.dicts a) }
     ensures back { OnErr result (IsBack store.old store.new) }
 {
-    let count = total(store.forest.body.facts, facts.as_slice().len())?;
+    let count = total(store.forest.body.facts, facts.len())?;
     let before = store.dicts.lengths();
-    let admitted = store.dicts.admit(facts)?;
+    let admitted = store.dicts.admit(&facts)?;
     match prepare_with(alloc, store, facts, count, admitted) {
         Ok(prepared) => Ok(prepared),
         Err(stop) => {
@@ -79,15 +74,14 @@ pub(crate) fn prepare(
 fn prepare_with(
     alloc: Global,
     store: &Store,
-    facts: &FactList,
+    facts: Batch,
     count: u64,
     admitted: Admitted,
 ) -> Result<Prepared, BeginStop>
-    requires some { 0 < length facts.now }
-    requires agree { All (Agrees store.now.forest.schema) facts.now }
-    requires total { count ≡ store.now.forest.body.facts + length facts.now }
+    requires batch { IsBatchOf store.now.forest.schema facts }
+    requires total { count ≡ store.now.forest.body.facts + length facts }
     requires few { count ≤ max_facts }
-    requires coded { AreCoded store.now.dicts store.now.forest.schema admitted.coded facts.now }
+    requires coded { AreCoded store.now.dicts store.now.forest.schema admitted.coded facts }
     requires shown { (a : ℕ) → slice_index store.now.shown.at a ≤ length (names_at store.now.dicts a) }
     requires names { store.now.forest.body.names_len + length admitted.names
         ≤ length (canonical store.now.forest.schema) + entries_len store.now.dicts }
@@ -98,25 +92,25 @@ fn prepare_with(
     ensures adds { (accepted : List declared.Fact) (files : Files) → AreAccepted store.now.forest.schema accepted
         → IsLive store.now.forest.schema store.now.forest.body accepted files
         → ((a : ℕ) → shown_names store.now.dicts store.now.shown.at a ≡ names_of accepted a)
-        → HoldsNamesOf store.now.dicts (accepted ++ facts.now) → HasNames store.now.forest.schema (accepted ++ facts.now)
-        → AddsNames accepted facts.now admitted.names → IfOk result (λ p. IsRefreshOf (begun_with store.now p) accepted facts.now files) }
-    ensures points { IfOk result (λ p. p.deltas ≡ deltas_by (names_at store.now.dicts) store.now.forest.schema facts.now) }
+        → HoldsNamesOf store.now.dicts (accepted ++ facts) → HasNames store.now.forest.schema (accepted ++ facts)
+        → AddsNames accepted facts admitted.names → IfOk result (λ p. IsRefreshOf (begun_with store.now p) accepted facts files) }
+    ensures points { IfOk result (λ p. p.deltas ≡ deltas_by (names_at store.now.dicts) store.now.forest.schema facts) }
     ensures limit { (accepted : List declared.Fact) (files : Files) → AreAccepted store.now.forest.schema accepted
-        → IsLive store.now.forest.schema store.now.forest.body accepted files → HasNames store.now.forest.schema (accepted ++ facts.now)
-        → IfErr result (TellsLimit store.now.forest.schema (accepted ++ facts.now)) }
+        → IsLive store.now.forest.schema store.now.forest.body accepted files → HasNames store.now.forest.schema (accepted ++ facts)
+        → IfErr result (TellsLimit store.now.forest.schema (accepted ++ facts)) }
     ensures no_fault { IfErr result (λ stop. stop ≢ BeginStop.Disk) }
 {
     let forest = &store.forest;
-    let masses = masses(&forest.body.masses, facts.as_slice())?;
+    let masses = masses(&forest.body.masses, &facts)?;
     let names_len = names_len(forest.body.names_len, &admitted.names);
     let deltas = deltas(
         alloc,
         &forest.schema,
         &forest.mapping,
-        &admitted.coded,
+        admitted.coded,
         facts,
     )?;
-    let room = take_room(alloc, deltas.as_slice().len())?;
+    let room = take_room(alloc, deltas.len())?;
     Ok(Prepared {
         deltas,
         names: admitted.names,

@@ -24,8 +24,9 @@ use crate::preparing::{Prepared, prepare};
 use crate::room::Room;
 use crate::stop::{BeginFault, BeginStop, RefreshStop};
 use crate::writing::write_trees;
-use delta_agg::DeltaList;
-use fact_model::{FactList, Text};
+use delta_agg::Deltas;
+use fact_batch::Batch;
+use fact_model::Text;
 use forest_commit::slot;
 use forest_root::{Body, Store};
 use site_core::{Fault, Site};
@@ -36,7 +37,7 @@ use std::marker::Model;
 #[derive(Drop)]
 pub struct Refresh {
     store: Store,
-    deltas: DeltaList,
+    deltas: Deltas,
     names: Text,
     next: Body,
     room: Room,
@@ -64,7 +65,7 @@ impl Refresh {
         alloc: Global,
         site: &mut T,
         store: Store,
-        facts: FactList,
+        facts: Batch,
     ) -> Result<Refresh, BeginFault>
         requires batch { IsBatchOf store.forest.schema facts }
         requires whole { IsWhole store }
@@ -90,7 +91,7 @@ impl Refresh {
         ensures calls { CallsOnly T.Site BeginCause 1 1 site.old site.new result }
     {
         let mut store = store;
-        match prepare(alloc, &mut store, &facts) {
+        match prepare(alloc, &mut store, facts) {
             Ok(prepared) => shut_gate(site, store, prepared),
             Err(why) => Err(BeginFault { store, why }),
         }

@@ -20,8 +20,7 @@ ghost use Rattle.forest_refresh.specs.Trees.{AreAdded, AreAllAdded, AreAllWhole,
 use crate::damage::{bad_page, stop_at};
 use crate::room::Room;
 use crate::stop::RefreshStop;
-use cube_point::Entry;
-use delta_agg::DeltaList;
+use delta_agg::{Deltas, Points};
 use fact_model::put;
 use forest_root::Forest;
 use page_fmt::ARITIES;
@@ -32,7 +31,7 @@ use site_core::Site;
 pub(crate) fn write_trees<T: Site>(
     site: &mut T,
     forest: &Forest,
-    deltas: &DeltaList,
+    deltas: &Deltas,
     slot: u32,
     room: &mut Room,
 ) -> Result<[u64; 32], RefreshStop>
@@ -60,9 +59,9 @@ pub(crate) fn write_trees<T: Site>(
 {
     room.rows.clear();
     let mut first = 0;
-    for tree in 0..deltas.as_slice().len() {
-        let delta = deltas.as_slice()[tree].as_slice();
-        first = add_tree(site, forest, tree as u32, delta, slot, first, room)?;
+    for tree in 0..deltas.len() {
+        let delta = deltas.tree(tree);
+        first = add_tree(site, forest, tree as u32, &delta, slot, first, room)?;
     }
     Ok(view_counts(forest, &room.rows))
 }
@@ -76,7 +75,7 @@ fn add_tree<T: Site>(
     site: &mut T,
     forest: &Forest,
     tree: u32,
-    delta: &[Entry],
+    delta: &Points<'_>,
     slot: u32,
     first: u64,
     room: &mut Room,

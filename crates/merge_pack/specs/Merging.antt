@@ -4,6 +4,7 @@ use Rattle.std.specs.declared.cmp.Ordering.{Ordering}
 use Rattle.std.specs.declared.cmp.Ordering.TheVariants.{Less, Equal, Greater}
 use Rattle.fact_model.specs.Cell.{FitCells}
 use Rattle.cube_point.specs.declared.point.Entry.{Entry}
+use Rattle.cube_point.specs.declared.point.Point.{Point}
 use Rattle.cube_point.specs.Points.{point_cmp}
 use Rattle.page_fmt.specs.Writing.{FitsLeaf, leaf_arity}
 use Rattle.leaf_pack.specs.Leaf.{is_full, is_other, is_after}
@@ -59,6 +60,11 @@ side_of [] [] = None
 side_of [] (d ∷ ds) = Some sides.New
 side_of (o ∷ os) [] = Some sides.Old
 side_of (o ∷ os) (d ∷ ds) = Some (side_by (point_cmp o.point.at d.point.at))
+
+-- the point of the first of these; None of none
+abbrev pub first_point : List Entry → Option Point
+first_point [] = None
+first_point (d ∷ ds) = Some d.point
 
 -- the point is the next of these two lists, which are then left
 pub data IsNext : List Entry → List Entry → Entry → List Entry → List Entry → Type 0 where

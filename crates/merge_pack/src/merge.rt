@@ -5,7 +5,7 @@ ghost use Rattle.fact_model.specs.Cell.{FitCells};
 ghost use Rattle.cube_point.specs.declared.point.Entry as declared;
 ghost use Rattle.view_points.specs.Entries.{both};
 ghost use Rattle.tree_pack.specs.Moving.{HasPageIn, HasRoomIn, begun, with_point};
-ghost use Rattle.merge_pack.specs.Merging.{Goes, IsNext, MayTake, MayTakeNext, MovesPoint, IsApart, Keeps, KeepsOn, Makes, Merger, NeedsNoPage, arity_on, merging_of, counted_on, one_more, page_of, side_of, turns_at};
+ghost use Rattle.merge_pack.specs.Merging.{Goes, IsNext, MayTake, MayTakeNext, MovesPoint, IsApart, Keeps, KeepsOn, Makes, Merger, NeedsNoPage, arity_on, first_point, merging_of, counted_on, one_more, page_of, side_of, turns_at};
 ghost use Rattle.packing.specs.Levels.{full_level, rest_level};
 ghost use Rattle.page_fmt.specs.Trees.{fanout_of};
 ghost use Rattle.page_fmt.specs.Writing.{IsShape, leaf_arity};
@@ -27,8 +27,8 @@ ghost use Rattle.merge_pack.specs.Stepping.{HasRefused, HasStopped, HasTried, St
 
 use crate::side::{Advance, Side};
 use crate::step::write_page;
-use cube_point::Entry;
-use delta_agg::{DoesNotJoin, joined};
+use cube_point::{Entry, Point};
+use delta_agg::{DoesNotJoin, Points, joined};
 use fact_model::Memory;
 use page_fmt::{ARITIES, Place};
 use site_core::Site;
@@ -38,12 +38,12 @@ use std::marker::Model;
 use tree_pack::Packer;
 use tree_scan::{Scan, ScanStop};
 
-/// The side of the next point of two lists, where the scan needs no page; None where no point is left.
-fn next_side(scan: &Scan, delta: &[Entry]) -> Option<Side>
-    ensures { result ≡ side_of scan.now.held delta.now }
+/// The side of the next point, where this is the point of the next new one and the scan needs no page; None where no point is left.
+fn next_side(scan: &Scan, new: &Option<Point>) -> Option<Side>
+    ensures { (ds : List declared.Entry) → first_point ds ≡ new.now → result ≡ side_of scan.now.held ds }
 {
-    match (scan.next(), delta.first()) {
-        (Some(old), Some(new)) => Some(match old.compare(&new.point) {
+    match (scan.next(), new) {
+        (Some(old), Some(point)) => Some(match old.compare(point) {
             Ordering::Less => Side::Old,
             Ordering::Equal => Side::Both,
             Ordering::Greater => Side::New,
@@ -112,7 +112,7 @@ impl Model for Merge {
 
 impl Merge {
     /// Moves the next point, which is on this side: an old point by its bytes, and one that both sides have with its cells joined.
-    fn move_point(&mut self, delta: &[Entry], side: Side) -> Result<(), DoesNotJoin>
+    fn move_point(&mut self, delta: &Points<'_>, side: Side) -> Result<(), DoesNotJoin>
         requires within { self.old.taken ≤ length delta.now }
         requires side { side_of self.old.scan.held (drop self.old.taken delta.now) ≡ Some side }
         requires measures { All (λ o. All (λ d. o.cell.measures ≡ d.cell.measures) delta.now) self.old.scan.held }
@@ -122,14 +122,15 @@ impl Merge {
         ensures within { OnOk result (self.new.taken ≤ length delta.now) }
         ensures apart { OnErr result (IsApart self.old.scan.held (drop self.old.taken delta.now)) }
     {
+        let _count = delta.len();
         match side {
             Side::Old => move_old(&mut self.scan, &mut self.packer),
             Side::New => {
-                move_new(&delta[self.taken], &mut self.packer);
+                move_new(&delta.entry(self.taken), &mut self.packer);
                 self.taken += 1;
             }
             Side::Both => {
-                move_both(&mut self.scan, &delta[self.taken], &mut self.packer)?;
+                move_both(&mut self.scan, &delta.entry(self.taken), &mut self.packer)?;
                 self.taken += 1;
             }
         }
@@ -137,13 +138,13 @@ impl Merge {
     }
 
     /// The arity of the next point, which is on this side.
-    fn arity_on(&self, delta: &[Entry], side: Side) -> u8
+    fn arity_on(&self, delta: &Points<'_>, side: Side) -> u8
         requires within { self.now.taken ≤ length delta.now }
         requires side { side_of self.now.scan.held (drop self.now.taken delta.now) ≡ Some side }
         ensures { result ≡ arity_on side self.now.scan.held (drop self.now.taken delta.now) }
     {
         match side {
-            Side::New => delta[self.taken].point.arity,
+            Side::New => delta.point(self.taken).arity,
             Side::Old | Side::Both => self.old_arity(),
         }
     }
@@ -183,7 +184,7 @@ impl Merge {
     }
 
     /// Makes the move of the next point, which is on this side: its leaf is closed first where it is of another arity.
-    fn take(&mut self, delta: &[Entry], side: Side) -> Result<Advance, DoesNotJoin>
+    fn take(&mut self, delta: &Points<'_>, side: Side) -> Result<Advance, DoesNotJoin>
         requires within { self.old.taken ≤ length delta.now }
         requires side { side_of self.old.scan.held (drop self.old.taken delta.now) ≡ Some side }
         requires measures { All (λ o. All (λ d. o.cell.measures ≡ d.cell.measures) delta.now) self.old.scan.held }
@@ -245,9 +246,63 @@ impl Merge {
         }
     }
 
+    /// How many new points were passed over.
+    fn taken(&self) -> usize
+        ensures { result ≡ self.now.taken }
+    {
+        self.taken
+    }
+
+    /// The point of the next new one.
+    fn next_new(&self, delta: &Points<'_>) -> Option<Point>
+        ensures { first_point (drop self.now.taken delta.now) ≡ result }
+    {
+        if self.taken < delta.len() {
+            return Some(delta.point(self.taken));
+        }
+        None
+    }
+
+    /// Makes the point of the next new one anew, where another was passed over since so many were.
+    fn look_on(&self, delta: &Points<'_>, taken: usize, new: &mut Option<Point>)
+        requires { first_point (drop taken delta.now) ≡ new.old }
+        ensures { first_point (drop self.now.taken delta.now) ≡ new.new }
+    {
+        if self.taken == taken {
+            return;
+        }
+        *new = self.next_new(delta);
+    }
+
     /// Makes the next move in memory, where so many old pages are unread; it answers which call on a file is due. An error comes exactly
     /// where the cells of a point that both sides have do not join.
-    pub fn advance(&mut self, delta: &[Entry], left: u64) -> Result<Advance, DoesNotJoin>
+    pub fn advance(&mut self, delta: &Points<'_>, left: u64) -> Result<Advance, DoesNotJoin>
+        requires within { self.old.taken ≤ length delta.now }
+        requires measures { All (λ o. All (λ d. o.cell.measures ≡ d.cell.measures) delta.now) self.old.scan.held }
+        requires full_page { (i : ℕ) → full_level (fanout_of self.old.at.shape) self.old.at.levels ≡ Some i → HasPageIn i self.old.at }
+        requires rest_page { (i : ℕ) → rest_level self.old.at.levels ≡ Some i → HasPageIn i self.old.at }
+        requires leaf_room { full_level (fanout_of self.old.at.shape) self.old.at.levels ≡ None → HasRoomIn 0 self.old.at }
+        requires dims { self.old.at.shape.dims ≤ 8 }
+        requires counts { MayCount 0 self.old.old_counts × MayCount 0 self.old.new_counts }
+        requires may { MayTakeNext (merging_of self.old delta.now) }
+        ensures goes { IfOk result (λ advance. Goes left (merging_of self.old delta.now) advance (merging_of self.new delta.now)) }
+        ensures kept { IfOk result (λ advance. KeepsOn advance delta.now self.old self.new) }
+        ensures within { OnOk result (self.new.taken ≤ length delta.now) }
+        ensures makes { IfOk result (λ advance. Makes advance self.old self.new) }
+        ensures apart { OnErr result (IsApart self.old.scan.held (drop self.old.taken delta.now)) }
+    {
+        let new = self.next_new(delta);
+        self.advance_by(delta, &new, left)
+    }
+
+    /// The same as `advance`, where `new` is the point of the next new one: it is made once, however many old points pass it.
+    fn advance_by(
+        &mut self,
+        delta: &Points<'_>,
+        new: &Option<Point>,
+        left: u64,
+    ) -> Result<Advance, DoesNotJoin>
+        requires new { first_point (drop self.old.taken delta.now) ≡ new.now }
         requires within { self.old.taken ≤ length delta.now }
         requires measures { All (λ o. All (λ d. o.cell.measures ≡ d.cell.measures) delta.now) self.old.scan.held }
         requires full_page { (i : ℕ) → full_level (fanout_of self.old.at.shape) self.old.at.levels ≡ Some i → HasPageIn i self.old.at }
@@ -273,7 +328,7 @@ impl Merge {
         if self.needs_page(left) {
             return Ok(Advance::Page);
         }
-        match next_side(&self.scan, &delta[self.taken..]) {
+        match next_side(&self.scan, new) {
             Some(side) => self.take(delta, side),
             None => Ok(self.finish()),
         }
@@ -330,7 +385,40 @@ impl Merge {
     ///
     /// `Damaged` names the old page that was to be read, where it is refused, or the one that was read last, where a cell of its next point
     /// does not join with that of the new point there.
-    pub fn step<T: Site>(&mut self, delta: &[Entry], site: &mut T) -> Result<Advance, ScanStop>
+    pub fn step<T: Site>(&mut self, delta: &Points<'_>, site: &mut T) -> Result<Advance, ScanStop>
+        requires safe { IsSafe self.old delta.now }
+        requires place { IsTrue T.tells → 4096 * self.old.at.next_page ≤ length ((T.disk site.old).files self.old.file) }
+
+        ensures steps { IfOk result (λ advance. Steps T.tells ((T.disk site.old).files self.old.scan.file) self.old delta.now advance self.new) }
+        ensures stopped { IfErr result (HasStopped T.tells ((T.disk site.old).files self.old.scan.file) self.old delta.now) }
+        ensures tried { OnErr result (HasTried self.old delta.now (T.writes site.old) (T.writes site.new)) }
+        ensures safe { OnOk result (IsSafe self.new delta.now) }
+        ensures falls { IfOk result (λ advance. (advance ≡ Advance.Done → ⊥)
+            → falls self.new.scan.left (merging_of self.new delta.now) < falls self.old.scan.left (merging_of self.old delta.now)) }
+        ensures files { IsTrue T.tells → IfOk result (λ advance. (T.disk site.new).files
+            ≡ files_after advance self.old.file self.old.at.next_page (page_of advance self.old.at) (T.disk site.old).files) }
+        ensures long { IfOk result (λ advance. length (page_of advance self.old.at) ≡ 4096 * pages_made advance) }
+        ensures place { IsTrue T.tells → OnOk result (4096 * self.new.at.next_page ≤ length ((T.disk site.new).files self.new.file)) }
+
+        ensures disk { IsTrue T.tells → Changes (Torn self.old.file (4096 * self.old.at.next_page) 4096 (length ((T.disk site.old).files self.old.file)))
+            (T.disk site.old) (T.disk site.new) }
+        ensures calls { CallsOnly T.Site (HasCauseWhere ScanStop.Disk) 1 1 site.old site.new result }
+        ensures read { OnOk result (T.reads site.new + self.new.scan.left ≤ T.reads site.old + self.old.scan.left) }
+        ensures within { T.reads site.new ≤ T.reads site.old + self.old.scan.left }
+        ensures wrote { OnOk result (T.writes site.new + self.old.at.next_page ≤ T.writes site.old + self.new.at.next_page) }
+    {
+        let new = self.next_new(delta);
+        self.step_by(delta, &new, site)
+    }
+
+    /// The same as `step`, where `new` is the point of the next new one.
+    fn step_by<T: Site>(
+        &mut self,
+        delta: &Points<'_>,
+        new: &Option<Point>,
+        site: &mut T,
+    ) -> Result<Advance, ScanStop>
+        requires new { first_point (drop self.old.taken delta.now) ≡ new.now }
         requires safe { IsSafe self.old delta.now }
         requires place { IsTrue T.tells → 4096 * self.old.at.next_page ≤ length ((T.disk site.old).files self.old.file) }
 
@@ -355,7 +443,7 @@ impl Merge {
         let number = self.packer.next_page();
         let left = self.scan.left();
         let next = self.scan.next_page();
-        match self.advance(delta, left) {
+        match self.advance_by(delta, new, left) {
             Ok(advance) => {
                 self.call(advance, number, site)?;
                 Ok(advance)
@@ -391,8 +479,9 @@ impl Merge {
         }
     }
 
-    /// Makes all moves that are left.
-    pub fn run<T: Site>(&mut self, delta: &[Entry], site: &mut T) -> Result<(), ScanStop>
+    /// Makes all moves that are left. It stands apart, so that its loop has all registers.
+    #[inline(never)]
+    pub fn run<T: Site>(&mut self, delta: &Points<'_>, site: &mut T) -> Result<(), ScanStop>
         requires safe { IsSafe self.old delta.now }
         requires place { IsTrue T.tells → 4096 * self.old.at.next_page ≤ length ((T.disk site.old).files self.old.file) }
 
@@ -421,10 +510,13 @@ impl Merge {
         ensures calls { Calls T.Site (HasCauseWhere ScanStop.Disk) self.old.scan.left site.old site.new result }
         ensures wrote { OnOk result (T.writes site.new + self.old.at.next_page ≤ T.writes site.old + self.new.at.next_page) }
     {
+        let mut new = self.next_new(delta);
         loop {
-            if self.step(delta, site)? == Advance::Done {
+            let taken = self.taken();
+            if self.step_by(delta, &new, site)? == Advance::Done {
                 return Ok(());
             }
+            self.look_on(delta, taken, &mut new);
         }
     }
 
@@ -436,7 +528,7 @@ impl Merge {
     pub fn merge_tree<T: Site>(
         &mut self,
         old: &Place,
-        delta: &[Entry],
+        delta: &Points<'_>,
         file: u32,
         first: u64,
         site: &mut T,

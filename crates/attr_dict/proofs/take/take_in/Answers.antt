@@ -1,16 +1,19 @@
-use Rattle.std.proofs.Common.{List, length, subst, sym, ◌∙◌}
-use Rattle.view_points.specs.Codes.{Text, named}
-use Rattle.attr_dict.specs.Coding.{Fits}
-use Rattle.attr_dict.proofs.Takes.{names-all, facts-fit}
+use Rattle.std.proofs.Common.{◌<◌, ◌≤◌, ℕ, List, [], length, get_or, sym, ap, subst, ◌∙◌}
+use Rattle.cube_schema.specs.declared.Kind.TheVariants as kind
+use Rattle.cube_schema.specs.Kinds.{max_of}
+use Rattle.view_points.specs.Codes.{Text}
+use Rattle.attr_dict.specs.Coding.{HasFew}
+use Rattle.attr_dict.proofs.Fulls.{none-many, none-within}
 use Rattle.attr_dict.proofs.take.take_in.Goals as goal
 
-pub returns-in-Ok-clause-names : goal.returns-in-Ok-clause-names
-returns-in-Ok-clause-names c =
-    names-all (record { kinds = c.args.kinds.now; names = c.args.names.now.items }) c.args.facts.now c.admit_all.new.names.items (length c.args.kinds.now) (c.in_ok-admit_all.ensures.same ∙ c.requires.same) c.requires.same c.requires.values c.in_ok-admit_all.ensures.names
+pub returns-in-None-clause-within : goal.returns-in-None-clause-within
+returns-in-None-clause-within c =
+    let kinds = c.args.kinds.now in
+    subst (λ (names : List (List Text)). (a : ℕ) → a < length kinds → length (get_or names a []) ≤ max_of (get_or kinds a kind.Number)) c.as_slice.ensures.value
+    (none-within kinds c.as_slice.result.now (sym c.in-None.ensures))
 
-pub returns-in-Ok-clause-entries : goal.returns-in-Ok-clause-entries
-returns-in-Ok-clause-entries c = λ seen lists.
-    (let are = names-all (record { kinds = c.args.kinds.now; names = c.args.names.now.items }) c.args.facts.now c.admit_all.new.names.items (length c.args.kinds.now) (c.in_ok-admit_all.ensures.same ∙ c.requires.same) c.requires.same c.requires.values c.in_ok-admit_all.ensures.names in
-    c.in-Ok.ensures.entries seen
-    (subst (λ (names : List (List Text)). Fits names c.args.before.now.at seen (named c.args.facts.now)) (sym c.as_slice.ensures.value)
-    (facts-fit (record { kinds = c.args.kinds.now; names = c.args.names.now.items }) c.args.facts.now c.admit_all.new.names.items c.args.before.now.at seen c.requires.before are lists)))
+pub returns-in-None-clause-coded : goal.returns-in-None-clause-coded
+returns-in-None-clause-coded c =
+    c.in_ok-admitted.ensures.coded
+    (subst (λ (names : List (List Text)). (a : ℕ) → HasFew (get_or names a [])) c.as_slice.ensures.value
+    (none-many c.args.kinds.now c.as_slice.result.now (sym c.in-None.ensures) (ap length c.as_slice.ensures.value ∙ c.code_batch.ensures.same ∙ c.requires.same) c.requires.ranges))

@@ -1,6 +1,9 @@
-use Rattle.std.proofs.Common.{◌≡◌, ◌<◌, length, ap, subst, arith}
+use Rattle.std.proofs.Common.{◌≡◌, ◌<◌, length, ap, refl, subst, arith}
 use Rattle.std.proofs.lemmas.Bool.Decides.{nat_tests}
 use Rattle.plain_machine.specs.Machine.{batch_from}
+use Rattle.plain_machine.specs.World.{idle}
+use Rattle.cube_state.proofs.Answering.{quiet}
+use Rattle.cube_state.specs.declared.state.State.TheVariants as states
 use Rattle.plain_machine.proofs.Acts.{nothing_added}
 use Rattle.cube_batches.specs.Reading.{IsOfSchema}
 use Rattle.cube_batches.proofs.BatchReads.{batch_known}
@@ -12,17 +15,19 @@ pub returns-then-is_empty-clause-taken : goal.returns-then-is_empty-clause-taken
 returns-then-is_empty-clause-taken g c = λ t warehouse is.
     let disk = g.T.Site.disk c.args.site.now in
     let batch = c.in-Batch.batch in
-    let slice = c.as_slice.ensures in
-    let zero : length batch ≡ 0 = grind (arith, nat_tests, ap length slice) in
+    let zero : length batch ≡ 0 = grind (arith, nat_tests) in
     empty_pending c.args.store disk warehouse c.args.source batch is (batch_known c.args.store disk warehouse c.args.source c.in_ok-batch.field-0 batch is c.in_ok-batch.ensures.read c.in-Batch.is) (nothing_added batch zero)
+
+pub returns-then-is_empty-clause-any_moment : goal.returns-then-is_empty-clause-any_moment
+returns-then-is_empty-clause-any_moment g c = λ t warehouse next is.
+    quiet (states.Idle c.args.store) (g.T.Site.disk c.args.site.now) (idle warehouse) next (warehouse, refl, is) (λ told files. g.met.T.Site.only_now c.args.site.now told files t)
 
 pub returns-in-Ok-clause-taken : goal.returns-in-Ok-clause-taken
 returns-in-Ok-clause-taken g c = λ t warehouse is.
     let old = g.T.Site.disk c.args.site.now in
     let new = g.T.Site.disk c.begin.new.site in
     let batch = c.in-Batch.batch in
-    let slice = c.as_slice.ensures in
-    let some : 0 < length batch = grind (arith, nat_tests, ap length slice) in
+    let some : 0 < length batch = grind (arith, nat_tests) in
     begun_pending c.in-Ok.refresh new warehouse c.args.source batch
     (begin_attends c.args.store old new warehouse batch is c.in-Ok.refresh c.in-Ok.ensures.forest
     (c.in-Ok.ensures.begun t warehouse.facts is.stored.read) (c.in-Ok.ensures.stable t) some (c.in-Ok.ensures.ready t))
@@ -35,8 +40,7 @@ returns-in-Ok-clause-any_moment g c = λ t warehouse next is.
 pub returns-in-Ok-clause-takes : goal.returns-in-Ok-clause-takes
 returns-in-Ok-clause-takes g c =
     let batch = c.in-Batch.batch in
-    let slice = c.as_slice.ensures in
-    let some : 0 < length batch = grind (arith, nat_tests, ap length slice) in
+    let some : 0 < length batch = grind (arith, nat_tests) in
     read_takes c.args.store (batch_from c.args.store.forest.schema c.args.source) c.in_ok-batch.field-0 batch _ c.in_ok-batch.ensures.read c.in-Batch.is
     (begun_takes c.args.store batch c.in-Ok.refresh some c.in-Ok.ensures.forest c.in-Ok.ensures.points)
 
@@ -61,8 +65,7 @@ returns-in_ok-refuse-in-Err-clause-any_moment g c = λ t warehouse next is.
 pub returns-in_ok-refuse-in-Err-clause-takes : goal.returns-in_ok-refuse-in-Err-clause-takes
 returns-in_ok-refuse-in-Err-clause-takes g c =
     let batch = c.in-Batch.batch in
-    let slice = c.as_slice.ensures in
-    let some : 0 < length batch = grind (arith, nat_tests, ap length slice) in
+    let some : 0 < length batch = grind (arith, nat_tests) in
     read_takes c.args.store (batch_from c.args.store.forest.schema c.args.source) c.in_ok-batch.field-0 batch _ c.in_ok-batch.ensures.read c.in-Batch.is
     (refused_takes c.args.store c.in-Err.fault.store batch c.in-Err.fault.why c.in_ok-refuse-in-Err.field-0 some c.in-Err.ensures.back c.in_ok-refuse-in-Err.ensures.reply)
 

@@ -1,4 +1,4 @@
-use Rattle.std.proofs.Common.{◌≡◌, rules, sym, subst}
+use Rattle.std.proofs.Common.{◌≡◌, sym, subst}
 use Rattle.forest_root.specs.declared.forest.Store.{Store}
 use Rattle.forest_store.specs.Stored.{IsStoreOf}
 use Rattle.slice_lang.specs.Reading.{slice_of}
@@ -9,6 +9,7 @@ use Rattle.cube_state.specs.Stops.{IsNoDamage}
 use Rattle.cube_state.specs.Session.{Stands}
 use Rattle.cube_state.proofs.Answering.{resting, stands_rests}
 use Rattle.cube_state.proofs.Standing.{attends_belongs}
+use Rattle.forest_refresh.proofs.Ready.{err_if, err_then}
 use Rattle.cube_slices.specs.Costs.{MayRead}
 use Rattle.cube_slices.proofs.Sliced.{pending_cost, pending_slice}
 use Rattle.cube_slices.proofs.slices.slice.Goals as goal
@@ -39,7 +40,8 @@ returns-in_err-reply-in-Pending-clause-undamaged g c = λ t world stands.
     let is : Stands (Pending r) old world = subst (λ (s : State). Stands s old world) c.in-Pending.is stands in
     let stored = subst (λ (kept : Store). IsStoreOf kept is.0.facts old.files) (sym c.store.ensures) (attends_belongs r old is.0 is.1 is.3).stored.read in
     let none : IsNoDamage c.in_err-reply-in-Pending.field-0.0 = c.in_err-reply-in-Pending.ensures.undamaged t is.0.facts stored in
-    search rules
+    let result = c.from_residual-in_err-reply-in-Pending.result in
+    err_then result _ IsNoDamage (err_if result _ c.from_residual-in_err-reply-in-Pending.ensures.1) (λ stop same. subst IsNoDamage (sym same) none)
 
 pub returns-in_err-reply-in-Pending-clause-any_moment : goal.returns-in_err-reply-in-Pending-clause-any_moment
 returns-in_err-reply-in-Pending-clause-any_moment g c = λ t world stands.

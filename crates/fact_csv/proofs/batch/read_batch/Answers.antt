@@ -2,8 +2,15 @@ use Rattle.std.proofs.Common.{◌≡◌, ◌≤◌, ◌++◌, ◌∷◌, Bool, [
 use Rattle.std.proofs.lemmas.List.{length_push}
 use Rattle.csv.specs.Records.{fields_of}
 use Rattle.csv_text.specs.Reader.{IsNext, left_by}
-use Rattle.fact_csv.proofs.Rows.{agree_all, few_all, read_all, refused_all, too_many}
+use Rattle.fact_csv.specs.Batch.{AreRead}
+use Rattle.fact_csv.proofs.Rows.{agree_all, few_all, few_so_far, read_all, refused_all, too_many}
 use Rattle.fact_csv.proofs.batch.read_batch.Goals as goal
+
+pub with_row-so_far-requires-clause-few : goal.with_row-so_far-requires-clause-few
+with_row-so_far-requires-clause-few c =
+    let so_far = c.loop-row.invariant in
+    let count = so_far.count in
+    few_so_far c.args.schema.now so_far.rows c.loop-row.so_far c.loop-row.builder so_far.read (omega arith)
 
 pub loop-row-preserved : goal.loop-row-preserved
 loop-row-preserved c =
@@ -19,7 +26,8 @@ loop-row-preserved c =
       rows = so_far.rows ++ fields ∷ [];
       count = omega arith;
       all = append_assoc so_far.rows (fields ∷ []) left ∙ ap (λ l. so_far.rows ++ l) (sym next) ∙ so_far.all;
-      read = c.with_row-facts.ensures so_far.rows (omega arith) so_far.read;
+      between = c.with_row-so_far.ensures.between;
+      read = c.with_row-so_far.ensures.read so_far.rows (omega arith) so_far.read;
     }
 
 -- all rows are read where there is no next record
@@ -29,11 +37,12 @@ returns-then-not-branch c =
     let left = left_by c.loop-row.reader in
     let none : left ≡ [] = subst (λ (found : Bool). IsNext left (left_by c.read_record.new.reader) (fields_of c.read_record.new.fields) found) c.if-not-branch.true c.in_ok-read_record.ensures.next in
     let few : length so_far.rows ≤ 262144 = (let count = so_far.count in omega arith) in
+    let read = subst (AreRead c.args.schema.now so_far.rows) (sym c.batch_from.ensures) so_far.read in
     record {
-      read = read_all c.args.schema.now c.args.block.now so_far.rows left so_far.all none few c.loop-row.facts so_far.read;
-      refused = refused_all c.args.schema.now c.args.block.now so_far.rows left so_far.all none few c.loop-row.facts so_far.read;
-      agree = agree_all c.args.schema.now c.args.block.now so_far.rows left so_far.all none few c.loop-row.facts so_far.read;
-      few = few_all c.args.schema.now c.args.block.now so_far.rows left so_far.all none few c.loop-row.facts so_far.read;
+      read = read_all c.args.schema.now c.args.block.now so_far.rows left so_far.all none few c.batch_from.result read;
+      refused = refused_all c.args.schema.now c.args.block.now so_far.rows left so_far.all none few c.batch_from.result read;
+      agree = agree_all c.args.schema.now c.args.block.now so_far.rows left so_far.all none few c.batch_from.result read;
+      few = few_all c.args.schema.now c.args.block.now so_far.rows left so_far.all none few c.batch_from.result read;
     }
 
 pub returns : goal.returns
@@ -42,11 +51,12 @@ returns c =
     let left = left_by c.loop-row.reader in
     let none : left ≡ [] = subst (λ (found : Bool). IsNext left (left_by c.read_record-2.new.reader) (fields_of c.read_record-2.new.fields) found) c.if-branch.false c.in_ok-read_record-2.ensures.next in
     let few : length so_far.rows ≤ 262144 = (let count = so_far.count in omega arith) in
+    let read = subst (AreRead c.args.schema.now so_far.rows) (sym c.batch_from-2.ensures) so_far.read in
     record {
-      read = read_all c.args.schema.now c.args.block.now so_far.rows left so_far.all none few c.loop-row.facts so_far.read;
-      refused = refused_all c.args.schema.now c.args.block.now so_far.rows left so_far.all none few c.loop-row.facts so_far.read;
-      agree = agree_all c.args.schema.now c.args.block.now so_far.rows left so_far.all none few c.loop-row.facts so_far.read;
-      few = few_all c.args.schema.now c.args.block.now so_far.rows left so_far.all none few c.loop-row.facts so_far.read;
+      read = read_all c.args.schema.now c.args.block.now so_far.rows left so_far.all none few c.batch_from-2.result read;
+      refused = refused_all c.args.schema.now c.args.block.now so_far.rows left so_far.all none few c.batch_from-2.result read;
+      agree = agree_all c.args.schema.now c.args.block.now so_far.rows left so_far.all none few c.batch_from-2.result read;
+      few = few_all c.args.schema.now c.args.block.now so_far.rows left so_far.all none few c.batch_from-2.result read;
     }
 
 pub returns-then-branch-clause-refused : goal.returns-then-branch-clause-refused

@@ -17,40 +17,40 @@ use Rattle.forest_store.proofs.Schemas.{few_views}
 use Rattle.forest_store.proofs.Storable.{storable}
 use Rattle.forest_refresh.proofs.writing.write_trees.Given.{Over}
 use Rattle.forest_refresh.proofs.writing.write_trees.Goals as goal
-use Rattle.forest_refresh.proofs.writing.write_trees.Goals.{After-as_slice-delta, After-view_counts}
+use Rattle.forest_refresh.proofs.writing.write_trees.Goals.{After-tree-delta, After-view_counts}
 
 -- the tree is one of the forest, and its points are those of the batch
-below : (g : Over) (c : After-as_slice-delta g) → c.loop-tree.tree < length c.args.deltas.now
-below g c = omega (arith, c.loop-tree-test.true, ap length c.as_slice-tree-end.ensures)
+below : (g : Over) (c : After-tree-delta g) → c.loop-tree.tree < length c.args.deltas.now
+below g c = omega (arith, c.loop-tree-test.true, c.len-tree-end.ensures)
 
-low : (g : Over) (c : After-as_slice-delta g) → c.loop-tree.tree < length c.args.forest.now.mapping.trees
+low : (g : Over) (c : After-tree-delta g) → c.loop-tree.tree < length c.args.forest.now.mapping.trees
 low g c = omega (arith, below g c, c.requires.lists)
 
-is : (g : Over) (c : After-as_slice-delta g) → c.as_slice-delta.result.now ≡ get_or c.args.deltas.now c.loop-tree.tree c.index-as_slice-tree.result
-is g c = c.as_slice-delta.ensures ∙ (c.index-as_slice-tree.is ∙ ap (λ (ds : List (List Entry)). get_or ds c.loop-tree.tree c.index-as_slice-tree.result) c.as_slice.ensures)
+is : (g : Over) (c : After-tree-delta g) → c.tree-delta.result ≡ get_or c.args.deltas.now c.loop-tree.tree []
+is g c = c.tree-delta.ensures
 
 -- what is added to all trees is added to this one
-adds-here : (g : Over) (c : After-as_slice-delta g) → IsTrue g.T.Site.tells → (accepted batch : List Fact)
+adds-here : (g : Over) (c : After-tree-delta g) → IsTrue g.T.Site.tells → (accepted batch : List Fact)
     → IsAddition c.args.forest.now (g.T.Site.disk c.args.site.now).files c.args.deltas.now accepted batch
-    → IsAdditionAt c.args.forest.now (g.T.Site.disk c.loop-tree.site).files c.loop-tree.tree c.as_slice-delta.result.now accepted batch
+    → IsAdditionAt c.args.forest.now (g.T.Site.disk c.loop-tree.site).files c.loop-tree.tree c.tree-delta.result accepted batch
 adds-here g c tells accepted batch adds =
     addition-at c.args.slot _ _ (c.loop-tree.invariant.disk tells).files c.requires.slot c.args.forest.now c.requires.other c.args.deltas.now c.loop-tree.tree
-    c.index-as_slice-tree.result c.as_slice-delta.result.now (below g c) (is g c) c.requires.lists accepted batch adds
+    [] c.tree-delta.result (below g c) (is g c) c.requires.lists accepted batch adds
 
 pub overflow_cast-tree : goal.overflow_cast-tree
 overflow_cast-tree g c =
-    omega (arith, c.loop-tree-test.true, ap length c.as_slice-tree-end.ensures, c.requires.lists, few-trees c.args.forest.now)
+    omega (arith, c.loop-tree-test.true, c.len-tree-end.ensures, c.requires.lists, few-trees c.args.forest.now)
 
 pub add_tree-requires-clause-room : goal.add_tree-requires-clause-room
 add_tree-requires-clause-room g c =
-    let at = (goal.at.add_tree-requires-clause-room g c).After-as_slice-delta in
+    let at = (goal.at.add_tree-requires-clause-room g c).After-tree-delta in
     omega (arith, c.loop-tree.invariant.rows, below g at, c.requires.room, c.loop-tree.invariant.room)
 
 pub add_tree-requires-clause-first : goal.add_tree-requires-clause-first
 add_tree-requires-clause-first g c = record {
   low = c.requires.slot;
   other = c.requires.other;
-  few = omega (arith, c.loop-tree.invariant.low, low g (goal.at.add_tree-requires-clause-first g c).After-as_slice-delta, few-trees c.args.forest.now);
+  few = omega (arith, c.loop-tree.invariant.low, low g (goal.at.add_tree-requires-clause-first g c).After-tree-delta, few-trees c.args.forest.now);
   place = c.loop-tree.invariant.place;
 }
 
@@ -59,7 +59,7 @@ returns-in_err-first-clause-disk g c = λ tells. written-on (2 + c.args.slot) 0 
 
 pub returns-in_err-first-clause-calls : goal.returns-in_err-first-clause-calls
 returns-in_err-first-clause-calls g c =
-    let at = (goal.at.returns-in_err-first-clause-calls g c).After-as_slice-delta in
+    let at = (goal.at.returns-in_err-first-clause-calls g c).After-tree-delta in
     record {
       cause = search rules;
       told_faults = search rules;
@@ -68,7 +68,7 @@ returns-in_err-first-clause-calls g c =
 
 pub returns-in_err-first-clause-undamaged : goal.returns-in_err-first-clause-undamaged
 returns-in_err-first-clause-undamaged g c = λ tells accepted batch adds.
-    let at = (goal.at.returns-in_err-first-clause-undamaged g c).After-as_slice-delta in
+    let at = (goal.at.returns-in_err-first-clause-undamaged g c).After-tree-delta in
     let sound = c.in_err-first.ensures.undamaged tells accepted batch (adds-here g at tells accepted batch adds) in
     err_then c.from_residual.result _ IsNoDamage (err_if c.from_residual.result _ c.from_residual.ensures.1) (λ stop is. subst IsNoDamage (sym is) sound)
 
@@ -76,14 +76,14 @@ pub returns-in_err-first-clause-writes : goal.returns-in_err-first-clause-writes
 returns-in_err-first-clause-writes g c = λ tells accepted batch adds.
     let forest = c.args.forest.now in
     let inv = c.loop-tree.invariant in
-    let at = (goal.at.returns-in_err-first-clause-writes g c).After-as_slice-delta in
+    let at = (goal.at.returns-in_err-first-clause-writes g c).After-tree-delta in
     let wrote = c.add_tree.ensures.writes tells accepted batch (adds-here g at tells accepted batch adds) in
     omega (arith, wrote, inv.writes, side-few forest (accepted ++ batch) adds.all c.loop-tree.tree c.loop-tree.first _ c.loop-tree.room.rows.items (inv.place tells) (inv.packed tells accepted batch adds) (low g at))
 
 pub returns-in_err-first-clause-place : goal.returns-in_err-first-clause-place
 returns-in_err-first-clause-place g c =
     let forest = c.args.forest.now in
-    let at = (goal.at.returns-in_err-first-clause-place g c).After-as_slice-delta in
+    let at = (goal.at.returns-in_err-first-clause-place g c).After-tree-delta in
     err_then c.from_residual.result _ (NamesPageIn forest.body forest.schema) (err_if c.from_residual.result _ c.from_residual.ensures.1)
     (λ stop is. subst (NamesPageIn forest.body forest.schema) (sym is) (page-in forest c.loop-tree.tree (low g at) c.in_err-first.field-0.0 c.in_err-first.ensures.names))
 
@@ -94,9 +94,9 @@ returns-in_err-first-clause-damaged g c = λ tells.
     let deltas = c.args.deltas.now in
     let t : ℕ = c.loop-tree.tree in
     let stop = c.in_err-first.field-0.0 in
-    let at = (goal.at.returns-in_err-first-clause-damaged g c).After-as_slice-delta in
-    let told = damage-before c.args.slot 0 files _ (c.loop-tree.invariant.disk tells).files forest c.requires.other t c.as_slice-delta.result.now stop (c.in_err-first.ensures.damaged tells) in
-    let here = at-tree forest deltas t c.index-as_slice-tree.result c.as_slice-delta.result.now (below g at) (is g at) in
+    let at = (goal.at.returns-in_err-first-clause-damaged g c).After-tree-delta in
+    let told = damage-before c.args.slot 0 files _ (c.loop-tree.invariant.disk tells).files forest c.requires.other t c.tree-delta.result stop (c.in_err-first.ensures.damaged tells) in
+    let here = at-tree forest deltas t [] c.tree-delta.result (below g at) (is g at) in
     let first = first-damage forest files deltas t (low g at) (c.loop-tree.invariant.joined tells) stop (subst (λ (es : List Entry). TellsDamageFor forest files t es stop) here told) in
     err_then c.from_residual.result _ (TellsFirstDamage forest files deltas) (err_if c.from_residual.result _ c.from_residual.ensures.1)
     (λ stop same. subst (TellsFirstDamage forest files deltas) (sym same) first)
@@ -107,15 +107,15 @@ loop-tree-preserved g c =
     let files = (g.T.Site.disk c.args.site.now).files in
     let deltas = c.args.deltas.now in
     let t : ℕ = c.loop-tree.tree in
-    let delta : List Entry = c.as_slice-delta.result.now in
+    let delta : List Entry = c.tree-delta.result in
     let inv = c.loop-tree.invariant in
-    let at = (goal.at.loop-tree-preserved g c).After-as_slice-delta in
+    let at = (goal.at.loop-tree-preserved g c).After-tree-delta in
     record {
       within = omega (arith, below g at);
       rows = omega (arith, c.in_ok-first.ensures.row.len, inv.rows);
       few = λ most are. subst (AreFew (forest.body.facts + most) (t + 1)) (sym c.in_ok-first.ensures.row.items)
           (rows-few (forest.body.facts + most) t c.loop-tree.room.rows.items c.add_tree.new.room.merge.new_counts (omega (arith, inv.rows)) (inv.few most are)
-          (c.in_ok-first.ensures.row.few most (delta-added forest deltas t c.index-as_slice-tree.result delta (below g at) (is g at) c.requires.lists most are)));
+          (c.in_ok-first.ensures.row.few most (delta-added forest deltas t [] delta (below g at) (is g at) c.requires.lists most are)));
       low = omega (arith, inv.low, c.in_ok-first.ensures.next.few);
       place = c.in_ok-first.ensures.next.place;
       packed = λ tells accepted batch adds.
@@ -125,7 +125,7 @@ loop-tree-preserved g c =
       joined = λ tells.
           let whole = whole-before c.args.slot 0 files _ (inv.disk tells).files forest c.requires.other t delta (c.in_ok-first.ensures.joined tells) in
           one-more (λ s. IsWholeFor forest files s (get_or deltas s [])) t (inv.joined tells)
-          (subst (IsWholeFor forest files t) (at-tree forest deltas t c.index-as_slice-tree.result delta (below g at) (is g at)) whole);
+          (subst (IsWholeFor forest files t) (at-tree forest deltas t [] delta (below g at) (is g at)) whole);
       disk = λ tells. written-on (2 + c.args.slot) 0 (page_size * c.loop-tree.first) _ _ _ (omega arith) (inv.disk tells) (c.add_tree.ensures.disk tells);
       faults = search rules;
       told_faults = search rules;
@@ -136,7 +136,7 @@ loop-tree-preserved g c =
 
 -- all trees
 end : (g : Over) (c : After-view_counts g) → length c.args.forest.now.mapping.trees ≤ c.loop-tree.tree
-end g c = omega (arith, c.loop-tree-test.false, ap length c.as_slice-tree-end.ensures, c.requires.lists)
+end g c = omega (arith, c.loop-tree-test.false, c.len-tree-end.ensures, c.requires.lists)
 
 told : (g : Over) (c : After-view_counts g) → c.view_counts.result ≡ counts_from c.args.forest.now.schema.views c.loop-tree.room.rows.items
 told g c = c.view_counts.ensures ∙ ap (counts_from c.args.forest.now.schema.views) c.deref.ensures.value
@@ -172,6 +172,6 @@ returns-clause-joined g c = λ tells t lt.
 
 pub add_tree-requires-clause-added : goal.add_tree-requires-clause-added
 add_tree-requires-clause-added g c =
-    let at = (goal.at.add_tree-requires-clause-added g c).After-as_slice-delta in
+    let at = (goal.at.add_tree-requires-clause-added g c).After-tree-delta in
     let added = c.requires.added in
-    (added.0, delta-added c.args.forest.now c.args.deltas.now c.loop-tree.tree c.index-as_slice-tree.result c.as_slice-delta.result.now (below g at) (is g at) c.requires.lists added.0 added.1, added.2)
+    (added.0, delta-added c.args.forest.now c.args.deltas.now c.loop-tree.tree [] c.tree-delta.result (below g at) (is g at) c.requires.lists added.0 added.1, added.2)

@@ -1,25 +1,19 @@
-use Rattle.std.proofs.Common.{◌≡◌, ◌<◌, ◌≤◌, ◌+◌, slice_index, ℕ, List, [], length, get_or, map, zip, refl, subst, sym, ap, ◌∙◌}
+use Rattle.std.proofs.Common.{◌<◌, ◌≤◌, ◌+◌, slice_index, ℕ, List, [], length, get_or, zip, refl, subst, sym, ap, ◌∙◌}
 use Rattle.std.specs.List.{All}
 use Rattle.cube_schema.specs.declared.Kind.{Kind}
 use Rattle.cube_schema.specs.declared.Kind.TheVariants as kind
 use Rattle.cube_schema.specs.Kinds.{max_of}
-use Rattle.view_points.specs.Codes.{Text, admitted, texts_at, same_entry, named}
+use Rattle.view_points.specs.Codes.{Text}
 use Rattle.view_points.specs.Deltas.{CodedBy}
-use Rattle.std.specs.Str.{bytes_eq}
-use Rattle.fact_model.specs.declared.fact.Fact.{Fact}
 use Rattle.view_points.specs.Agree.{IsCoded}
 use Rattle.attr_dict.specs.Book.{Book, names_at}
-use Rattle.attr_dict.specs.Admitting.{Agrees, codes_of, entries_text, fresh}
+use Rattle.attr_dict.specs.Admitting.{Agrees}
 use Rattle.attr_dict.specs.Room.{entries_len, entries_limit}
 use Rattle.attr_dict.proofs.Coords.{facts-coded, facts-have_codes, facts-placed}
 use Rattle.attr_dict.proofs.Kept.{book-taken, taken-narrow}
 use Rattle.attr_dict.proofs.Lens.{admitted-len, len-limit}
 use Rattle.attr_dict.proofs.Takes.{names-back}
 use Rattle.attr_dict.proofs.dicts.Dicts.admit.Goals as goal
-
--- the names of the facts beside those that were there
-names-now : (c : goal.In-Ok) (a : ℕ) → get_or c.take_in-taken.new.names.items a [] ≡ admitted bytes_eq (get_or c.self.inside.names.items a []) (texts_at a c.args.facts.now)
-names-now c a = c.in-Ok.ensures.names a ∙ ap (λ (fs : List Fact). admitted bytes_eq (get_or c.self.inside.names.items a []) (texts_at a fs)) c.as_slice-3.ensures
 
 agree-here : (c : goal.In-Ok) → All (Agrees c.self.inside.kinds.items) c.args.facts.now
 agree-here c = subst (λ (ks : List Kind). All (Agrees ks) c.args.facts.now) (sym (ap (λ (b : Book). b.kinds) c.self.view_is)) c.requires
@@ -33,7 +27,7 @@ returns-in-Err-clause-unchanged c =
 -- all values of the facts have codes now
 pub returns-in-Ok-clause-known : goal.returns-in-Ok-clause-known
 returns-in-Ok-clause-known c =
-    facts-have_codes (λ a. get_or c.take_in-taken.new.names.items a []) (λ a. get_or c.self.inside.names.items a []) c.args.facts.now (names-now c)
+    facts-have_codes (λ a. get_or c.take_in-taken.new.names.items a []) (λ a. get_or c.self.inside.names.items a []) c.args.facts.now c.in-Ok.ensures.names
 
 pub returns-in-Ok-clause-placed : goal.returns-in-Ok-clause-placed
 returns-in-Ok-clause-placed c = λ view within.
@@ -43,9 +37,8 @@ returns-in-Ok-clause-placed c = λ view within.
     let b : Book = record { kinds = c.self.inside.kinds.items; names = names } in
     let agree = subst (λ (ks : List Kind). All (Agrees ks) facts) kinds c.requires in
     let attrs = subst (λ (ks : List Kind). All (λ a. a < length ks) view) kinds within in
-    let coded = c.in-Ok.ensures.coded ∙ ap (map (codes_of names)) c.as_slice-3.ensures in
-    let known : All (IsCoded (names_at b)) facts = facts-have_codes (names_at b) (λ a. get_or c.self.inside.names.items a []) facts (names-now c) in
-    subst (λ (cs : List (List ℕ)). All (λ (coordinates : List ℕ). All (λ a. 1 ≤ slice_index coordinates a) view) cs) (sym coded) (facts-placed b facts view agree known attrs)
+    let known : All (IsCoded (names_at b)) facts = facts-have_codes (names_at b) (λ a. get_or c.self.inside.names.items a []) facts c.in-Ok.ensures.names in
+    subst (λ (cs : List (List ℕ)). All (λ (coordinates : List ℕ). All (λ a. 1 ≤ slice_index coordinates a) view) cs) (sym c.in-Ok.ensures.coded) (facts-placed b facts view agree known attrs)
 
 pub returns-in-Ok-clause-viewed : goal.returns-in-Ok-clause-viewed
 returns-in-Ok-clause-viewed c = λ view within.
@@ -55,14 +48,13 @@ returns-in-Ok-clause-viewed c = λ view within.
     let b : Book = record { kinds = c.self.inside.kinds.items; names = names } in
     let agree = subst (λ (ks : List Kind). All (Agrees ks) facts) kinds c.requires in
     let attrs = subst (λ (ks : List Kind). All (λ a. a < length ks) view) kinds within in
-    let coded = c.in-Ok.ensures.coded ∙ ap (map (codes_of names)) c.as_slice-3.ensures in
-    subst (λ (cs : List (List ℕ)). All (CodedBy (names_at b) view) (zip cs facts)) (sym coded) (facts-coded b facts view agree attrs)
+    subst (λ (cs : List (List ℕ)). All (CodedBy (names_at b) view) (zip cs facts)) (sym c.in-Ok.ensures.coded) (facts-coded b facts view agree attrs)
 
 pub invariant_of-self : goal.invariant_of-self
 invariant_of-self c =
     book-taken (record { kinds = c.self.inside.kinds.items; names = c.self.inside.names.items }) c.take_in-taken.new.names.items c.args.facts.now c.self.invariant c.in-Ok.ensures.same
     (subst (λ (ks : List Kind). (a : ℕ) → a < length ks → length (get_or c.take_in-taken.new.names.items a []) ≤ max_of (get_or ks a kind.Number)) c.as_slice-2.ensures.value c.in-Ok.ensures.within)
-    (names-now c) (agree-here c)
+    c.in-Ok.ensures.names (agree-here c)
 
 pub returns-in-Ok-clause-narrow : goal.returns-in-Ok-clause-narrow
 returns-in-Ok-clause-narrow c =
@@ -71,8 +63,8 @@ returns-in-Ok-clause-narrow c =
 pub returns-in-Ok-clause-len : goal.returns-in-Ok-clause-len
 returns-in-Ok-clause-len c =
     admitted-len (record { kinds = c.self.inside.kinds.items; names = c.self.inside.names.items }) (record { kinds = c.self.inside.kinds.items; names = c.take_in-taken.new.names.items }) c.args.facts.now c.in-Ok.admitted.names
-    c.self.invariant (invariant_of-self c) refl (names-now c)
-    (λ seen lists. c.in-Ok.ensures.entries seen lists ∙ ap (λ (fs : List Fact). entries_text (fresh same_entry seen (named fs))) c.as_slice-3.ensures)
+    c.self.invariant (invariant_of-self c) refl c.in-Ok.ensures.names
+    c.in-Ok.ensures.entries
     ∙ ap (λ (b : Book). entries_len b + length c.in-Ok.admitted.names) c.self.view_is
 
 pub returns-in-Ok-clause-limit : goal.returns-in-Ok-clause-limit

@@ -1,4 +1,7 @@
-use Rattle.site_core.proofs.Run.{holds_to}
+use Rattle.std.proofs.Common.{◌≡◌}
+use Rattle.site_core.proofs.Run.{holds_to, started}
+use Rattle.forest_store.proofs.Standing.{live_keeps}
+use Rattle.forest_store.specs.Held.{KeepsFacts}
 use Rattle.forest_store.specs.Stored.{IsStoreOf}
 use Rattle.forest_refresh.specs.Prepared.{begun_with}
 use Rattle.forest_refresh.proofs.Begins.{begun_on, cut_back, kept_by}
@@ -17,3 +20,12 @@ returns-in-Ok-clause-any_moment g c = λ t accepted is.
 pub returns-in-Ok-clause-back : goal.returns-in-Ok-clause-back
 returns-in-Ok-clause-back g c =
     cut_back c.args.store c.prepare.new.store c.shut_gate.result c.prepare.ensures.forest c.prepare.ensures.shown c.in-Ok.ensures.front c.shut_gate.ensures.back
+
+pub returns-in-Err-clause-any_moment : goal.returns-in-Err-clause-any_moment
+returns-in-Err-clause-any_moment g c = λ t accepted is.
+    let disk = g.T.Site.disk c.args.site.now in
+    let forest = c.args.store.forest in
+    started disk (λ told files. (told ≡ disk.told) × KeepsFacts forest.schema accepted files)
+    (λ told files left.
+    let now = g.met.T.Site.only_now c.args.site.now told files t left in
+    (now.0, live_keeps forest.schema forest.body accepted files (is.left files now.1).live))

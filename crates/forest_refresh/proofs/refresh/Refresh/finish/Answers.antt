@@ -9,7 +9,8 @@ use Rattle.forest_refresh.proofs.Finishes.{addition_of, body_of_all, damage_by, 
 use Rattle.forest_root.specs.Root.{IsShut}
 use Rattle.forest_commit.specs.Commit.{slot_of}
 use Rattle.forest_commit.proofs.Kept.{root_paged, shut_paged}
-use Rattle.forest_refresh.proofs.Ready.{err_if, err_then, more_names}
+use Rattle.forest_refresh.specs.declared.stop.RefreshStop.TheVariants as stops
+use Rattle.forest_refresh.proofs.Ready.{cause_again, err_if, err_then, more_names}
 use Rattle.forest_refresh.proofs.refresh.Refresh.finish.Goals as goal
 
 abbrev seen : Inside → Begun
@@ -133,7 +134,7 @@ returns-clause-writes g c = λ t accepted batch was.
 
 pub returns-in_err-counts-clause-calls : goal.returns-in_err-counts-clause-calls
 returns-in_err-counts-clause-calls g c = record {
-  cause = search rules;
+  cause = cause_again stops.Disk _ _ c.in_err-counts.field-0.0 c.from_residual.result c.in_err-counts.ensures.calls.cause c.from_residual.ensures.1;
   told_faults = search rules;
   reads = omega (arith, c.write_trees.ensures.calls.reads, ap (λ (r : Begun). page_total r.store.forest.body r.store.forest.schema) c.self.view_is);
 }

@@ -1,16 +1,17 @@
-use Rattle.std.proofs.Common.{◌≡◌, ◌≢◌, ◌≤◌, ◌+◌, ◌*◌, ℕ, List, [], IsTrue, length}
+use Rattle.std.proofs.Common.{drop, ◌≡◌, ◌≢◌, ◌≤◌, ◌+◌, ◌*◌, ℕ, List, [], IsTrue, length}
 use Rattle.merge_pack.specs.Building.{IsBuilding}
 use Rattle.site_core.specs.Calls.{Changes}
 use Rattle.site_core.specs.Disk.{DiffersPast}
-use Rattle.merge_pack.specs.Merging.{merging_of}
+use Rattle.merge_pack.specs.Merging.{first_point, merging_of}
 use Rattle.merge_pack.specs.Few.{HasFewPages, HoldAtMost, total}
 use Rattle.merge_pack.specs.Safe.{IsSafe, falls}
 use Rattle.merge_pack.proofs.Reading.{IsReading}
 use Rattle.merge_pack.proofs.merge.Merge.run.Given as goal
 
-abbrev pub invariant-loop : goal.invariant-loop
-invariant-loop g l = record {
+abbrev pub invariant-loop-self : goal.invariant-loop-self
+invariant-loop-self g l = record {
   safe : IsSafe l.self l.delta;
+  new : first_point (drop l.self.taken l.delta) ≡ l.new;
   place : IsTrue g.T.Site.tells → 4096 * l.self.at.next_page ≤ length ((g.T.Site.disk l.site).files l.self.file);
   file : l.self.file ≡ l.fn.self.file;
   old_file : l.self.scan.file ≡ l.fn.self.scan.file;
@@ -30,5 +31,5 @@ invariant-loop g l = record {
   told_faults : g.T.Site.told_faults l.site ≡ g.T.Site.told_faults l.fn.site;
 }
 
-abbrev pub decreases-loop : goal.decreases-loop
-decreases-loop g l = falls l.self.scan.left (merging_of l.self l.delta)
+abbrev pub decreases-loop-self : goal.decreases-loop-self
+decreases-loop-self g l = falls l.self.scan.left (merging_of l.self l.delta)

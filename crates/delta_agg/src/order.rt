@@ -1,0 +1,136 @@
+//! The rows of a batch in the order of a view, and where each place begins.
+ghost use Rattle.std.specs.Prelude.{◌≡◌, ◌<◌, ◌≤◌, ◌^◌, IfOk, length};
+ghost use Rattle.std.specs.List.{All};
+ghost use Rattle.delta_agg.specs.Batch.{HasPlace};
+ghost use Rattle.delta_agg.specs.Rows.{IsOrdered, IsUnder, digits_of, room};
+
+use crate::digits::{Digit, digits_of, room_within};
+use crate::placed::runs_by_places;
+use crate::runs::{Runs, ViewRuns};
+use crate::{keys, long_keys};
+use fact_batch::FlatRows;
+use fact_model::{ListOf, Memory};
+use std::alloc::Global;
+
+/// Memory for keys, which is used again for each view.
+#[derive(Drop)]
+pub(crate) struct Keys {
+    short: Vec<u64>,
+    long: Vec<u128>,
+}
+
+impl Keys {
+    /// No memory yet.
+    pub(crate) fn new(alloc: Global) -> Keys {
+        Keys {
+            short: Vec::new(alloc),
+            long: Vec::new(alloc),
+        }
+    }
+}
+
+/// The runs of a view. `tops` are the greatest coordinates.
+pub(crate) fn runs_of(
+    alloc: Global,
+    view: &[u32],
+    coded: &FlatRows<u32>,
+    tops: &[u32],
+    keys: &mut Keys,
+) -> Result<ViewRuns, Memory>
+    requires arity { length view.now ≤ 8 }
+    requires places { All (HasPlace view.now) coded.now }
+    requires rows { length coded.now ≤ 2 ^ 18 }
+    requires declared { All (λ a. a < length tops.now) view.now }
+    requires under { All (IsUnder tops.now) coded.now }
+    ensures view { IfOk result (λ v. v.view ≡ view.now) }
+    ensures ordered { IfOk result (λ v. IsOrdered view.now coded.now v.runs.order v.runs.cuts) }
+{
+    let runs = ordered(alloc, view, coded, tops, keys)?;
+    let mut attrs = Vec::with_capacity(alloc, view.len())?;
+    attrs.extend_from_slice(view)?;
+    Ok(ViewRuns {
+        view: ListOf::from_vec(attrs),
+        runs,
+    })
+}
+
+/// All rows in the order of the view, cut into runs: by the smallest keys that tell its places apart.
+fn ordered(
+    alloc: Global,
+    view: &[u32],
+    coded: &FlatRows<u32>,
+    tops: &[u32],
+    keys: &mut Keys,
+) -> Result<Runs, Memory>
+    requires arity { length view.now ≤ 8 }
+    requires places { All (HasPlace view.now) coded.now }
+    requires rows { length coded.now ≤ 2 ^ 18 }
+    requires declared { All (λ a. a < length tops.now) view.now }
+    requires under { All (IsUnder tops.now) coded.now }
+    ensures { IfOk result (λ runs. IsOrdered view.now coded.now runs.order runs.cuts) }
+{
+    let digits = digits_of(alloc, view, tops)?;
+    if room_within(&digits, keys::MOST_PLACES) {
+        return by_keys(alloc, view, coded, tops, &digits, &mut keys.short);
+    }
+    if room_within(&digits, long_keys::MOST_PLACES) {
+        return by_long_keys(alloc, view, coded, tops, &digits, &mut keys.long);
+    }
+    runs_by_places(alloc, view, coded)
+}
+
+/// The same by keys of 8 bytes.
+fn by_keys(
+    alloc: Global,
+    view: &[u32],
+    coded: &FlatRows<u32>,
+    tops: &[u32],
+    digits: &[Digit],
+    keys: &mut Vec<u64>,
+) -> Result<Runs, Memory>
+    requires arity { length view.now ≤ 8 }
+    requires places { All (HasPlace view.now) coded.now }
+    requires rows { length coded.now ≤ 2 ^ 18 }
+    requires declared { All (λ a. a < length tops.now) view.now }
+    requires under { All (IsUnder tops.now) coded.now }
+    requires digits { digits.now ≡ digits_of tops.now view.now }
+    requires few { room digits.now ≤ 2 ^ 46 }
+    ensures { IfOk result (λ runs. IsOrdered view.now coded.now runs.order runs.cuts) }
+{
+    keys::make_keys(keys, digits, coded)?;
+    keys::sort(keys);
+    let order = keys::rows_of(alloc, keys.as_slice())?;
+    let cuts = keys::cuts_of(alloc, keys.as_slice())?;
+    Ok(Runs {
+        order: ListOf::from_vec(order),
+        cuts: ListOf::from_vec(cuts),
+    })
+}
+
+/// The same by keys of 16 bytes.
+fn by_long_keys(
+    alloc: Global,
+    view: &[u32],
+    coded: &FlatRows<u32>,
+    tops: &[u32],
+    digits: &[Digit],
+    keys: &mut Vec<u128>,
+) -> Result<Runs, Memory>
+    requires arity { length view.now ≤ 8 }
+    requires places { All (HasPlace view.now) coded.now }
+    requires rows { length coded.now ≤ 2 ^ 18 }
+    requires declared { All (λ a. a < length tops.now) view.now }
+    requires under { All (IsUnder tops.now) coded.now }
+    requires digits { digits.now ≡ digits_of tops.now view.now }
+    requires few { room digits.now ≤ 2 ^ 110 }
+    ensures { IfOk result (λ runs. IsOrdered view.now coded.now runs.order runs.cuts) }
+{
+    long_keys::make_keys(keys, digits, coded)?;
+    long_keys::sort(keys);
+    let order = long_keys::rows_of(alloc, keys.as_slice())?;
+    let cuts = long_keys::cuts_of(alloc, keys.as_slice())?;
+    Ok(Runs {
+        order: ListOf::from_vec(order),
+        cuts: ListOf::from_vec(cuts),
+    })
+}

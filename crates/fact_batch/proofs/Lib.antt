@@ -1,0 +1,4 @@
+pub mod Drafts
+pub mod Flats
+pub mod Pushes
+pub mod Texts

@@ -1,0 +1,25 @@
+-- Values whose texts lie one behind the other.
+use Rattle.std.specs.Prelude.{ℕ, ◌+◌, List, [], ◌∷◌, take, drop}
+use Rattle.fact_model.specs.declared.fact.Value.{Value}
+use Rattle.fact_model.specs.declared.fact.Value.TheVariants.{Word, Number}
+use Rattle.fact_batch.specs.declared.values.LentValue.{LentValue}
+use Rattle.fact_batch.specs.declared.values.LentValue.TheVariants as lent
+use Rattle.fact_batch.specs.declared.values.Slot.{Slot}
+use Rattle.fact_batch.specs.declared.values.Slot.TheVariants as slot
+
+-- the value that is lent
+abbrev pub shown : LentValue → Value
+shown (lent.Word bytes) = Word bytes.now
+shown (lent.Number n) = Number n
+
+-- the values of slots, each text from the bytes behind the texts before it
+abbrev pub values_of : List Slot → List ℕ → List Value
+values_of [] texts = []
+values_of (slot.Word len ∷ slots) texts = Word (take len texts) ∷ values_of slots (drop len texts)
+values_of (slot.Number n ∷ slots) texts = Number n ∷ values_of slots texts
+
+-- how many bytes their texts have
+abbrev pub texts_len : List Slot → ℕ
+texts_len [] = 0
+texts_len (slot.Word len ∷ slots) = len + texts_len slots
+texts_len (slot.Number n ∷ slots) = texts_len slots

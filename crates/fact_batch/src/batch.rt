@@ -1,0 +1,75 @@
+//! The facts of a batch.
+ghost use Rattle.std.specs.Prelude.{◌≡◌, ◌<◌, ◌==◌, [], length, get_or};
+ghost use Rattle.fact_batch.specs.Batch.{measures_in, values_in};
+
+use crate::rows::{FlatRows, row_of};
+use crate::values::{Slot, Values};
+use std::marker::Model;
+
+/// The facts of a batch, which contracts see as the list of the facts. They have as many values and numbers each, which lie one behind the
+/// other, 8 bytes a value beside the bytes of the texts, and 16 bytes a number.
+#[derive(Drop)]
+pub struct Batch {
+    pub(crate) width: usize,
+    pub(crate) measures: usize,
+    pub(crate) rows: usize,
+    pub(crate) slots: Vec<Slot>,
+    pub(crate) texts: Vec<u8>,
+    pub(crate) numbers: Vec<i128>,
+}
+
+impl Model for Batch {
+    ghost use Rattle.std.specs.Prelude.{List};
+    ghost use Rattle.fact_model.specs.declared.fact.Fact.{Fact};
+    ghost use Rattle.fact_batch.specs.Batch.{IsFlat, facts_of};
+
+    ghost Value = { List Fact };
+
+    ghost view = { λ b. facts_of b.width b.measures b.rows b.slots.items b.texts.items b.numbers.items };
+
+    ghost invariant = { λ b. IsFlat b.width b.measures b.rows b.slots.items b.texts.items b.numbers.items };
+}
+
+impl Batch {
+    /// How many facts there are.
+    pub fn len(&self) -> usize
+        ensures { result ≡ length self.now }
+    {
+        self.rows
+    }
+
+    /// Whether there is none.
+    pub fn is_empty(&self) -> bool
+        ensures { result ≡ (length self.now == 0) }
+    {
+        self.len() == 0
+    }
+
+    /// The values of all facts, in order of fact and then of attribute. It takes no memory.
+    pub fn values(&self) -> Values<'_>
+        ensures { result ≡ values_in self.now }
+    {
+        Values::new(self.slots.as_slice(), self.texts.as_slice())
+    }
+
+    /// The numbers of the fact at this place, counted from 0, one for each measure.
+    pub fn numbers(&self, at: usize) -> &[i128]
+        requires { at < length self.now }
+        ensures { result.now ≡ get_or (measures_in self.now) at [] }
+    {
+        row_of(&self.numbers, self.measures, self.rows, at)
+    }
+
+    /// The numbers of all facts alone; the values are given back. It takes no memory.
+    pub fn into_numbers(self) -> FlatRows<i128>
+        ensures { result ≡ measures_in self }
+    {
+        let Batch {
+            measures,
+            rows,
+            numbers,
+            ..
+        } = self;
+        FlatRows::from_vec(measures, rows, numbers)
+    }
+}
