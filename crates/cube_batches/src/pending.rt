@@ -1,7 +1,7 @@
 //! The commands `begin`, `step`, `finish` and `abandon`, over a batch that is pending.
 ghost use Rattle.std.specs.Prelude.{◌≡◌, ◌≤◌, ◌+◌, IsTrue, List, OnOk, IfOk, IfErr};
 ghost use Rattle.fact_model.specs.declared.fact.Fact as facts;
-ghost use Rattle.forest_refresh.specs.Begun.{IsReady};
+ghost use Rattle.forest_refresh.specs.Begun.{IsGoing, IsReady};
 ghost use Rattle.forest_store.specs.Stored.{IsWhole};
 ghost use Rattle.reply_text.specs.Replies.{committed_text};
 ghost use Rattle.plain_machine.specs.Machine.{abandon, begin, committed, finish};
@@ -108,6 +108,7 @@ fn commit<T: Site>(
     refresh: Refresh,
     site: &mut T,
 ) -> Result<Answered, Stop>
+    requires goes { IsGoing refresh }
     requires fit { IsTrue T.tells → IsReady refresh (T.disk site.old) }
 
     ensures answer { IsTrue T.tells → (warehouse : Warehouse) (batch : List facts.Fact) → Attends refresh (T.disk site.old) warehouse batch

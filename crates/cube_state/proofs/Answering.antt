@@ -7,10 +7,10 @@ use Rattle.plain_machine.specs.World.{World}
 use Rattle.plain_machine.specs.Keeps.{Keeps}
 use Rattle.plain_machine.specs.Machine.{Answer}
 use Rattle.cube_state.specs.declared.state.State.{State}
-use Rattle.cube_state.specs.Session.{Stands, Between, IsAnswer, KeepsEither}
+use Rattle.cube_state.specs.Session.{IsFit, Stands, Between, IsAnswer, KeepsEither}
 use Rattle.cube_state.specs.declared.answered.Answered.{Answered}
 use Rattle.cube_state.specs.declared.stop.Stop.{Stop}
-use Rattle.cube_state.proofs.Standing.{rests_left, stands_left, stands_on}
+use Rattle.cube_state.proofs.Standing.{fit_on, rests_left, stands_left, stands_on}
 
 -- what is known of a site at each moment
 abbrev pub OnlyNow : Disk → Type 0
@@ -56,5 +56,8 @@ resting state old new world next is only rests = each_moment Stays old new (λ t
     (λ told files same after. (same, inl (subst (λ (f : Files). Keeps f world.kept) (sym after.2) (stands_left state old world is after.0 after.1)))) rests.time
 
 -- a session stands after such calls
+pub fit_rests : (state : State) (old new : Disk) → Rests old new → IsFit state old → IsFit state new
+fit_rests state old new rests is = fit_on old new rests.files (rests_left old new rests) state is
+
 pub stands_rests : (state : State) (old new : Disk) (world : World) → Rests old new → Stands state old world → Stands state new world
 stands_rests state old new world rests is = stands_on old new rests.files (rests_left old new rests) state world is

@@ -6,7 +6,7 @@ use Rattle.site_core.specs.Moments.{HoldsNow, IsStable}
 use Rattle.site_core.proofs.Run.{holds_to}
 use Rattle.cube_schema.specs.declared.schema.Schema.{Schema}
 use Rattle.fact_model.specs.declared.fact.Fact.{Fact}
-use Rattle.forest_refresh.specs.Begun.{Begun, IsRefreshOf}
+use Rattle.forest_refresh.specs.Begun.{Begun, HasMoved, IsReady, IsRefreshOf}
 use Rattle.forest_root.specs.Keeps.{KeepsNothing}
 use Rattle.forest_root.specs.Root.{IsShut, RootIsStable}
 use Rattle.forest_root.specs.declared.body.Body.{Body}
@@ -93,14 +93,24 @@ module _ (old new : Disk) (same : new.files ≡ old.files) (left : (files : File
     opened = opened_on store.forest.body is.opened;
   }
 
+  ready_on : (r : Begun) → IsReady r old → IsReady r new
+  ready_on r is = record { opened = opened_on r.store.forest.body is.opened; shut = subst (λ (f : Files). IsShut (slot_of r.next) (f 0)) (sym same) is.shut; moved = subst (HasMoved r) (sym same) is.moved }
+
   attends_on : (r : Begun) (warehouse : Warehouse) (batch : List Fact) → Attends r old warehouse batch → Attends r new warehouse batch
   attends_on r warehouse batch is = record {
     lawful = is.lawful;
     schema = is.schema;
     adds = holds_on (IsRefreshOf r warehouse.facts batch) is.adds;
     some = is.some;
-    ready = record { opened = opened_on r.store.forest.body is.ready.opened; shut = subst (λ (f : Files). IsShut (slot_of r.next) (f 0)) (sym same) is.ready.shut };
+    ready = ready_on r is.ready;
   }
+
+  -- the files are still those that it has opened
+  pub fit_on : (state : State) → IsFit state old → IsFit state new
+  fit_on Empty is = record { stable = stable_on is.stable; nothing = subst KeepsNothing (sym same) is.nothing }
+  fit_on (Idle store) is = opened_on store.forest.body is
+  fit_on (Hollow store) is = opened_on store.forest.body is
+  fit_on (Pending r) is = ready_on r is
 
   -- the session stands for the same world
   pub stands_on : (state : State) (world : World) → Stands state old world → Stands state new world

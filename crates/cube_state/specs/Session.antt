@@ -4,7 +4,7 @@ use Rattle.site_core.specs.Disk.{Files, Disk}
 use Rattle.site_core.specs.Moments.{HoldsNow, LeavesOnly}
 use Rattle.fact_model.specs.declared.fact.Fact.{Fact}
 use Rattle.forest_root.specs.declared.forest.Store.{Store}
-use Rattle.forest_refresh.specs.Begun.{Begun, IsReady, IsRefreshOf, batch_size}
+use Rattle.forest_refresh.specs.Begun.{Begun, IsGoing, IsReady, IsRefreshOf, batch_size}
 use Rattle.forest_store.specs.Opened.{IsEmpty, IsOpened}
 use Rattle.forest_store.specs.Stored.{IsStoreOf, IsWhole}
 use Rattle.reply_text.specs.Replies.{line, facts_text, pending_text}
@@ -33,12 +33,12 @@ pub record Attends (r : Begun) (disk : Disk) (warehouse : Warehouse) (batch : Li
   pub some : 0 < length batch
   pub ready : IsReady r disk
 
--- where no refresh has begun, slices know all names
+-- where no refresh has begun, slices know all names; where one has, its moves go on
 abbrev pub IsRunning : State → Type 0
 IsRunning Empty = Unit {0}
 IsRunning (Idle store) = IsWhole store
 IsRunning (Hollow store) = IsWhole store
-IsRunning (Pending refresh) = Unit {0}
+IsRunning (Pending refresh) = IsGoing refresh
 
 -- the files are those that it has opened, whatever they hold
 abbrev pub IsFit : State → Disk → Type 0

@@ -1,5 +1,5 @@
 -- An old tree is merged with the points of a batch: it may be, and what the merge tells of the trees.
-use Rattle.std.proofs.Common.{◌≡◌, ◌≢◌, ◌≤◌, ◌<◌, ◌+◌, ◌-◌, ◌*◌, ◌/◌, ◌^◌, ℕ, List, ◌++◌, length, inl, inr, refl, sym, ap, ◌∙◌, subst, arith}
+use Rattle.std.proofs.Common.{◌≡◌, ◌≢◌, ◌≤◌, ◌<◌, ◌+◌, ◌-◌, ◌*◌, ◌^◌, ℕ, List, ◌++◌, length, inl, inr, refl, sym, ap, ◌∙◌, subst, arith}
 use Rattle.std.specs.Prelude.{slice_index}
 use Rattle.std.proofs.lemmas.Bool.{cases_lt}
 use Rattle.site_core.specs.Disk.{Files}
@@ -10,8 +10,6 @@ use Rattle.page_fmt.specs.declared.page.Place.{Place}
 use Rattle.delta_agg.specs.Joins.{AllJoin, merged_entries}
 use Rattle.delta_agg.proofs.Merging.{join-front}
 use Rattle.tree_scan.proofs.Extending.{entries-split}
-use Rattle.tree_pack.specs.Packing.{AreTreeViews, max_first}
-use Rattle.tree_pack.specs.Pages.{Views, pages_of}
 use Rattle.tree_scan.specs.Scanning.{NamesPage, entries_of}
 use Rattle.tree_scan.specs.declared.stop.ScanStop.{ScanStop}
 use Rattle.tree_scan.specs.declared.stop.ScanStop.TheVariants as scans
@@ -22,14 +20,13 @@ use Rattle.forest_root.specs.Body.{max_facts}
 use Rattle.forest_root.specs.declared.forest.Forest.{Forest}
 use Rattle.forest_root.specs.Forest.{counts_of, place_of}
 use Rattle.forest_commit.specs.Commit.{slot_of}
-use Rattle.forest_pages.specs.Forest.{tree_bytes, tree_entries, views_over}
+use Rattle.forest_pages.specs.Forest.{tree_entries}
 use Rattle.forest_store.proofs.Places.{place-few, place-file, place-pages, place-shape}
-use Rattle.forest_refresh.specs.Additions.{IsAdditionAt}
-use Rattle.forest_refresh.specs.Pages.{max_tree_pages}
+use Rattle.forest_refresh.specs.Progress.{max_tree_pages}
 use Rattle.forest_refresh.specs.Refreshed.{IsNoDamage}
 use Rattle.forest_refresh.specs.Trees.{AreAdded, AreGoodIn, IsWholeFor, NamesPageOf, TellsDamageFor, entries_at, stop_at}
-use Rattle.forest_refresh.proofs.Packings.{old-few, tree-views-of}
-use Rattle.forest_refresh.proofs.Sides.{tree-pages}
+use Rattle.forest_refresh.proofs.Packings.{old-few}
+use Rattle.forest_refresh.proofs.Sides.{IsAdditionAt}
 use Rattle.forest_refresh.proofs.TreeMerges.{facts-join, facts-merged, few-by, total-few}
 use Rattle.forest_refresh.proofs.TreeReads.{nothing-counted, place-counted, place-good}
 use Rattle.forest_refresh.specs.declared.stop.RefreshStop.TheVariants as stops
@@ -123,21 +120,12 @@ module _ (forest : Forest) (t : ℕ) (lt : t < length forest.mapping.trees) (del
       pub merged-is : merged_entries (entries_at place files) delta ≡ tree_entries forest.schema (accepted ++ batch) (tree_of forest.mapping t)
       merged-is = (λ i. merged_entries (good.1 i) (adds.points i)) ∙ facts-merged forest.schema forest.lawful accepted batch forest.mapping forest.mapped t
 
-      pub merged-views : AreTreeViews place.shape (views_over forest.schema (accepted ++ batch) (tree_of forest.mapping t)) (merged_entries (entries_at place files) delta)
-      merged-views = tree-views-of forest t lt (accepted ++ batch) adds.all (merged_entries (entries_at place files) delta) merged-is
-
       -- no page is damaged
       pub undamaged-for : (stop : ScanStop) → IsDamaged (files place.file) place.shape place.first place.pages delta stop → IsNoDamage (stop_at place stop)
       undamaged-for scans.Disk is = tt
       undamaged-for (scans.Damaged page) (inl bad) = absurd (bad.bad (good.0 page bad.from bad.within))
       undamaged-for (scans.Damaged page) (inr apart) = absurd (apart.apart (page + 1 - place.first) (omega (arith, apart.from)) (front-joins place files delta (page + 1 - place.first) (omega (arith, apart.from, apart.within)) joins))
 
-      -- and there are as many points as the body counts
-      pub counted-for : (v : Merger) → IsCounted (files place.file) place.shape place.first place.pages delta v → v.old_counts ≡ counts_of forest.body.counts (tree_of forest.mapping t)
-      counted-for v counted = counted.passed ∙ (ap by_arity good.1 ∙ place-counted forest t lt accepted adds.accepted files adds.live)
-
-      -- as many writes are tried as the new tree has pages, or fewer
-      pub tried-for : (first before after : ℕ) → first ≤ max_first → ((views : Views) → AreTreeViews place.shape views (merged_entries (entries_at place files) delta) → after ≤ before + length (pages_of place.shape first views))
-          → after ≤ before + length (tree_bytes forest.schema (accepted ++ batch) first (tree_of forest.mapping t)) / 4096
-      tried-for first before after low tried =
-          omega (arith, tried (views_over forest.schema (accepted ++ batch) (tree_of forest.mapping t)) merged-views, tree-pages forest t lt place refl (accepted ++ batch) adds.all (merged_entries (entries_at place files) delta) merged-is first low)
+      -- as many points of each arity are there as the body counts
+      pub whole-counted : by_arity (entries_at place files) ≡ counts_of forest.body.counts (tree_of forest.mapping t)
+      whole-counted = ap by_arity good.1 ∙ place-counted forest t lt accepted adds.accepted files adds.live

@@ -12,7 +12,7 @@ use Rattle.forest_refresh.specs.Back.{IsBack, IsCut}
 use Rattle.forest_refresh.specs.Begun.{Begun, IsRefreshOf}
 
 -- while its facts stay live, it adds the same batch to them
-live_again : (r : Begun) (facts batch : List Fact) (old new : Files) → IsRefreshOf r facts batch old → IsLive r.store.forest.schema r.store.forest.body facts new → IsRefreshOf r facts batch new
+pub live_again : (r : Begun) (facts batch : List Fact) (old new : Files) → IsRefreshOf r facts batch old → IsLive r.store.forest.schema r.store.forest.body facts new → IsRefreshOf r facts batch new
 live_again r facts batch old new is live = record {
   accepted = is.accepted;
   live = live;

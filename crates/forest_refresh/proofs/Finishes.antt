@@ -16,7 +16,7 @@ use Rattle.forest_commit.specs.Commit.{IsLiveNow, slot_of}
 use Rattle.forest_commit.proofs.Kept.{live_paged, paged_moments}
 use Rattle.forest_commit.proofs.Lasting.{OnlyNow}
 use Rattle.forest_pages.specs.Forest.{body_counts, forest}
-use Rattle.forest_store.specs.Held.{AreAccepted, IsLive, held, names_text}
+use Rattle.forest_store.specs.Held.{AreAccepted, IsLive, KeepsFacts, held, names_text}
 use Rattle.forest_store.specs.Stored.{IsStoreOf, IsWhole}
 use Rattle.forest_store.proofs.Shown.{named_shown}
 use Rattle.forest_store.proofs.Standing.{live_now}
@@ -24,8 +24,10 @@ use Rattle.forest_refresh.specs.declared.stop.RefreshStop.{RefreshStop}
 use Rattle.forest_refresh.specs.Additions.{IsAddition}
 use Rattle.forest_refresh.specs.Begun.{Begun, IsBegun, IsNext, IsRefreshOf, batch_size}
 use Rattle.forest_refresh.specs.Next.{HasNumbers}
+use Rattle.forest_refresh.specs.Progress.{Progress}
 use Rattle.forest_refresh.specs.Refreshed.{KeepsEither}
 use Rattle.forest_refresh.specs.Trees.{TellsFirstDamage}
+use Rattle.forest_refresh.proofs.Begins.{live_again}
 use Rattle.forest_refresh.proofs.Committed.{other_slot, then_either}
 use Rattle.forest_refresh.proofs.Ready.{body_with, more_names}
 
@@ -36,6 +38,20 @@ with_counts next counts = record next { counts = counts }
 -- its batch is added to the facts that the files keep
 pub addition_of : (r : Begun) (facts batch : List Fact) (files : Files) → IsRefreshOf r facts batch files → IsAddition r.store.forest files r.deltas facts batch
 addition_of r facts batch files is = record { accepted = is.accepted; all = is.all; live = is.live; points = is.deltas }
+
+-- how far its trees are is no matter of what it adds
+pub same_batch : (r : Begun) (p : Progress) (facts batch : List Fact) (files : Files) → IsRefreshOf r facts batch files → IsRefreshOf (record r { progress = p }) facts batch files
+same_batch r p facts batch files is = record {
+  accepted = is.accepted;
+  live = is.live;
+  all = is.all;
+  shown = is.shown;
+  names = is.names;
+  deltas = is.deltas;
+  entries = is.entries;
+  counted = is.counted;
+  masses = is.masses;
+}
 
 module _ (r : Begun) (begun : IsBegun r) where
   -- no more facts than there may be
@@ -92,6 +108,17 @@ module _ (r : Begun) (begun : IsBegun r) where
     pub while_written : OnlyNow old → LeavesOnly old mid (λ told files. (told ≡ old.told) × KeepsEither r.store.forest.schema facts (facts ++ batch) files)
     while_written only_now = wider old mid _ _ (λ told files left. (left.0, inl (live_slot, r.store.forest.body, left.1)))
         (paged_moments (held r.store.forest.schema facts) live_slot spare r.store.forest.body low other old mid now 0 run only_now)
+
+    -- so the facts alone are kept on the way, and the batch is still added to them
+    pub while_moved : OnlyNow old → LeavesOnly old mid (λ told files. (told ≡ old.told) × KeepsFacts r.store.forest.schema facts files)
+    while_moved only_now = wider old mid _ _ (λ told files left. (left.0, (live_slot, r.store.forest.body, left.1)))
+        (paged_moments (held r.store.forest.schema facts) live_slot spare r.store.forest.body low other old mid now 0 run only_now)
+
+    pub still_added : HoldsNow (IsRefreshOf r facts batch) mid
+    still_added = record {
+      read = live_again r facts batch old.files mid.files both.read (record { slot = still_live.0; at = still_live.1.read });
+      left = λ files left. live_again r facts batch old.files files both.read (record { slot = still_live.0; at = still_live.1.left files left });
+    }
 
     -- and then the commit
     pub then_committed : (new : Disk) → OnlyNow old → LeavesOnly mid new (λ told files. (told ≡ mid.told) × KeepsEither r.store.forest.schema facts (facts ++ batch) files)

@@ -15,3 +15,8 @@ pub mod Sides
 pub mod TreeMerges
 pub mod TreeReads
 pub mod Writings
+pub mod Progress
+pub mod Moved
+pub mod Merging
+pub mod Advancing
+pub mod Standing

@@ -25,6 +25,7 @@ use Rattle.forest_store.proofs.Shown.{whole_named}
 use Rattle.forest_store.proofs.Storable.{storable_by}
 use Rattle.forest_refresh.specs.Begun.{IsBegun, IsRefreshOf}
 use Rattle.forest_refresh.specs.Next.{AddsNames, AreCoded, added, next_body}
+use Rattle.forest_refresh.specs.Progress.{Progress}
 use Rattle.forest_refresh.specs.Trees.{AreAllAdded}
 use Rattle.forest_refresh.proofs.Added.{all-added, batch-masses, deltas-are}
 use Rattle.forest_refresh.proofs.Ready.{all_accepted, body_is, summed}
@@ -37,7 +38,7 @@ module _ (store : Store) (batch : List Fact) (coded : List (List ℕ)) (deltas :
   abbrev forest : Forest
   forest = store.forest
 
-  more-added : AreAllAdded forest (count - forest.body.facts) deltas
+  pub more-added : AreAllAdded forest (count - forest.body.facts) deltas
   more-added =
       let small = batch-masses forest.body.masses masses batch up within in
       let stored = storable_by forest.schema (names_at store.dicts) batch agree codes.known codes.narrow (omega (arith, counted, few)) small in
@@ -45,10 +46,10 @@ module _ (store : Store) (batch : List Fact) (coded : List (List ℕ)) (deltas :
       subst (λ n. AreAllAdded forest n deltas) most (subst (AreAllAdded forest (length batch)) (sym named) (all-added forest (names_at store.dicts) batch stored))
 
   -- it has begun
-  pub is_begun : 0 < length batch → names_len ≡ forest.body.names_len + length entries → names_len ≤ max_names_len → ((a : ℕ) → slice_index store.shown.at a ≤ length (names_at store.dicts a))
+  pub is_begun : (progress : Progress) → 0 < length batch → names_len ≡ forest.body.names_len + length entries → names_len ≤ max_names_len → ((a : ℕ) → slice_index store.shown.at a ≤ length (names_at store.dicts a))
       → names_len ≤ length (canonical forest.schema) + entries_len store.dicts
-      → IsBegun (record { store = store; deltas = deltas; entries = entries; next = next_body forest.body names_len count masses })
-  is_begun some longer short shown counted_names = record {
+      → IsBegun (record { store = store; deltas = deltas; entries = entries; next = next_body forest.body names_len count masses; progress = progress })
+  is_begun progress some longer short shown counted_names = record {
     lists = ap length named ∙ length-map forest.mapping.trees (named_tree (names_at store.dicts) forest.schema batch);
     added = more-added;
     more = omega (arith, counted, some);
@@ -64,11 +65,11 @@ module _ (store : Store) (batch : List Fact) (coded : List (List ℕ)) (deltas :
   }
 
   -- and adds the batch to the facts
-  pub is_refresh : (accepted : List Fact) (files : Files) → AreAccepted forest.schema accepted → IsLive forest.schema forest.body accepted files
+  pub is_refresh : (progress : Progress) (accepted : List Fact) (files : Files) → AreAccepted forest.schema accepted → IsLive forest.schema forest.body accepted files
       → ((a : ℕ) → shown_names store.dicts store.shown.at a ≡ names_of accepted a) → HoldsNamesOf store.dicts (accepted ++ batch) → HasNames forest.schema (accepted ++ batch)
       → AddsNames accepted batch entries
-      → IsRefreshOf (record { store = store; deltas = deltas; entries = entries; next = next_body forest.body names_len count masses }) accepted batch files
-  is_refresh accepted files fine live shown names fit adds =
+      → IsRefreshOf (record { store = store; deltas = deltas; entries = entries; next = next_body forest.body names_len count masses; progress = progress }) accepted batch files
+  is_refresh progress accepted files fine live shown names fit adds =
       let all = summed forest.schema files forest.body accepted batch count forest.body.masses masses live counted few refl up within in
       let as_names : names_at store.dicts ≡ names_of (accepted ++ batch) = (λ i a. names a i) in
       record {

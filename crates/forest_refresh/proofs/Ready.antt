@@ -189,3 +189,13 @@ pub mass_more : (m : ℕ) (facts : List Fact) (at : ℕ) (d : Fact) → at < len
 mass_more m facts at d lt =
     let one : mass m (get_or facts at d ∷ []) ≡ nat_abs (measure_at m (get_or facts at d)) = omega arith in
     omega (arith, ap (mass m) (take_more facts at d lt), mass-append m (take at facts) (get_or facts at d ∷ []), one)
+
+-- where nothing failed, an error is no fault
+pub cause_none : {A E : Type 0} (fault : E) (before now : ℕ) (e : E) (result : Result A E) → now ≡ before → (e ≡ fault → ⊥) → IsErrAnd result (λ x. x ≡ e) → HasCauseWhere fault before now result
+cause_none fault before now e (Ok x) same not is = absurd is
+cause_none {A = A} {E = E} fault before now e (Err d) same not is = record {
+  later = omega (arith, same);
+  failed = λ told. absurd (not (sym is ∙ ap (λ (r : Result A E). err_in d r) told));
+  other = λ apart. same;
+  ok = tt;
+}

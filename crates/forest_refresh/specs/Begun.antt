@@ -1,5 +1,5 @@
 -- A refresh that has begun, and what it is of accepted facts and of a batch.
-use Rattle.std.specs.Prelude.{◌≡◌, ℕ, ◌+◌, ◌-◌, ◌<◌, ◌≤◌, List, ◌++◌, length, slice_index}
+use Rattle.std.specs.Prelude.{◌≡◌, ℕ, ◌+◌, ◌-◌, ◌*◌, ◌<◌, ◌≤◌, List, ◌++◌, length, slice_index, take}
 use Rattle.site_core.specs.Disk.{Files, Disk}
 use Rattle.fact_model.specs.declared.fact.Fact.{Fact}
 use Rattle.cube_point.specs.declared.point.Entry.{Entry}
@@ -15,7 +15,10 @@ use Rattle.forest_commit.specs.Commit.{slot_of}
 use Rattle.forest_store.specs.Held.{AreAccepted, IsLive, masses_of}
 use Rattle.forest_store.specs.Opened.{IsOpened}
 use Rattle.forest_store.specs.Stored.{IsWhole}
+use Rattle.packing.specs.Moves.{written}
+use Rattle.forest_moves.specs.Forest.{bytes_after, forest_moves}
 use Rattle.forest_refresh.specs.Next.{AddsNames}
+use Rattle.forest_refresh.specs.Progress.{GoesOn, HasWritten, Progress}
 use Rattle.forest_refresh.specs.Trees.{AreAllAdded, deltas_of}
 
 pub record Begun : Type 0 where
@@ -27,6 +30,8 @@ pub record Begun : Type 0 where
   pub entries : List ℕ
   -- the body of the next generation, whose numbers of points come last
   pub next : Body
+  -- how far the new trees are merged
+  pub progress : Progress
 
 -- how many facts the batch has
 abbrev pub batch_size : Begun → ℕ
@@ -52,6 +57,14 @@ pub record IsBegun (r : Begun) : Type 0 where
   -- the names that slices know stand in front of all
   pub shown : (a : ℕ) → slice_index r.store.shown.at a ≤ length (names_at r.store.dicts a)
 
+-- its moves go on, whatever the files hold
+abbrev pub IsGoing : Begun → Type 0
+IsGoing r = GoesOn r.store.forest r.deltas (slot_of r.next) (batch_size r) r.progress
+
+-- the pages of all moves made stand on the side of the next generation
+abbrev pub HasMoved : Begun → Files → Type 0
+HasMoved r files = HasWritten r.store.forest files r.deltas (slot_of r.next) r.progress
+
 -- it adds this batch to these facts, which the files keep
 pub record IsRefreshOf (r : Begun) (facts batch : List Fact) (files : Files) : Type 0 where
   pub accepted : AreAccepted r.store.forest.schema facts
@@ -73,7 +86,14 @@ pub record IsNextStore (r : Begun) (store : Store) : Type 0 where
   pub names : store.dicts ≡ r.store.dicts
   pub whole : IsWhole store
 
--- the files are those on which the store was opened, and the gate of the next generation is there and is not 1
+-- the files are those on which the store was opened, the gate of the next generation is there and is not 1, and the moves made are written
 pub record IsReady (r : Begun) (disk : Disk) : Type 0 where
   pub opened : IsOpened r.store.forest.body disk
   pub shut : IsShut (slot_of r.next) (disk.files 0)
+  pub moved : HasMoved r disk.files
+
+-- so many moves are made of those that the batch takes: the new side begins with a page for each write among them, as the forest over all
+-- facts does
+pub record StandsAt (r : Begun) (facts batch : List Fact) (files : Files) : Type 0 where
+  pub within : r.progress.taken ≤ length (forest_moves r.store.forest.schema facts batch)
+  pub pages : take (4096 * written r.progress.taken (forest_moves r.store.forest.schema facts batch)) (files (2 + slot_of r.next)) ≡ bytes_after r.store.forest.schema facts batch r.progress.taken

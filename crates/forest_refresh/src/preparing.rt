@@ -11,7 +11,7 @@ ghost use Rattle.forest_root.specs.Body.{max_facts};
 ghost use Rattle.forest_store.specs.Held.{AreAccepted, HasNames, IsLive};
 ghost use Rattle.forest_store.specs.Stored.{IsStoreOf, IsWhole};
 ghost use Rattle.forest_refresh.specs.Back.{IsBack};
-ghost use Rattle.forest_refresh.specs.Begun.{IsBegun, IsRefreshOf};
+ghost use Rattle.forest_refresh.specs.Begun.{HasMoved, IsBegun, IsGoing, IsRefreshOf};
 ghost use Rattle.forest_refresh.specs.Limits.{IsBatchOf, TellsLimit};
 ghost use Rattle.forest_refresh.specs.Next.{AddsNames, AreCoded, next_body};
 ghost use Rattle.forest_refresh.specs.Prepared.{begun_with};
@@ -20,10 +20,12 @@ ghost use Rattle.forest_refresh.specs.Trees.{deltas_by};
 use crate::limits::{masses, names_len, total};
 use crate::room::{Room, take_room};
 use crate::stop::BeginStop;
+use crate::writing::start_trees;
 use attr_dict::Admitted;
 use delta_agg::{Deltas, deltas};
 use fact_batch::Batch;
 use fact_model::Text;
+use forest_commit::slot;
 use forest_root::{Body, Store};
 use std::alloc::Global;
 
@@ -36,7 +38,7 @@ pub(crate) struct Prepared {
     pub names: Text,
     /// The body of the next generation, without numbers of points.
     pub next: Body,
-    /// The memory.
+    /// The memory; the first tree is under way.
     pub room: Room,
 }
 
@@ -47,6 +49,9 @@ pub(crate) fn prepare(alloc: Global, store: &mut Store, facts: Batch) -> Result<
 
     ensures prepared { IfOk result (λ p. IsBegun (begun_with store.new p)) }
     ensures room { IfOk result (λ p. length p.deltas ≤ vec_capacity p.room.rows) }
+    ensures goes { IfOk result (λ p. IsGoing (begun_with store.new p)) }
+    ensures moved { (files : Files) → IfOk result (λ p. HasMoved (begun_with store.new p) files) }
+    ensures taken { IfOk result (λ p. p.room.taken ≡ 0) }
     ensures adds { (accepted : List declared.Fact) (files : Files) → IsStoreOf store.old accepted files
         → IfOk result (λ p. IsRefreshOf (begun_with store.new p) accepted facts files) }
     ensures points { IfOk result (λ p. p.deltas ≡ deltas_by (names_with store.old.dicts facts) store.old.forest.schema facts) }
@@ -89,6 +94,9 @@ fn prepare_with(
 
     ensures prepared { IfOk result (λ p. IsBegun (begun_with store.now p)) }
     ensures room { IfOk result (λ p. length p.deltas ≤ vec_capacity p.room.rows) }
+    ensures goes { IfOk result (λ p. IsGoing (begun_with store.now p)) }
+    ensures moved { (files : Files) → IfOk result (λ p. HasMoved (begun_with store.now p) files) }
+    ensures taken { IfOk result (λ p. p.room.taken ≡ 0) }
     ensures adds { (accepted : List declared.Fact) (files : Files) → AreAccepted store.now.forest.schema accepted
         → IsLive store.now.forest.schema store.now.forest.body accepted files
         → ((a : ℕ) → shown_names store.now.dicts store.now.shown.at a ≡ names_of accepted a)
@@ -110,11 +118,13 @@ fn prepare_with(
         admitted.coded,
         facts,
     )?;
-    let room = take_room(alloc, deltas.len())?;
+    let mut room = take_room(alloc, deltas.len())?;
+    let next = next_body(&forest.body, names_len, count, masses);
+    start_trees(forest, &deltas, slot(&next), &mut room);
     Ok(Prepared {
         deltas,
         names: admitted.names,
-        next: next_body(&forest.body, names_len, count, masses),
+        next,
         room,
     })
 }

@@ -1,5 +1,5 @@
 //! A refresh that has begun, and how it ends.
-ghost use Rattle.std.specs.Prelude.{◌≡◌, ◌≢◌, ◌<◌, ◌≤◌, ◌+◌, ◌++◌, ℕ, IsTrue, IfOk, IfErr, OnOk, List, length, slice_index, vec_capacity};
+ghost use Rattle.std.specs.Prelude.{◌≡◌, ◌≢◌, ◌<◌, ◌≤◌, ◌+◌, ◌-◌, ◌++◌, ℕ, IsTrue, IfOk, IfErr, OnOk, List, length, min, slice_index, vec_capacity};
 ghost use Rattle.site_core.specs.Disk.{Files};
 ghost use Rattle.site_core.specs.Causes.{HasCause};
 ghost use Rattle.site_core.specs.Moments.{HoldsNow, IsStable, LeavesOnly};
@@ -10,11 +10,14 @@ ghost use Rattle.site_core.specs.Causes.{HasCauseWhere};
 ghost use Rattle.site_core.specs.Frames.{Calls, CallsOnly};
 ghost use Rattle.forest_store.specs.Held.{IsLive, KeepsFacts};
 ghost use Rattle.forest_store.specs.Opened.{IsOpened};
-ghost use Rattle.forest_store.specs.Sides.{page_count, page_total};
+ghost use Rattle.forest_store.specs.Sides.{page_total};
 ghost use Rattle.forest_store.specs.Stored.{IsStoreOf, IsWhole};
 ghost use Rattle.forest_refresh.specs.Back.{BeginCause, IsBack, IsCut};
-ghost use Rattle.forest_refresh.specs.Begun.{IsBegun, IsNextStore, IsReady, IsRefreshOf};
+ghost use Rattle.forest_refresh.specs.Begun.{HasMoved, IsBegun, IsGoing, IsNextStore, IsReady, IsRefreshOf, StandsAt};
 ghost use Rattle.forest_refresh.specs.Limits.{IsBatchOf, TellsLimit};
+ghost use Rattle.forest_moves.specs.Forest.{forest_moves};
+ghost use Rattle.packing.specs.Moves.{KeepsTo};
+ghost use Rattle.merge_pack.specs.Standing.{moves_tried};
 ghost use Rattle.forest_refresh.specs.Prepared.{begun_with};
 ghost use Rattle.forest_refresh.specs.Refreshed.{IsNoDamage, KeepsEither, NamesPageIn};
 ghost use Rattle.forest_refresh.specs.Trees.{AreAllWhole, TellsFirstDamage, deltas_by};
@@ -23,7 +26,7 @@ use crate::committing::commit;
 use crate::preparing::{Prepared, prepare};
 use crate::room::Room;
 use crate::stop::{BeginFault, BeginStop, RefreshStop};
-use crate::writing::write_trees;
+use crate::writing::{advance, view_counts};
 use delta_agg::Deltas;
 use fact_batch::Batch;
 use fact_model::Text;
@@ -46,12 +49,13 @@ pub struct Refresh {
 impl Model for Refresh {
     ghost use Rattle.std.specs.Prelude.{◌≤◌, length, vec_capacity};
     ghost use Rattle.forest_refresh.specs.Begun.{Begun, IsBegun};
+    ghost use Rattle.forest_refresh.specs.Progress.{progress_of};
 
     ghost Value = { Begun };
 
-    ghost view = { λ r. record { store = r.store; deltas = r.deltas; entries = r.names; next = r.next } };
+    ghost view = { λ r. record { store = r.store; deltas = r.deltas; entries = r.names; next = r.next; progress = progress_of r.room } };
 
-    ghost invariant = { λ r. record { begun : IsBegun (record { store = r.store; deltas = r.deltas; entries = r.names; next = r.next }); room : length r.deltas ≤ vec_capacity r.room.rows } };
+    ghost invariant = { λ r. record { begun : IsBegun (record { store = r.store; deltas = r.deltas; entries = r.names; next = r.next; progress = progress_of r.room }); room : length r.deltas ≤ vec_capacity r.room.rows } };
 }
 
 impl Refresh {
@@ -80,6 +84,7 @@ impl Refresh {
             (told ≡ (T.disk site.old).told) × KeepsFacts store.forest.schema accepted files) }
 
         ensures ready { IsTrue T.tells → IfOk result (λ refresh. IsReady refresh (T.disk site.new)) }
+        ensures goes { IfOk result (λ refresh. IsGoing refresh × (refresh.progress.taken ≡ 0)) }
         ensures stable { IsTrue T.tells → OnOk result (IsStable (T.disk site.new)) }
         ensures points { IfOk result (λ refresh. refresh.deltas ≡ deltas_by (names_with store.dicts facts) store.forest.schema facts) }
         // The root file alone is written.
@@ -111,14 +116,68 @@ impl Refresh {
         self.next.facts
     }
 
-    /// Merges the old trees with the points of the batch, writes the new ones on the other side, and commits them. It takes no memory. The
-    /// answer is the store of all facts; after a stop the store is gone, and the files are to be opened again.
+    /// How many moves were made.
+    pub fn taken(&self) -> u64
+        ensures { result ≡ self.now.progress.taken }
+    {
+        self.room.taken
+    }
+
+    /// Makes so many moves, or all that are left where these are fewer; it answers how many. A move reads a page of an old tree, moves a point,
+    /// or writes a page of a new tree on the other side. It takes no memory. Between two moves slices are answered from the store that the
+    /// refresh lends, from pages that no move touches.
+    ///
+    /// A stop at any moment leaves the facts without the batch. After an error the files are to be opened again; `Damaged` names the page
+    /// that `finish` would name.
+    pub fn step<T: Site>(&mut self, site: &mut T, moves: u64) -> Result<u64, RefreshStop>
+        requires goes { IsGoing self.old }
+        requires ready { IsTrue T.tells → IsReady self.old (T.disk site.old) }
+
+        ensures stands { IsTrue T.tells → (accepted batch : List declared.Fact) → IsRefreshOf self.old accepted batch (T.disk site.old).files
+            → IfOk result (λ made. StandsAt self.new accepted batch (T.disk site.new).files
+            × (made ≡ min moves (length (forest_moves self.old.store.forest.schema accepted batch) - self.old.progress.taken))) }
+        ensures taken { IfOk result (λ made. self.new.progress.taken ≡ self.old.progress.taken + made) }
+        ensures same { self.new ≡ record self.old { progress = self.new.progress } }
+        ensures live { IsTrue T.tells → (accepted batch : List declared.Fact) → HoldsNow (IsRefreshOf self.old accepted batch) (T.disk site.old)
+            → HoldsNow (IsRefreshOf self.new accepted batch) (T.disk site.new) }
+        ensures any_moment { IsTrue T.tells → (accepted batch : List declared.Fact) → HoldsNow (IsRefreshOf self.old accepted batch) (T.disk site.old)
+            → LeavesOnly (T.disk site.old) (T.disk site.new) (λ told files.
+            (told ≡ (T.disk site.old).told) × KeepsFacts self.old.store.forest.schema accepted files) }
+        ensures undamaged { IsTrue T.tells → (accepted batch : List declared.Fact) → IsRefreshOf self.old accepted batch (T.disk site.old).files
+            → IfErr result IsNoDamage }
+        ensures cost { IsTrue T.tells → (accepted batch : List declared.Fact) → IsRefreshOf self.old accepted batch (T.disk site.old).files
+            → KeepsTo (forest_moves self.old.store.forest.schema accepted batch) self.old.progress.taken (self.old.progress.taken + moves_tried moves result)
+            (T.reads site.old, T.writes site.old) (T.reads site.new, T.writes site.new) }
+
+        // Whatever the files hold.
+        ensures goes { OnOk result (IsGoing self.new) }
+        ensures ready { IsTrue T.tells → OnOk result (IsReady self.new (T.disk site.new)) }
+        ensures damaged { IsTrue T.tells → IfErr result (TellsFirstDamage self.old.store.forest (T.disk site.old).files self.old.deltas) }
+        ensures place { IfErr result (NamesPageIn self.old.store.forest.body self.old.store.forest.schema) }
+        ensures told { IsTrue T.tells → (T.disk site.new).told ≡ (T.disk site.old).told }
+        ensures calls { Calls T.Site (HasCauseWhere RefreshStop.Disk) (page_total self.old.store.forest.body self.old.store.forest.schema) site.old site.new result }
+    {
+        let store = &self.store;
+        let side = slot(&self.next);
+        advance(
+            site,
+            &store.forest,
+            &self.deltas,
+            side,
+            moves,
+            &mut self.room,
+        )
+    }
+
+    /// Makes the moves that are left, and commits the new trees. It takes no memory. The answer is the store of all facts; after a stop the
+    /// store is gone, and the files are to be opened again.
     ///
     /// A stop at any moment leaves the facts without the batch or all of them. `Damaged` comes exactly where a tree of the live side is
     /// damaged, unless a file fails before. It names the first page that does not fit: it is short, not lawful, out of order, or has a cell
     /// that does not join with that of the batch; or the tree's first page, where all fit, but hold other numbers of points than the body
     /// counts.
     pub fn finish<T: Site>(self, site: &mut T) -> Result<Store, RefreshStop>
+        requires goes { IsGoing self }
         requires ready { IsTrue T.tells → IsReady self (T.disk site.old) }
 
         ensures finished { IsTrue T.tells → (accepted batch : List declared.Fact) → HoldsNow (IsRefreshOf self accepted batch) (T.disk site.old)
@@ -128,8 +187,9 @@ impl Refresh {
         ensures any_moment { IsTrue T.tells → (accepted batch : List declared.Fact) → HoldsNow (IsRefreshOf self accepted batch) (T.disk site.old)
             → LeavesOnly (T.disk site.old) (T.disk site.new) (λ told files.
             (told ≡ (T.disk site.old).told) × KeepsEither self.store.forest.schema accepted (accepted ++ batch) files) }
-        ensures writes { IsTrue T.tells → (accepted batch : List declared.Fact) → IsRefreshOf self accepted batch (T.disk site.old).files
-            → T.writes site.new ≤ T.writes site.old + (page_count self.store.forest.schema (accepted ++ batch) + 3) }
+        ensures cost { IsTrue T.tells → (accepted batch : List declared.Fact) → IsRefreshOf self accepted batch (T.disk site.old).files
+            → KeepsTo (forest_moves self.store.forest.schema accepted batch) self.progress.taken (length (forest_moves self.store.forest.schema accepted batch))
+            (T.reads site.old, T.writes site.old + 3) (T.reads site.new, T.writes site.new) }
 
         // Whatever the files hold.
         ensures joined { IsTrue T.tells → OnOk result (AreAllWhole self.store.forest (T.disk site.old).files self.deltas) }
@@ -148,7 +208,15 @@ impl Refresh {
             next,
             mut room,
         } = self;
-        let counts = write_trees(site, &store.forest, &deltas, slot(&next), &mut room)?;
+        advance(
+            site,
+            &store.forest,
+            &deltas,
+            slot(&next),
+            u64::MAX,
+            &mut room,
+        )?;
+        let counts = view_counts(&store.forest, &room.rows);
         let next = Body { counts, ..next };
         match commit(site, store, &names, next) {
             Ok(store) => Ok(store),
@@ -173,6 +241,7 @@ fn shut_gate<T: Site>(site: &mut T, store: Store, prepared: Prepared) -> Result<
     requires begun { IsBegun (begun_with store prepared) }
     requires room { length prepared.deltas ≤ vec_capacity prepared.room.rows }
     requires opened { IsTrue T.tells → IsOpened store.forest.body (T.disk site.old) }
+    requires moved { (files : Files) → HasMoved (begun_with store prepared) files }
 
     ensures begun { IfOk result (λ refresh. refresh ≡ begun_with store prepared) }
     ensures live { IsTrue T.tells → (accepted : List declared.Fact) → IsLive store.forest.schema store.forest.body accepted (T.disk site.old).files

@@ -1,123 +1,210 @@
-//! The new trees are written on the other side, tree after tree: each is the old one merged with the points of a batch.
-ghost use Rattle.std.specs.Prelude.{◌≡◌, ◌≢◌, ◌<◌, ◌≤◌, ◌+◌, ◌*◌, ◌/◌, ◌++◌, ℕ, IsTrue, IfOk, IfErr, OnOk, List, length, vec_capacity, vec_len};
+//! The new trees are written on the other side, tree after tree and move by move: each is the old one merged with the points of a batch.
+ghost use Rattle.std.specs.Prelude.{◌≡◌, ◌≢◌, ◌<◌, ◌≤◌, ◌+◌, ◌*◌, ◌^◌, ◌++◌, ℕ, IsTrue, IfOk, IfErr, OnOk, List, [], get_or, length, take, vec_capacity};
 ghost use Rattle.site_core.specs.Calls.{Changes};
+ghost use Rattle.site_core.specs.Disk.{DiffersPast, Files};
+ghost use Rattle.site_core.specs.Causes.{HasCauseWhere};
 ghost use Rattle.site_core.specs.Frames.{Calls};
 ghost use Rattle.fact_model.specs.declared.fact.Fact as facts;
-ghost use Rattle.select_map.specs.Selection.{tree_of};
+ghost use Rattle.packing.specs.Moves.{KeepsTo};
+ghost use Rattle.merge_pack.specs.Building.{IsBuilt, IsCounted};
+ghost use Rattle.merge_pack.specs.Standing.{HasEnded, moves_tried};
 ghost use Rattle.forest_root.specs.Body.{max_facts};
-ghost use Rattle.site_core.specs.Causes.{HasCauseWhere};
 ghost use Rattle.forest_root.specs.Forest.{place_of};
-ghost use Rattle.site_core.specs.Disk.{DiffersPast};
 ghost use Rattle.forest_commit.specs.Commit.{page_size, slot_of};
-ghost use Rattle.forest_pages.specs.Forest.{tree_bytes};
-ghost use Rattle.forest_store.specs.Sides.{page_count, page_total};
-ghost use Rattle.forest_refresh.specs.Additions.{AreWritten, HasRow, IsAddition, IsAdditionAt, IsWritten};
-ghost use Rattle.forest_refresh.specs.Next.{HasNumbers, counts_from};
-ghost use Rattle.forest_refresh.specs.Pages.{BeginsAt, EndsBefore, front_pages, max_tree_pages};
-ghost use Rattle.forest_refresh.specs.Refreshed.{IsNoDamage, NamesPageIn};
-ghost use Rattle.forest_refresh.specs.Trees.{AreAdded, AreAllAdded, AreAllWhole, IsWholeFor, NamesPageOf, TellsDamageFor, TellsFirstDamage};
+ghost use Rattle.forest_moves.specs.Forest.{forest_moves};
+ghost use Rattle.forest_store.specs.Sides.{page_total};
+ghost use Rattle.forest_refresh.specs.Additions.{IsAddition};
+ghost use Rattle.forest_refresh.specs.Next.{counts_from};
+ghost use Rattle.forest_refresh.specs.Progress.{AreFew, AreMerged, GoesOn, HasWritten, IsUnderWay, max_tree_moves, max_tree_pages, progress_of};
+ghost use Rattle.forest_refresh.specs.Refreshed.{NamesPageIn};
+ghost use Rattle.forest_refresh.specs.Trees.{AreAllAdded, NamesPageOf, TellsDamageFor, TellsFirstDamage};
 
 use crate::damage::{bad_page, stop_at};
 use crate::room::Room;
 use crate::stop::RefreshStop;
-use delta_agg::{Deltas, Points};
+use delta_agg::Deltas;
 use fact_model::put;
 use forest_root::Forest;
 use page_fmt::ARITIES;
 use site_core::Site;
 
-/// Merges each old tree with the points of a batch, and writes the new trees to the side of this slot, which is not the live one, one after
-/// another from its front on. It takes no memory. The answer is the number of points of each view, 0 past the views.
-pub(crate) fn write_trees<T: Site>(
+/// Makes so many moves of the refresh, or all that are left where these are fewer; it answers how many. Each old tree is merged with the points
+/// of a batch, and the new trees are written to the side of this slot, which is not the live one, one after another from its front on. It
+/// takes no memory.
+///
+/// `Damaged` names the first page of the first old tree that does not fit, and the tree's first page where all fit, but hold other numbers of
+/// points than the body counts.
+pub(crate) fn advance<T: Site>(
     site: &mut T,
     forest: &Forest,
     deltas: &Deltas,
     slot: u32,
+    limit: u64,
     room: &mut Room,
-) -> Result<[u64; 32], RefreshStop>
+) -> Result<u64, RefreshStop>
     requires slot { slot < 2 }
     requires other { slot ≢ slot_of forest.now.body }
     requires lists { length deltas.now ≡ length forest.now.mapping.trees }
-    requires added { (most : ℕ) × AreAllAdded forest.now most deltas.now × (forest.now.body.facts + most ≤ max_facts) }
     requires room { length deltas.now ≤ vec_capacity room.old.rows }
+    requires goes { (most : ℕ) × AreAllAdded forest.now most deltas.now × (forest.now.body.facts + most ≤ max_facts) × GoesOn forest.now deltas.now slot most (progress_of room.old) }
+    requires written { IsTrue T.tells → HasWritten forest.now (T.disk site.old).files deltas.now slot (progress_of room.old) }
 
-    ensures written { IsTrue T.tells → (accepted batch : List facts.Fact) → IsAddition forest.now (T.disk site.old).files deltas.now accepted batch
-        → IfOk result (AreWritten forest.now.schema (accepted ++ batch) ((T.disk site.new).files (2 + slot))) }
-    ensures undamaged { IsTrue T.tells → (accepted batch : List facts.Fact) → IsAddition forest.now (T.disk site.old).files deltas.now accepted batch
-        → IfErr result IsNoDamage }
-    ensures writes { IsTrue T.tells → (accepted batch : List facts.Fact) → IsAddition forest.now (T.disk site.old).files deltas.now accepted batch
-        → T.writes site.new ≤ T.writes site.old + page_count forest.now.schema (accepted ++ batch) }
+    ensures goes { (most : ℕ) → AreAllAdded forest.now most deltas.now → forest.now.body.facts + most ≤ max_facts → GoesOn forest.now deltas.now slot most (progress_of room.old)
+        → OnOk result (GoesOn forest.now deltas.now slot most (progress_of room.new)) }
+    ensures written { IsTrue T.tells → OnOk result (HasWritten forest.now (T.disk site.new).files deltas.now slot (progress_of room.new)) }
+    ensures limit { IfOk result (λ made. (made ≤ limit) × (made < limit → length room.new.rows.items ≡ length forest.now.mapping.trees)) }
+    ensures taken { IfOk result (λ made. room.new.taken ≡ room.old.taken + made) }
+    ensures cost { IsTrue T.tells → (accepted batch : List facts.Fact) → IsAddition forest.now (T.disk site.old).files deltas.now accepted batch
+        → KeepsTo (forest_moves forest.now.schema accepted batch) room.old.taken (room.old.taken + moves_tried limit result)
+        (T.reads site.old, T.writes site.old) (T.reads site.new, T.writes site.new) }
 
-    // Whatever the files hold: of no view more points than there are facts; or where the first tree is damaged.
-    ensures few { (most : ℕ) → AreAllAdded forest.now most deltas.now
-        → IfOk result (HasNumbers (length forest.now.schema.views) (forest.now.body.facts + most)) }
-    ensures joined { IsTrue T.tells → OnOk result (AreAllWhole forest.now (T.disk site.old).files deltas.now) }
+    // Whatever the files hold.
     ensures damaged { IsTrue T.tells → IfErr result (TellsFirstDamage forest.now (T.disk site.old).files deltas.now) }
     ensures place { IfErr result (NamesPageIn forest.now.body forest.now.schema) }
+    ensures room { vec_capacity room.old.rows ≤ vec_capacity room.new.rows }
     ensures disk { IsTrue T.tells → Changes (DiffersPast (2 + slot) 0) (T.disk site.old) (T.disk site.new) }
     ensures calls { Calls T.Site (HasCauseWhere RefreshStop.Disk) (page_total forest.now.body forest.now.schema) site.old site.new result }
 {
-    room.rows.clear();
-    let mut first = 0;
-    for tree in 0..deltas.len() {
-        let delta = deltas.tree(tree);
-        first = add_tree(site, forest, tree as u32, &delta, slot, first, room)?;
+    let mut made = 0;
+    for tree in room.rows.len()..deltas.len() {
+        made += merge_on(site, forest, deltas, tree as u32, limit - made, room)?;
+        if made == limit {
+            return Ok(limit);
+        }
+        end_tree(forest, deltas, tree as u32, slot, room)?;
     }
-    Ok(view_counts(forest, &room.rows))
+    Ok(made)
 }
 
-/// Adds one tree to those that stand on the side, and its numbers of points to theirs. Its first page has this number; the answer is the
-/// number behind the last.
-///
-/// `Damaged` names the first page of the old tree that does not fit, and its first page where all fit, but hold other numbers of points
-/// than the body counts.
-fn add_tree<T: Site>(
+/// Makes so many moves of the tree that is under way, or all that are left of it where these are fewer; it answers how many.
+fn merge_on<T: Site>(
     site: &mut T,
     forest: &Forest,
+    deltas: &Deltas,
     tree: u32,
-    delta: &Points<'_>,
-    slot: u32,
-    first: u64,
+    limit: u64,
     room: &mut Room,
 ) -> Result<u64, RefreshStop>
-    requires tree { tree < length forest.now.mapping.trees }
-    requires added { (most : ℕ) × AreAdded (place_of forest.now tree).shape most delta.now × (forest.now.body.facts + most ≤ max_facts) }
-    requires room { vec_len room.old.rows < vec_capacity room.old.rows }
-    requires first { BeginsAt T.Site forest.now.body slot first max_tree_pages site.old }
+    requires tree { tree ≡ length room.old.rows.items }
+    requires below { tree < length forest.now.mapping.trees }
+    requires lists { length deltas.now ≡ length forest.now.mapping.trees }
+    requires way { (slot : ℕ) × (slot < 2) × IsUnderWay forest.now deltas.now slot (progress_of room.old) }
+    requires reach { IsTrue T.tells → page_size * room.old.merge.at.next_page ≤ length ((T.disk site.old).files room.old.merge.file) }
 
-    ensures written { IsTrue T.tells → (accepted batch : List facts.Fact) → IsAdditionAt forest.now (T.disk site.old).files tree delta.now accepted batch
-        → IfOk result (λ next. IsWritten forest.now.schema (accepted ++ batch) (tree_of forest.now.mapping tree) first room.new.merge.new_counts
-        (front_pages (T.disk site.old).files slot first) (front_pages (T.disk site.new).files slot next)) }
-    ensures writes { IsTrue T.tells → (accepted batch : List facts.Fact) → IsAdditionAt forest.now (T.disk site.old).files tree delta.now accepted batch
-        → T.writes site.new ≤ T.writes site.old + length (tree_bytes forest.now.schema (accepted ++ batch) first (tree_of forest.now.mapping tree)) / 4096 }
-    ensures undamaged { IsTrue T.tells → (accepted batch : List facts.Fact) → IsAdditionAt forest.now (T.disk site.old).files tree delta.now accepted batch
-        → IfErr result IsNoDamage }
+    ensures way { (slot : ℕ) → IsUnderWay forest.now deltas.now slot (progress_of room.old) → OnOk result (IsUnderWay forest.now deltas.now slot (progress_of room.new)) }
+    ensures written { IsTrue T.tells → (slot : ℕ) → IsUnderWay forest.now deltas.now slot (progress_of room.old) → HasWritten forest.now (T.disk site.old).files deltas.now slot (progress_of room.old)
+        → OnOk result (HasWritten forest.now (T.disk site.new).files deltas.now slot (progress_of room.new)) }
+    ensures limit { IfOk result (λ made. (made ≤ limit) × (made < limit → HasEnded room.new.merge (get_or deltas.now tree []))) }
+    ensures taken { IfOk result (λ made. room.new.taken ≡ room.old.taken + made) }
+    ensures rows { room.new.rows ≡ room.old.rows }
+    ensures cost { IsTrue T.tells → (accepted batch : List facts.Fact) → IsAddition forest.now (T.disk site.old).files deltas.now accepted batch
+        → (slot : ℕ) → IsUnderWay forest.now deltas.now slot (progress_of room.old) → HasWritten forest.now (T.disk site.old).files deltas.now slot (progress_of room.old)
+        → KeepsTo (forest_moves forest.now.schema accepted batch) room.old.taken (room.old.taken + moves_tried limit result)
+        (T.reads site.old, T.writes site.old) (T.reads site.new, T.writes site.new) }
 
     // Whatever the files hold.
-    ensures joined { IsTrue T.tells → OnOk result (IsWholeFor forest.now (T.disk site.old).files tree delta.now) }
-    ensures damaged { IsTrue T.tells → IfErr result (TellsDamageFor forest.now (T.disk site.old).files tree delta.now) }
+    ensures damaged { IsTrue T.tells → (slot : ℕ) → IsUnderWay forest.now deltas.now slot (progress_of room.old) → HasWritten forest.now (T.disk site.old).files deltas.now slot (progress_of room.old)
+        → IfErr result (TellsDamageFor forest.now (T.disk site.old).files tree (get_or deltas.now tree [])) }
     ensures names { IfErr result (NamesPageOf (place_of forest.now tree)) }
-    ensures row { OnOk result (HasRow forest.now tree delta.now room.old room.new) }
-    ensures next { IfOk result (λ next. EndsBefore T.Site slot first max_tree_pages next site.old site.new) }
-    ensures room { vec_capacity room.old.rows ≤ vec_capacity room.new.rows }
-    ensures disk { IsTrue T.tells → Changes (DiffersPast (2 + slot) (page_size * first)) (T.disk site.old) (T.disk site.new) }
+    ensures disk { IsTrue T.tells → Changes (DiffersPast room.old.merge.file 0) (T.disk site.old) (T.disk site.new) }
     ensures calls { Calls T.Site (HasCauseWhere RefreshStop.Disk) ((place_of forest.now tree).pages) site.old site.new result }
 {
     let place = forest.place(tree);
-    match room.merge.merge_tree(&place, delta, 2 + slot, first, site) {
-        Ok(next) => {
-            if room.merge.old_counts() != forest.counts_at(tree) {
-                return Err(bad_page(&place, place.first));
-            }
-            put(&mut room.rows, room.merge.new_counts());
-            Ok(next)
+    let delta = deltas.tree(tree as usize);
+    match room.merge.run(&delta, limit, site) {
+        Ok(made) => {
+            room.taken += made;
+            Ok(made)
         }
         Err(stop) => Err(stop_at(&place, stop)),
     }
 }
 
+/// Ends the tree that is under way, of which no move is left, and begins the next one, if there is one, behind its last page.
+///
+/// `Damaged` names the old tree's first page, where it holds other numbers of points than the body counts.
+fn end_tree(
+    forest: &Forest,
+    deltas: &Deltas,
+    tree: u32,
+    slot: u32,
+    room: &mut Room,
+) -> Result<(), RefreshStop>
+    requires slot { slot < 2 }
+    requires other { slot ≢ slot_of forest.now.body }
+    requires tree { tree ≡ length room.old.rows.items }
+    requires below { tree < length forest.now.mapping.trees }
+    requires lists { length deltas.now ≡ length forest.now.mapping.trees }
+    requires room { length deltas.now ≤ vec_capacity room.old.rows }
+    requires way { IsUnderWay forest.now deltas.now slot (progress_of room.old) }
+    requires added { (most : ℕ) × AreAllAdded forest.now most deltas.now × (forest.now.body.facts + most ≤ max_facts) }
+
+    ensures goes { (most : ℕ) → AreAllAdded forest.now most deltas.now → forest.now.body.facts + most ≤ max_facts → GoesOn forest.now deltas.now slot most (progress_of room.old)
+        → OnOk result (GoesOn forest.now deltas.now slot most (progress_of room.new)) }
+    ensures written { (files : Files) → HasEnded room.old.merge (get_or deltas.now tree []) → HasWritten forest.now files deltas.now slot (progress_of room.old)
+        → OnOk result (HasWritten forest.now files deltas.now slot (progress_of room.new)) }
+    ensures damaged { (files : Files) → HasEnded room.old.merge (get_or deltas.now tree []) → HasWritten forest.now files deltas.now slot (progress_of room.old)
+        → IfErr result (TellsDamageFor forest.now files tree (get_or deltas.now tree [])) }
+    ensures names { IfErr result (NamesPageOf (place_of forest.now tree)) }
+    ensures no_fault { IfErr result (λ stop. stop ≢ RefreshStop.Disk) }
+    ensures rows { OnOk result (length room.new.rows.items ≡ tree + 1) }
+    ensures taken { room.new.taken ≡ room.old.taken }
+    ensures room { vec_capacity room.old.rows ≤ vec_capacity room.new.rows }
+{
+    let place = forest.place(tree);
+    if room.merge.old_counts() != forest.counts_at(tree) {
+        return Err(bad_page(&place, place.first));
+    }
+    let next = room.merge.next_page();
+    put(&mut room.rows, room.merge.new_counts());
+    start_tree(forest, deltas, slot, next, room);
+    Ok(())
+}
+
+/// Sets out to merge all trees, from the front of the side of this slot on.
+pub(crate) fn start_trees(forest: &Forest, deltas: &Deltas, slot: u32, room: &mut Room)
+    requires slot { slot < 2 }
+    requires other { slot ≢ slot_of forest.now.body }
+    requires lists { length deltas.now ≡ length forest.now.mapping.trees }
+    requires added { (most : ℕ) × AreAllAdded forest.now most deltas.now × (forest.now.body.facts + most ≤ max_facts) }
+    requires rows { room.old.rows.items ≡ [] }
+    requires taken { room.old.taken ≡ 0 }
+
+    ensures goes { (most : ℕ) → AreAllAdded forest.now most deltas.now → forest.now.body.facts + most ≤ max_facts → GoesOn forest.now deltas.now slot most (progress_of room.new) }
+    ensures written { (files : Files) → HasWritten forest.now files deltas.now slot (progress_of room.new) }
+    ensures taken { room.new.taken ≡ 0 }
+    ensures rows { room.new.rows ≡ room.old.rows }
+{
+    start_tree(forest, deltas, slot, 0, room);
+}
+
+/// Begins to merge the tree behind those that are done, if there is one, from this page of the side on.
+fn start_tree(forest: &Forest, deltas: &Deltas, slot: u32, first: u64, room: &mut Room)
+    requires slot { slot < 2 }
+    requires other { slot ≢ slot_of forest.now.body }
+    requires lists { length deltas.now ≡ length forest.now.mapping.trees }
+    requires added { (most : ℕ) × AreAllAdded forest.now most deltas.now × (forest.now.body.facts + most ≤ max_facts) }
+    requires trees { length room.old.rows.items ≤ length forest.now.mapping.trees }
+    requires low { first ≤ max_tree_pages * length room.old.rows.items }
+    requires taken { room.old.taken ≤ max_tree_moves * length room.old.rows.items }
+
+    ensures goes { (most : ℕ) → AreAllAdded forest.now most deltas.now → forest.now.body.facts + most ≤ max_facts
+        → AreFew (forest.now.body.facts + most) (length room.old.rows.items) room.old.rows.items → GoesOn forest.now deltas.now slot most (progress_of room.new) }
+    ensures written { (files : Files) (bytes : List ℕ) → AreMerged forest.now files deltas.now (length room.old.rows.items) room.old.taken first room.old.rows.items bytes
+        → take (page_size * first) (files (2 + slot)) ≡ bytes → page_size * first ≤ length (files (2 + slot))
+        → HasWritten forest.now files deltas.now slot (progress_of room.new) }
+    ensures taken { room.new.taken ≡ room.old.taken }
+    ensures rows { room.new.rows ≡ room.old.rows }
+{
+    let tree = room.rows.len();
+    if tree < deltas.len() {
+        let place = forest.place(tree as u32);
+        room.merge.start(&place, 2 + slot, first);
+    }
+}
+
 /// The number of points of each view, of which each tree has so many by arity.
-fn view_counts(forest: &Forest, by_tree: &[[u64; ARITIES]]) -> [u64; 32]
+pub(crate) fn view_counts(forest: &Forest, by_tree: &[[u64; ARITIES]]) -> [u64; 32]
     requires { length by_tree.now ≡ length forest.now.mapping.trees }
     ensures { result ≡ counts_from forest.now.schema.views by_tree.now }
 {

@@ -5,6 +5,7 @@ use Rattle.site_core.specs.Disk.{overwritten}
 use Rattle.cube_point.specs.declared.point.Entry.{Entry}
 use Rattle.cube_point.specs.declared.point.Shape.{Shape}
 use Rattle.packing.specs.Leaves.{leaf_ends}
+use Rattle.packing.specs.Moves.{Read}
 use Rattle.packing.specs.Levels.{children_at, full_level, rest_level}
 use Rattle.packing.specs.Tree.{Inner}
 use Rattle.page_fmt.specs.declared.page.TheConstants.{PAGE}
@@ -15,27 +16,28 @@ use Rattle.std.proofs.lemmas.Bool.{cases_lt}
 use Rattle.std.specs.Prelude.{slice_index}
 use Rattle.delta_agg.specs.Joins.{AllJoin, merged_entries}
 use Rattle.delta_agg.proofs.Merging.{no-meeting_new}
-use Rattle.tree_pack.specs.Packing.{AreTreeViews}
 use Rattle.tree_pack.specs.Moving.{Moving, with_inner}
-use Rattle.tree_pack.specs.Pages.{PointPage, Views, count_of, page_bytes, pages_of}
-use Rattle.tree_scan.specs.Scanning.{entries_of, leaf_entries}
+use Rattle.tree_pack.specs.Pages.{PointPage, count_of, page_bytes}
+use Rattle.tree_scan.specs.Scanning.{entries_of, leaf_entries, pages_in}
 use Rattle.page_fmt.specs.InFiles.{page_at}
 use Rattle.tree_scan.specs.Streaming.{HasTaken, IsScanning, Scanned, after_page}
 use Rattle.tree_scan.proofs.Extending.{entries-split}
 use Rattle.tree_scan.proofs.Streaming.{scanning-reads, scanning-stops}
 use Rattle.merge_pack.specs.declared.side.Advance.{Advance}
 use Rattle.merge_pack.specs.declared.side.Advance.TheVariants as advances
-use Rattle.merge_pack.specs.Merging.{Goes, IsMerging, KeepsOn, Merger, Merging, closes_full, closes_last, closes_leaf, closes_rest, is_done, lowest_due, merging_of, moved_on, moves_point, needs_page, old_after, page_of, turns_leaf}
+use Rattle.merge_pack.specs.Merging.{Goes, IsMerging, KeepsOn, Merger, Merging, closes_full, closes_last, closes_leaf, closes_rest, is_done, lowest_due, made_by, merging_of, moved_on, moves_point, needs_page, old_after, page_of, turns_leaf}
 use Rattle.merge_pack.specs.Safe.{IsSafe}
 use Rattle.merge_pack.specs.Stepping.{HasStopped, Steps, in_memory, pages_made, reads}
 use Rattle.tree_scan.specs.declared.stop.ScanStop.{ScanStop}
 use Rattle.tree_scan.specs.declared.stop.ScanStop.TheVariants as stops
 use Rattle.merge_pack.proofs.Joining.{goes-joins, joins-all, joins-apart}
-use Rattle.merge_pack.specs.Building.{AreCounted, AreJoining, IsBuilding, IsBuilt, IsCounted, IsDamaged, IsFirstApart, JoinsSoFar, made_by}
+use Rattle.merge_pack.specs.Between.{Makes, word_of}
+use Rattle.merge_pack.specs.Building.{AreCounted, AreJoining, IsBuilding, IsBuilt, IsCounted, IsDamaged, IsFirstApart, JoinsSoFar}
 use Rattle.merge_pack.proofs.Counting.{counts-all, goes-counted}
+use Rattle.merge_pack.proofs.Made.{made-memory, made-read, pages-many, pages-next}
 use Rattle.merge_pack.proofs.Going.{ended, ends-full, ends-last, ends-turn, merge-begins, next-arity, turns-other}
 use Rattle.merge_pack.proofs.Safety.{goes-next, goes-page, goes-shape, number-less, safe-may}
-use Rattle.merge_pack.proofs.Steps.{Points, full-merges, leaf-merges, merged-all, merged-front, point-merges, read-merges, rest-merges}
+use Rattle.merge_pack.proofs.Steps.{Points, full-merges, leaf-merges, merged-all, point-merges, read-merges, rest-merges}
 use Rattle.merge_pack.specs.Merging.{IsApart, turns_at}
 
 -- ---- which page a move makes
@@ -133,7 +135,7 @@ next-more shape bytes next more =
 scan-held : (bytes : List ℕ) (old_first total : ℕ) (v : Scanned) (held : List Entry) → IsScanning bytes old_first total v → IsScanning bytes old_first total (record v { held = held })
 scan-held bytes old_first total v held is = record { from = is.from; all = is.all; so_far = is.so_far }
 
-module _ (bytes : List ℕ) (old_first total first : ℕ) (new : List Entry) (front side : List ℕ) (v : Merger) (safe : IsSafe v new) (is : IsBuilding bytes old_first total first new front side v) where
+module _ (bytes : List ℕ) (old_first total first : ℕ) (new : List Entry) (front side : List ℕ) (count : ℕ) (v : Merger) (safe : IsSafe v new) (is : IsBuilding bytes old_first total first new front side count v) where
   abbrev old : List Entry
   old = entries_of v.scan.shape bytes old_first total
 
@@ -155,16 +157,31 @@ module _ (bytes : List ℕ) (old_first total first : ℕ) (new : List Entry) (fr
         (λ none. none-unread v.scan.shape bytes v.scan.next more (omega (arith, none, few))) held-points delta-points (is.joins.left pages more few here) (merging_of w new) a goes;
   }
 
-  builds-in_memory : (w : Merger) (a : Advance) → Goes v.scan.left (merging_of v new) a (merging_of w new) → KeepsOn a new v w → PAGE * v.at.next_page ≤ length side → length (page_of a v.at) ≡ 4096 * pages_made a
-      → IsBuilding bytes old_first total first new front (side_after a v.at.next_page (page_of a v.at) side) w
-  builds-in_memory w a goes keeps reach long =
+  abbrev old_pages : List (List Entry)
+  old_pages = pages_in v.scan.shape bytes old_first total
+
+  abbrev unread_pages : List (List Entry)
+  unread_pages = pages_in v.scan.shape bytes v.scan.next v.scan.left
+
+  -- a move is counted by the unread pages
+  goes-by-pages : (a : Advance) (n : Merging) → Goes v.scan.left (merging_of v new) a n → Goes (length unread_pages) (merging_of v new) a n
+  goes-by-pages a n goes = subst (λ (left : ℕ). Goes left (merging_of v new) a n) (sym (pages-many v.scan.shape bytes v.scan.next v.scan.left)) goes
+
+  builds-in_memory : (w : Merger) (a : Advance) → (a ≡ advances.Page → ⊥) → Goes v.scan.left (merging_of v new) a (merging_of w new) → KeepsOn a new v w → PAGE * v.at.next_page ≤ length side
+      → length (page_of a v.at) ≡ 4096 * pages_made a
+      → IsBuilding bytes old_first total first new front (side_after a v.at.next_page (page_of a v.at) side) (count + length (word_of a)) w
+  builds-in_memory w a not goes keeps reach long =
       let makes = goes-makes first old new is.pages unread v.scan.left (merging_of v new) is.merging (none-unread v.scan.shape bytes v.scan.next v.scan.left) held-points delta-points (merging_of w new) a goes in
       let shape = goes-shape v.scan.left (merging_of v new) (merging_of w new) a goes in
       let next = goes-next v.scan.left (merging_of v new) (merging_of w new) a goes in
       let now = side_after a v.at.next_page (page_of a v.at) side in
       record {
         scanning = subst (IsScanning bytes old_first total) (sym keeps.scan) (scan-held bytes old_first total v.scan w.scan.held is.scanning);
+        made = is.made ++ word_of a;
+        long = omega (arith, length-append is.made (word_of a), is.long);
         pages = is.pages ++ made_by a v.at;
+        makes = subst (λ (s : Scanned). Makes s.shape first (pages_in s.shape bytes old_first total) new (is.made ++ word_of a) (is.pages ++ made_by a v.at) (pages_in s.shape bytes s.next s.left) (merging_of w new)) (sym keeps.scan)
+            (made-memory v.scan.shape first old_pages new is.made is.pages unread_pages (merging_of v new) (merging_of w new) a not is.makes (goes-by-pages a (merging_of w new) goes));
         number = omega (arith, next, is.number, length-append is.pages (made_by a v.at), many-made a v.at);
         joins = subst (λ (s : Scanned). JoinsSoFar bytes old_first new s (drop w.taken new)) (sym keeps.scan) (joins-on w a goes);
         counted = subst (λ (s : Scanned). AreCounted (entries_of s.shape bytes old_first total) new (entries_of s.shape bytes s.next s.left) w.scan.held (drop w.taken new) w.old_counts w.new_counts) (sym keeps.scan)
@@ -182,7 +199,7 @@ module _ (bytes : List ℕ) (old_first total first : ℕ) (new : List Entry) (fr
       }
 
   builds-read : (w : Merger) → Goes v.scan.left (merging_of v new) advances.Page (merging_of v new) → HasTaken true bytes v.scan w.scan → drop w.taken new ≡ drop v.taken new → w.at ≡ v.at
-      → w.old_counts ≡ v.old_counts → w.new_counts ≡ v.new_counts → IsBuilding bytes old_first total first new front side w
+      → w.old_counts ≡ v.old_counts → w.new_counts ≡ v.new_counts → IsBuilding bytes old_first total first new front side (count + 1) w
   builds-read w goes has taken at olds news =
       let page = goes-page v.scan.left (merging_of v new) (merging_of v new) advances.Page goes refl in
       let es = leaf_entries v.scan.shape has.page in
@@ -190,12 +207,21 @@ module _ (bytes : List ℕ) (old_first total first : ℕ) (new : List Entry) (fr
       let more = entries_of v.scan.shape bytes (v.scan.next + 1) (v.scan.left - 1) in
       let split : unread ≡ es ++ more = next-unread v.scan.shape bytes v.scan.next v.scan.left page.1 ∙ ap (λ (l : List Entry). l ++ more) (sym there) in
       let all : v.scan.held ++ unread ≡ es ++ more = (λ i. page.0 i ++ unread) ∙ split in
+      let later = pages_in v.scan.shape bytes (v.scan.next + 1) (v.scan.left - 1) in
+      let next : unread_pages ≡ leaf_entries v.scan.shape (page_at bytes v.scan.next) ∷ later = pages-next v.scan.shape bytes v.scan.next v.scan.left page.1 in
       let merges = read-merges first old new is.pages unread (merging_of v new) is.merging es more page.0 split in
       let of-scan : (P : Scanned → List Entry → Moving → Type 0) → P (after_page v.scan es) (drop v.taken new) v.at → P w.scan (drop w.taken new) w.at =
       λ P p. subst (λ (s : Scanned). P s (drop w.taken new) w.at) (sym has.scan) (subst (λ (d : List Entry). P (after_page v.scan es) d w.at) (sym taken) (subst (P (after_page v.scan es) (drop v.taken new)) (sym at) p)) in
       record {
         scanning = scanning-reads bytes old_first total v.scan is.scanning w.scan page.1 has;
+        made = is.made ++ Read ∷ [];
+        long = omega (arith, length-append is.made (Read ∷ []), is.long);
         pages = is.pages;
+        makes = of-scan (λ s d a. Makes s.shape first (pages_in s.shape bytes old_first total) new (is.made ++ Read ∷ []) is.pages (pages_in s.shape bytes s.next s.left) (record { held = s.held; delta = d; at = a }))
+            (subst (λ (held : List Entry). Makes v.scan.shape first old_pages new (is.made ++ Read ∷ []) is.pages later (record { held = held; delta = drop v.taken new; at = v.at })) (sym there)
+            (made-read v.scan.shape first old_pages new is.made is.pages (leaf_entries v.scan.shape (page_at bytes v.scan.next)) later (merging_of v new)
+            (subst (λ (us : List (List Entry)). Makes v.scan.shape first old_pages new is.made is.pages us (merging_of v new)) next is.makes)
+            (subst (λ (us : List (List Entry)). Goes (length us) (merging_of v new) advances.Page (merging_of v new)) next (goes-by-pages advances.Page (merging_of v new) goes))));
         number = ap (λ (m : Moving). m.next_page) at ∙ is.number;
         joins = of-scan (λ s d a. JoinsSoFar bytes old_first new s d) (record {
           before = λ pages here.
@@ -218,8 +244,8 @@ module _ (bytes : List ℕ) (old_first total first : ℕ) (new : List Entry) (fr
       }
 
   pub steps-build : (a : Advance) (w : Merger) → Steps true bytes v new a w → PAGE * v.at.next_page ≤ length side → length (page_of a v.at) ≡ 4096 * pages_made a
-      → IsBuilding bytes old_first total first new front (side_after a v.at.next_page (page_of a v.at) side) w
-  steps-build a w (in_memory not goes keeps) reach long = builds-in_memory w a goes keeps reach long
+      → IsBuilding bytes old_first total first new front (side_after a v.at.next_page (page_of a v.at) side) (count + length (word_of a)) w
+  steps-build a w (in_memory not goes keeps) reach long = builds-in_memory w a not goes keeps reach long
   steps-build a w (reads goes has taken file at olds news) reach long = builds-read w goes has taken at olds news
 
   -- where no move is left, all are made
@@ -259,20 +285,6 @@ module _ (bytes : List ℕ) (old_first total first : ℕ) (new : List Entry) (fr
         passed = counts-all v.old_counts old safe.counts.passed.nine (λ arity. omega (arith, is.counted.passed arity, ap (count_of arity) nothing));
         moved = counts-all v.new_counts (merged_entries old new) safe.counts.moved.nine (λ arity. omega (arith, is.counted.moved arity, ap (count_of arity) (λ i. merged_entries (nothing i) (end.delta i))));
       }
-
-  -- no more pages are written than the tree has, with the one that a move makes
-  pub made-few : (views : Views) → AreTreeViews v.scan.shape views (merged_entries old new) → (n : Merging) (a : Advance) → Goes v.scan.left (merging_of v new) a n
-      → v.at.next_page + pages_made a ≤ first + length (pages_of v.scan.shape first views)
-  made-few views are n a goes =
-      let makes = goes-makes first old new is.pages unread v.scan.left (merging_of v new) is.merging (none-unread v.scan.shape bytes v.scan.next v.scan.left) held-points delta-points n a goes in
-      let shape = goes-shape v.scan.left (merging_of v new) n a goes in
-      let front = merged-front v.scan.shape (subst IsShape (sym safe.shape) safe.sound.shape) views first old new are (is.pages ++ made_by a v.at) unread n (shape ∙ sym safe.shape) makes in
-      omega (arith, is.number, length-append is.pages (made_by a v.at), many-made a v.at, ap length front.1, length-append (is.pages ++ made_by a v.at) front.0)
-
-  pub written-few : (views : Views) → AreTreeViews v.scan.shape views (merged_entries old new) → v.at.next_page ≤ first + length (pages_of v.scan.shape first views)
-  written-few views are =
-      let front = merged-front v.scan.shape (subst IsShape (sym safe.shape) safe.sound.shape) views first old new are is.pages unread (merging_of v new) (sym safe.shape) is.merging in
-      omega (arith, is.number, ap length front.1, length-append is.pages front.0)
 
   -- the page of cells that do not join is the first that does not fit
   apart-first : (page : ℕ) → page + 1 ≡ v.scan.next → IsApart v.scan.held (drop v.taken new) → IsFirstApart v.scan.shape bytes old_first total new page

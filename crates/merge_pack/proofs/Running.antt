@@ -1,5 +1,5 @@
 -- A run of moves over the files of a site.
-use Rattle.std.proofs.Common.{arith, inl, inr, ◌≡◌, ◌≢◌, ◌≤◌, ◌+◌, ◌*◌, ℕ, Bool, true, IsTrue, List, length, refl, ap, sym, ◌∙◌, subst}
+use Rattle.std.proofs.Common.{◌≡◌, ◌≢◌, ◌≤◌, ◌+◌, ◌*◌, ℕ, Bool, true, IsTrue, List, length, refl, ap, sym, ◌∙◌, subst}
 use Rattle.site_core.specs.Calls.{Changes}
 use Rattle.site_core.proofs.Run.{Changes-then, Changes-wider}
 use Rattle.site_core.specs.Disk.{Disk, Files, Torn, overwritten, DiffersPast}
@@ -8,10 +8,7 @@ use Rattle.site_core.proofs.Past.{past-then, torn-past}
 use Rattle.cube_point.specs.declared.point.Entry.{Entry}
 use Rattle.cube_point.specs.declared.point.Shape.{Shape}
 use Rattle.page_fmt.specs.declared.page.TheConstants.{PAGE}
-use Rattle.delta_agg.specs.Joins.{merged_entries}
-use Rattle.tree_pack.specs.Packing.{AreTreeViews}
-use Rattle.tree_pack.specs.Pages.{Views, pages_of}
-use Rattle.tree_scan.specs.Scanning.{entries_of}
+use Rattle.tree_pack.specs.Moving.{Moving}
 use Rattle.tree_scan.specs.Streaming.{Scanned}
 use Rattle.tree_scan.specs.declared.stop.ScanStop.{ScanStop}
 use Rattle.merge_pack.specs.declared.side.Advance.{Advance}
@@ -19,18 +16,21 @@ use Rattle.merge_pack.specs.declared.side.Advance.TheVariants as advances
 use Rattle.merge_pack.specs.Building.{IsBuilding, IsBuilt, IsCounted, IsDamaged}
 use Rattle.merge_pack.specs.Merging.{Goes, Merger, Merging, closes_full, closes_last, closes_leaf, closes_rest, is_done, moves_point, needs_page, turns_leaf, merging_of, page_of}
 use Rattle.merge_pack.specs.Safe.{IsSafe}
-use Rattle.merge_pack.specs.Stepping.{HasStopped, HasTried, Steps, files_after, in_memory, pages_made, reads}
-use Rattle.merge_pack.proofs.Building.{done-built, done-counted, made-few, side_after, steps-build, stops-damaged, written-few}
+use Rattle.merge_pack.specs.Between.{word_of}
+use Rattle.merge_pack.specs.Stepping.{HasStopped, Steps, files_after, in_memory, pages_made, reads}
+use Rattle.merge_pack.proofs.Building.{done-built, done-counted, side_after, steps-build, stops-damaged}
+use Rattle.merge_pack.proofs.Safety.{goes-shape}
 
 -- no move changes where the merge reads and writes
 pub record IsSame (v w : Merger) : Type 0 where
   pub file : w.file ≡ v.file
   pub old_file : w.scan.file ≡ v.scan.file
   pub shape : w.scan.shape ≡ v.scan.shape
+  pub at : w.at.shape ≡ v.at.shape
 
 pub steps-same : (tells : Bool) (bytes : List ℕ) (v w : Merger) (new : List Entry) (a : Advance) → Steps tells bytes v new a w → IsSame v w
-steps-same tells bytes v w new a (in_memory not goes keeps) = record { file = keeps.file; old_file = ap (λ (s : Scanned). s.file) keeps.scan; shape = ap (λ (s : Scanned). s.shape) keeps.scan }
-steps-same tells bytes v w new a (reads goes has taken file at olds news) = record { file = file; old_file = ap (λ (s : Scanned). s.file) has.scan; shape = ap (λ (s : Scanned). s.shape) has.scan }
+steps-same tells bytes v w new a (in_memory not goes keeps) = record { file = keeps.file; old_file = ap (λ (s : Scanned). s.file) keeps.scan; shape = ap (λ (s : Scanned). s.shape) keeps.scan; at = goes-shape v.scan.left (merging_of v new) (merging_of w new) a goes }
+steps-same tells bytes v w new a (reads goes has taken file at olds news) = record { file = file; old_file = ap (λ (s : Scanned). s.file) has.scan; shape = ap (λ (s : Scanned). s.shape) has.scan; at = ap (λ (m : Moving). m.shape) at }
 
 -- the file that is written, and the others
 files-side : (a : Advance) (file number : ℕ) (page : List ℕ) (files : Files) → files_after a file number page files file ≡ side_after a number page (files file)
@@ -58,9 +58,9 @@ again left m n b (closes_last none ready over some) is = absurd cc
 again left m n b (closes_rest none ready over empty rest) is = absurd cc
 again left m n b (is_done none ready over empty rest) is = is_done none ready over empty rest
 
-done-goes : (bytes : List ℕ) (v w : Merger) (new : List Entry) (a : Advance) → Steps true bytes v new a w → a ≡ advances.Done → Goes w.scan.left (merging_of w new) advances.Done (merging_of w new)
-done-goes bytes v w new a (in_memory not goes keeps) is = subst (λ (l : ℕ). Goes l (merging_of w new) advances.Done (merging_of w new)) (sym (ap (λ (s : Scanned). s.left) keeps.scan)) (again v.scan.left (merging_of v new) (merging_of w new) a goes is)
-done-goes bytes v w new a (reads goes has taken file at olds news) is = absurd cc
+pub done-goes : (tells : Bool) (bytes : List ℕ) (v w : Merger) (new : List Entry) (a : Advance) → Steps tells bytes v new a w → a ≡ advances.Done → Goes w.scan.left (merging_of w new) advances.Done (merging_of w new)
+done-goes tells bytes v w new a (in_memory not goes keeps) is = subst (λ (l : ℕ). Goes l (merging_of w new) advances.Done (merging_of w new)) (sym (ap (λ (s : Scanned). s.left) keeps.scan)) (again v.scan.left (merging_of v new) (merging_of w new) a goes is)
+done-goes tells bytes v w new a (reads goes has taken file at olds news) is = absurd cc
 
 -- a move of a run that began with these files and this merge
 module _ (begun now next : Files) (start v w : Merger) (new : List Entry) (a : Advance) (file : v.file ≡ start.file) (old_file : v.scan.file ≡ start.scan.file) (shape : v.scan.shape ≡ start.scan.shape)
@@ -72,57 +72,44 @@ module _ (begun now next : Files) (start v w : Merger) (new : List Entry) (a : A
   side-next =
       ap (λ (n : ℕ). next n) (sym file) ∙ (ap (λ (f : Files). f v.file) after ∙ (files-side a v.file v.at.next_page (page_of a v.at) now ∙ ap (λ (n : ℕ). side_after a v.at.next_page (page_of a v.at) (now n)) file))
 
-  module _ (tells : Bool) (telling : IsTrue tells) (apart : start.file ≢ start.scan.file) (safe : IsSafe v new) (steps : Steps tells (now v.scan.file) v new a w) (old_first total first : ℕ) (front : List ℕ)
-      (is : IsBuilding (begun start.scan.file) old_first total first new front (now start.file) v) where
+  module _ (tells : Bool) (telling : IsTrue tells) (apart : start.file ≢ start.scan.file) (safe : IsSafe v new) (steps : Steps tells (now v.scan.file) v new a w) (old_first total first count : ℕ) (front : List ℕ)
+      (is : IsBuilding (begun start.scan.file) old_first total first new front (now start.file) count v) where
     same-bytes : now v.scan.file ≡ begun start.scan.file
     same-bytes = ap now old_file ∙ others start.scan.file (λ e. apart (sym e))
 
     known : Steps true (begun start.scan.file) v new a w
     known = subst (λ (b : List ℕ). Steps true b v new a w) same-bytes (subst (λ (t : Bool). Steps t (now v.scan.file) v new a w) telling steps)
 
-    pub builds-next : PAGE * v.at.next_page ≤ length (now v.file) → length (page_of a v.at) ≡ 4096 * pages_made a → IsBuilding (begun start.scan.file) old_first total first new front (next start.file) w
+    pub builds-next : PAGE * v.at.next_page ≤ length (now v.file) → length (page_of a v.at) ≡ 4096 * pages_made a → IsBuilding (begun start.scan.file) old_first total first new front (next start.file) (count + length (word_of a)) w
     builds-next reach long =
-        subst (λ (side : List ℕ). IsBuilding (begun start.scan.file) old_first total first new front side w) (sym side-next)
-        (steps-build (begun start.scan.file) old_first total first new front (now start.file) v safe is a w known (subst (λ (n : ℕ). PAGE * v.at.next_page ≤ length (now n)) file reach) long)
+        subst (λ (side : List ℕ). IsBuilding (begun start.scan.file) old_first total first new front side (count + length (word_of a)) w) (sym side-next)
+        (steps-build (begun start.scan.file) old_first total first new front (now start.file) count v safe is a w known (subst (λ (n : ℕ). PAGE * v.at.next_page ≤ length (now n)) file reach) long)
 
     pub built-all : PAGE * v.at.next_page ≤ length (now v.file) → length (page_of a v.at) ≡ 4096 * pages_made a → a ≡ advances.Done → IsSafe w new → IsBuilt (begun start.scan.file) start.scan.shape old_first total first new front (next start.file) w.at.next_page
     built-all reach long done safe_next =
         let builds = builds-next reach long in
         let same = steps-same true (begun start.scan.file) v w new a known in
-        let goes = done-goes (begun start.scan.file) v w new a known done in
+        let goes = done-goes true (begun start.scan.file) v w new a known done in
         subst (λ (s : Shape). IsBuilt (begun start.scan.file) s old_first total first new front (next start.file) w.at.next_page) (same.shape ∙ shape)
-        (done-built (begun start.scan.file) old_first total first new front (next start.file) w safe_next builds (merging_of w new) advances.Done goes refl)
+        (done-built (begun start.scan.file) old_first total first new front (next start.file) (count + length (word_of a)) w safe_next builds (merging_of w new) advances.Done goes refl)
 
     pub counted-all : PAGE * v.at.next_page ≤ length (now v.file) → length (page_of a v.at) ≡ 4096 * pages_made a → a ≡ advances.Done → IsSafe w new → IsCounted (begun start.scan.file) start.scan.shape old_first total new w
     counted-all reach long done safe_next =
         let builds = builds-next reach long in
         let same = steps-same true (begun start.scan.file) v w new a known in
-        let goes = done-goes (begun start.scan.file) v w new a known done in
+        let goes = done-goes true (begun start.scan.file) v w new a known done in
         subst (λ (s : Shape). IsCounted (begun start.scan.file) s old_first total new w) (same.shape ∙ shape)
-        (done-counted (begun start.scan.file) old_first total first new front (next start.file) w safe_next builds (merging_of w new) advances.Done goes refl)
-
--- no more writes are tried than the tree has pages
-pub tries-few : (bytes : List ℕ) (shape : Shape) (old_first total first : ℕ) (new : List Entry) (front side : List ℕ) (v : Merger) → v.scan.shape ≡ shape → IsSafe v new → IsBuilding bytes old_first total first new front side v
-    → (before after : ℕ) → HasTried v new before after → (views : Views) → AreTreeViews shape views (merged_entries (entries_of shape bytes old_first total) new)
-    → after + v.at.next_page ≤ before + first + length (pages_of shape first views)
-tries-few bytes shape old_first total first new front side v same safe is before after tried views are =
-    subst (λ (s : Shape). after + v.at.next_page ≤ before + first + length (pages_of s first views)) same
-    (by tried (subst (λ (s : Shape). AreTreeViews s views (merged_entries (entries_of s bytes old_first total) new)) (sym same) are))
-  where
-    by : HasTried v new before after → AreTreeViews v.scan.shape views (merged_entries (entries_of v.scan.shape bytes old_first total) new)
-        → after + v.at.next_page ≤ before + first + length (pages_of v.scan.shape first views)
-    by (inl none) are = omega (arith, none, written-few bytes old_first total first new front side v safe is views are)
-    by (inr (a, n, goes, one)) are = omega (arith, one, made-few bytes old_first total first new front side v safe is views are n a goes)
+        (done-counted (begun start.scan.file) old_first total first new front (next start.file) (count + length (word_of a)) w safe_next builds (merging_of w new) advances.Done goes refl)
 
 -- where the run stops
 pub stops-next : (begun now : Files) (start v : Merger) (new : List Entry) (old_file : v.scan.file ≡ start.scan.file) (shape : v.scan.shape ≡ start.scan.shape) → ((g : ℕ) → g ≢ start.file → now g ≡ begun g)
-    → (tells : Bool) → IsTrue tells → start.file ≢ start.scan.file → IsSafe v new → (stop : ScanStop) → HasStopped tells (now v.scan.file) v new stop → (old_first total first : ℕ) (front side : List ℕ)
-    → IsBuilding (begun start.scan.file) old_first total first new front side v → IsDamaged (begun start.scan.file) start.scan.shape old_first total new stop
-stops-next begun now start v new old_file shape others tells telling apart safe stop stopped old_first total first front side is =
+    → (tells : Bool) → IsTrue tells → start.file ≢ start.scan.file → IsSafe v new → (stop : ScanStop) → HasStopped tells (now v.scan.file) v new stop → (old_first total first count : ℕ) (front side : List ℕ)
+    → IsBuilding (begun start.scan.file) old_first total first new front side count v → IsDamaged (begun start.scan.file) start.scan.shape old_first total new stop
+stops-next begun now start v new old_file shape others tells telling apart safe stop stopped old_first total first count front side is =
     let bytes = begun start.scan.file in
     let same : now v.scan.file ≡ bytes = ap now old_file ∙ others start.scan.file (λ e. apart (sym e)) in
     let known = subst (λ (b : List ℕ). HasStopped true b v new stop) same (subst (λ (t : Bool). HasStopped t (now v.scan.file) v new stop) telling stopped) in
-    subst (λ (s : Shape). IsDamaged bytes s old_first total new stop) shape (stops-damaged bytes old_first total first new front side v safe is stop known)
+    subst (λ (s : Shape). IsDamaged bytes s old_first total new stop) shape (stops-damaged bytes old_first total first new front side count v safe is stop known)
 
 -- ---- what a stop leaves
 

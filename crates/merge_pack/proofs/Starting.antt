@@ -12,10 +12,13 @@ use Rattle.page_fmt.specs.Writing.{FitsLeaf, IsShape}
 use Rattle.page_fmt.proofs.Rooms.{fanout-more}
 use Rattle.tree_pack.specs.Moving.{Moving, begun}
 use Rattle.tree_pack.proofs.Sound.{sound-begins}
-use Rattle.tree_scan.specs.Scanning.{ArePoints, entries_of}
+use Rattle.tree_scan.specs.Scanning.{ArePoints, entries_of, pages_in}
 use Rattle.tree_scan.specs.Streaming.{IsScanning, Scanned, at_start}
 use Rattle.tree_scan.proofs.Streaming.{no-points, scanning-starts}
-use Rattle.merge_pack.specs.Building.{AreCounted, AreJoining, IsBuilding, JoinsSoFar}
+use Rattle.merge_pack.specs.Building.{AreCounted, AreJoining, IsBuilding, JoinsSoFar, MayMerge}
+use Rattle.merge_pack.specs.Standing.{IsMergeOf, IsReading}
+use Rattle.page_fmt.specs.declared.page.Place.{Place}
+use Rattle.merge_pack.specs.Between.{Makes, none_made}
 use Rattle.merge_pack.proofs.Joining.{joins-start}
 use Rattle.merge_pack.specs.Merging.{IsMerging, Merger, merging_of}
 use Rattle.merge_pack.specs.Safe.{AreCounts, AreSound, IsLed, IsSafe, MayCount, falls, leads}
@@ -76,10 +79,13 @@ module _ (shape : Shape) (old_file old_first pages file first : ℕ) (v : Merger
   starts-few = of-counts (λ old_counts new_counts. HasFewPages first (total new_counts) v.scan.left (merging_of v new))
       (of-start (λ s d a. HasFewPages first 0 s.left (record { held = s.held; delta = d; at = a })) (few-begins shape first pages new))
 
-  pub starts-building : (bytes front : List ℕ) → IsBuilding bytes old_first pages first new front front v
+  pub starts-building : (bytes front : List ℕ) → IsBuilding bytes old_first pages first new front front 0 v
   starts-building bytes front = record {
     scanning = subst (IsScanning bytes old_first pages) (sym scan) (scanning-starts shape bytes old_file old_first pages);
+    made = [];
+    long = refl;
     pages = [];
+    makes = of-start (λ s d a. Makes s.shape first (pages_in s.shape bytes old_first pages) new [] [] (pages_in s.shape bytes s.next s.left) (record { held = s.held; delta = d; at = a })) none_made;
     merging = of-start (λ s d a. IsMerging first (entries_of s.shape bytes old_first pages) new [] (entries_of s.shape bytes s.next s.left) (record { held = s.held; delta = d; at = a }))
         (merging-begins shape first (entries_of shape bytes old_first pages) new);
     number = omega (arith, ap (λ (m : Moving). m.next_page) at);
@@ -99,3 +105,18 @@ module _ (shape : Shape) (old_file old_first pages file first : ℕ) (v : Merger
 pub starts-held : (shape : Shape) (file first pages : ℕ) (v : Merger) → v.scan ≡ at_start shape file first pages → v.old_counts ≡ replicate 9 0 → HoldAtMost pages v
 starts-held shape file first pages v scan olds arity =
     omega (arith, ap (λ (s : Scanned). length s.held) scan, ap (λ (s : Scanned). s.left) scan, ap (λ (counts : List ℕ). slice_index counts arity) olds, nothing-at 9 arity)
+
+-- so a merge of a tree begins
+pub starts-standing : (old : Place) (file first : ℕ) (v : Merger) (new : List Entry) → v.scan ≡ at_start old.shape old.file old.first old.pages → v.taken ≡ 0 → v.file ≡ file → v.at ≡ begun old.shape first
+    → v.old_counts ≡ replicate 9 0 → v.new_counts ≡ replicate 9 0 → MayMerge old new file first → IsMergeOf old new file first v
+starts-standing old file first v new scan taken to at olds news may = record {
+  safe = starts-safe old.shape old.file old.first old.pages file first v new scan taken to at olds news may.shape may.file may.first may.pages may.few may.points;
+  old_file = ap (λ (s : Scanned). s.file) scan;
+  shape = ap (λ (m : Moving). m.shape) at;
+  file = to;
+  other = may.other;
+  reading = subst (IsReading old.first old.pages) (sym scan) (record { from = omega arith; all = refl; read = λ some. absurd (omega (arith, some)) });
+  held = starts-held old.shape old.file old.first old.pages v scan olds;
+  few = starts-few old.shape old.file old.first old.pages file first v new scan taken to at olds news;
+  behind = omega (arith, ap (λ (m : Moving). m.next_page) at);
+}

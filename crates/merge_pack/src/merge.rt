@@ -5,7 +5,7 @@ ghost use Rattle.fact_model.specs.Cell.{FitCells};
 ghost use Rattle.cube_point.specs.declared.point.Entry as declared;
 ghost use Rattle.view_points.specs.Entries.{both};
 ghost use Rattle.tree_pack.specs.Moving.{HasPageIn, HasRoomIn, begun, with_point};
-ghost use Rattle.merge_pack.specs.Merging.{Goes, IsNext, MayTake, MayTakeNext, MovesPoint, IsApart, Keeps, KeepsOn, Makes, Merger, NeedsNoPage, arity_on, first_point, merging_of, counted_on, one_more, page_of, side_of, turns_at};
+ghost use Rattle.merge_pack.specs.Merging.{Goes, IsNext, MayTake, MayTakeNext, MovesPoint, IsApart, Keeps, KeepsOn, Lends, Merger, NeedsNoPage, arity_on, first_point, merging_of, counted_on, one_more, page_of, side_of, turns_at};
 ghost use Rattle.packing.specs.Levels.{full_level, rest_level};
 ghost use Rattle.page_fmt.specs.Trees.{fanout_of};
 ghost use Rattle.page_fmt.specs.Writing.{IsShape, leaf_arity};
@@ -15,14 +15,15 @@ ghost use Rattle.site_core.specs.Calls.{Changes};
 ghost use Rattle.site_core.specs.Disk.{Torn, DiffersPast};
 ghost use Rattle.site_core.specs.Causes.{HasCauseWhere};
 ghost use Rattle.site_core.specs.Frames.{Calls, CallsOnly};
-ghost use Rattle.tree_pack.specs.Packing.{AreTreeViews};
-ghost use Rattle.tree_pack.specs.Pages.{Views, pages_of};
-ghost use Rattle.delta_agg.specs.Joins.{merged_entries};
-ghost use Rattle.tree_scan.specs.Scanning.{NamesPage, entries_of};
+ghost use Rattle.packing.specs.Moves.{KeepsTo};
+ghost use Rattle.page_fmt.specs.declared.page.Place as places;
+ghost use Rattle.tree_pack.specs.Pages.{Views};
+ghost use Rattle.tree_scan.specs.Scanning.{NamesPage, pages_in};
 ghost use Rattle.tree_scan.specs.Streaming.{HasTaken, at_start};
 ghost use Rattle.merge_pack.specs.Building.{IsBuilding, IsBuilt, IsCounted, IsDamaged, MayMerge};
-ghost use Rattle.merge_pack.specs.Few.{AreFewPoints, HasFewPages, HoldAtMost, most_pages, total};
+ghost use Rattle.merge_pack.specs.Between.{IsMergeInto, moves_of};
 ghost use Rattle.merge_pack.specs.Safe.{IsSafe, MayCount, falls};
+ghost use Rattle.merge_pack.specs.Standing.{HasEnded, IsMergeOf, IsMerged, moves_tried};
 ghost use Rattle.merge_pack.specs.Stepping.{HasRefused, HasStopped, HasTried, Steps, files_after, made_last, pages_made, pages_read};
 
 use crate::side::{Advance, Side};
@@ -198,7 +199,7 @@ impl Merge {
         ensures goes { (left : ℕ) → NeedsNoPage left (merging_of self.old delta.now) → IfOk result (λ advance. Goes left (merging_of self.old delta.now) advance (merging_of self.new delta.now)) }
         ensures kept { IfOk result (λ advance. KeepsOn advance delta.now self.old self.new) }
         ensures within { OnOk result (self.new.taken ≤ length delta.now) }
-        ensures makes { IfOk result (λ advance. Makes advance self.old self.new) }
+        ensures makes { IfOk result (λ advance. Lends advance self.old self.new) }
         ensures apart { OnErr result (IsApart self.old.scan.held (drop self.old.taken delta.now)) }
     {
         let arity = self.arity_on(delta, side);
@@ -220,7 +221,7 @@ impl Merge {
             → Goes left (merging_of self.old delta) result (merging_of self.new delta) }
         ensures kept { (delta : List declared.Entry) → Keeps None delta self.old self.new }
         ensures taken { self.new.taken ≡ self.old.taken }
-        ensures makes { Makes result self.old self.new }
+        ensures makes { Lends result self.old self.new }
     {
         if self.packer.len() > 0 {
             self.packer.close_leaf();
@@ -288,7 +289,7 @@ impl Merge {
         ensures goes { IfOk result (λ advance. Goes left (merging_of self.old delta.now) advance (merging_of self.new delta.now)) }
         ensures kept { IfOk result (λ advance. KeepsOn advance delta.now self.old self.new) }
         ensures within { OnOk result (self.new.taken ≤ length delta.now) }
-        ensures makes { IfOk result (λ advance. Makes advance self.old self.new) }
+        ensures makes { IfOk result (λ advance. Lends advance self.old self.new) }
         ensures apart { OnErr result (IsApart self.old.scan.held (drop self.old.taken delta.now)) }
     {
         let new = self.next_new(delta);
@@ -314,7 +315,7 @@ impl Merge {
         ensures goes { IfOk result (λ advance. Goes left (merging_of self.old delta.now) advance (merging_of self.new delta.now)) }
         ensures kept { IfOk result (λ advance. KeepsOn advance delta.now self.old self.new) }
         ensures within { OnOk result (self.new.taken ≤ length delta.now) }
-        ensures makes { IfOk result (λ advance. Makes advance self.old self.new) }
+        ensures makes { IfOk result (λ advance. Lends advance self.old self.new) }
         ensures apart { OnErr result (IsApart self.old.scan.held (drop self.old.taken delta.now)) }
     {
         if let Some(level) = self.packer.full() {
@@ -346,11 +347,14 @@ impl Merge {
         })
     }
 
-    /// Begins the merge of an old tree, whose pages are written to this file from page `first` on.
+    /// Begins the merge of an old tree with new points, whose pages are written to this file from page `first` on, each once and in their
+    /// order. `old_counts` and `new_counts` tell how many points both trees have, as far as they are merged.
     pub fn start(&mut self, old: &Place, file: u32, first: u64)
         requires file { old.now.file < 4 }
         requires few { old.now.first + old.now.pages ≤ 2 ^ 50 }
         requires shape { IsShape old.now.shape }
+        ensures standing { (new : List declared.Entry) → MayMerge old.now new file first → IsMergeOf old.now new file first self.new }
+        ensures building { (new : List declared.Entry) (bytes side : List ℕ) → IsBuilding bytes old.now.first old.now.pages first new side side 0 self.new }
         ensures scan { self.new.scan ≡ at_start old.now.shape old.now.file old.now.first old.now.pages }
         ensures taken { self.new.taken ≡ 0 }
         ensures file { self.new.file ≡ file }
@@ -364,6 +368,14 @@ impl Merge {
         self.file = file;
         self.old_counts = [0; ARITIES];
         self.new_counts = [0; ARITIES];
+    }
+
+    /// The number of the page behind the last that was written.
+    pub fn next_page(&self) -> u64
+        ensures number { result ≡ self.now.at.next_page }
+        ensures few { (old : places.Place) (new : List declared.Entry) (side first : ℕ) → IsMergeOf old new side first self.now → IsMerged old new first self.now }
+    {
+        self.packer.next_page()
     }
 
     /// How many old points of each arity the tree had, as far as it was merged.
@@ -391,7 +403,7 @@ impl Merge {
 
         ensures steps { IfOk result (λ advance. Steps T.tells ((T.disk site.old).files self.old.scan.file) self.old delta.now advance self.new) }
         ensures stopped { IfErr result (HasStopped T.tells ((T.disk site.old).files self.old.scan.file) self.old delta.now) }
-        ensures tried { OnErr result (HasTried self.old delta.now (T.writes site.old) (T.writes site.new)) }
+        ensures tried { OnErr result (HasTried self.old delta.now (T.reads site.old, T.writes site.old) (T.reads site.new, T.writes site.new)) }
         ensures safe { OnOk result (IsSafe self.new delta.now) }
         ensures falls { IfOk result (λ advance. (advance ≡ Advance.Done → ⊥)
             → falls self.new.scan.left (merging_of self.new delta.now) < falls self.old.scan.left (merging_of self.old delta.now)) }
@@ -424,7 +436,7 @@ impl Merge {
 
         ensures steps { IfOk result (λ advance. Steps T.tells ((T.disk site.old).files self.old.scan.file) self.old delta.now advance self.new) }
         ensures stopped { IfErr result (HasStopped T.tells ((T.disk site.old).files self.old.scan.file) self.old delta.now) }
-        ensures tried { OnErr result (HasTried self.old delta.now (T.writes site.old) (T.writes site.new)) }
+        ensures tried { OnErr result (HasTried self.old delta.now (T.reads site.old, T.writes site.old) (T.reads site.new, T.writes site.new)) }
         ensures safe { OnOk result (IsSafe self.new delta.now) }
         ensures falls { IfOk result (λ advance. (advance ≡ Advance.Done → ⊥)
             → falls self.new.scan.left (merging_of self.new delta.now) < falls self.old.scan.left (merging_of self.old delta.now)) }
@@ -479,85 +491,57 @@ impl Merge {
         }
     }
 
-    /// Makes all moves that are left. It stands apart, so that its loop has all registers.
+    /// Makes so many moves, or all that are left where these are fewer; it answers how many. It takes no memory, and stands apart, so that its
+    /// loop has all registers.
+    ///
+    /// `Damaged` names the first page of the old tree that does not fit: it is short, not lawful, out of order, or has a cell that does not
+    /// join with that of the new point there.
     #[inline(never)]
-    pub fn run<T: Site>(&mut self, delta: &Points<'_>, site: &mut T) -> Result<(), ScanStop>
+    pub fn run<T: Site>(
+        &mut self,
+        delta: &Points<'_>,
+        limit: u64,
+        site: &mut T,
+    ) -> Result<u64, ScanStop>
         requires safe { IsSafe self.old delta.now }
         requires place { IsTrue T.tells → 4096 * self.old.at.next_page ≤ length ((T.disk site.old).files self.old.file) }
 
-        ensures built { IsTrue T.tells → self.old.file ≢ self.old.scan.file → OnOk result ((old_first pages first : ℕ) (front : List ℕ)
-            → IsBuilding ((T.disk site.old).files self.old.scan.file) old_first pages first delta.now front ((T.disk site.old).files self.old.file) self.old
-            → IsBuilt ((T.disk site.old).files self.old.scan.file) self.old.scan.shape old_first pages first delta.now front
-            ((T.disk site.new).files self.old.file) self.new.at.next_page) }
-        ensures counted { IsTrue T.tells → self.old.file ≢ self.old.scan.file → OnOk result ((old_first pages first : ℕ) (front : List ℕ)
-            → IsBuilding ((T.disk site.old).files self.old.scan.file) old_first pages first delta.now front ((T.disk site.old).files self.old.file) self.old
-            → IsCounted ((T.disk site.old).files self.old.scan.file) self.old.scan.shape old_first pages delta.now self.new) }
-        ensures damaged { IsTrue T.tells → self.old.file ≢ self.old.scan.file → IfErr result (λ stop. (old_first pages first : ℕ) (front : List ℕ)
-            → IsBuilding ((T.disk site.old).files self.old.scan.file) old_first pages first delta.now front ((T.disk site.old).files self.old.file) self.old
+        ensures builds { IsTrue T.tells → self.old.file ≢ self.old.scan.file → IfOk result (λ made. (old_first pages first count : ℕ) (front : List ℕ)
+            → IsBuilding ((T.disk site.old).files self.old.scan.file) old_first pages first delta.now front ((T.disk site.old).files self.old.file) count self.old
+            → IsBuilding ((T.disk site.old).files self.old.scan.file) old_first pages first delta.now front ((T.disk site.new).files self.old.file) (count + made) self.new) }
+        ensures limit { IfOk result (λ made. (made ≤ limit) × (made < limit → HasEnded self.new delta.now)) }
+        ensures built { IsTrue T.tells → self.old.file ≢ self.old.scan.file → IfOk result (λ made. made < limit → (old_first pages first count : ℕ) (front : List ℕ)
+            → IsBuilding ((T.disk site.old).files self.old.scan.file) old_first pages first delta.now front ((T.disk site.old).files self.old.file) count self.old
+            → IsBuilt ((T.disk site.old).files self.old.scan.file) self.old.scan.shape old_first pages first delta.now front ((T.disk site.new).files self.old.file) self.new.at.next_page
+            × IsCounted ((T.disk site.old).files self.old.scan.file) self.old.scan.shape old_first pages delta.now self.new) }
+        ensures damaged { IsTrue T.tells → self.old.file ≢ self.old.scan.file → IfErr result (λ stop. (old_first pages first count : ℕ) (front : List ℕ)
+            → IsBuilding ((T.disk site.old).files self.old.scan.file) old_first pages first delta.now front ((T.disk site.old).files self.old.file) count self.old
             → IsDamaged ((T.disk site.old).files self.old.scan.file) self.old.scan.shape old_first pages delta.now stop) }
-        ensures tried { IsTrue T.tells → self.old.file ≢ self.old.scan.file → (old_first pages first : ℕ) (front : List ℕ) (views : Views)
-            → IsBuilding ((T.disk site.old).files self.old.scan.file) old_first pages first delta.now front ((T.disk site.old).files self.old.file) self.old
-            → AreTreeViews self.old.scan.shape views (merged_entries (entries_of self.old.scan.shape ((T.disk site.old).files self.old.scan.file) old_first pages) delta.now)
-            → T.writes site.new + self.old.at.next_page ≤ T.writes site.old + first + length (pages_of self.old.scan.shape first views) }
-        ensures names { self.old.scan.held ≡ [] → IfErr result (NamesPage self.old.scan.next self.old.scan.left) }
-        ensures few { OnOk result ((pages : ℕ) → HoldAtMost pages self.old → AreFewPoints pages delta.now self.new) }
-        ensures pages { (first : ℕ) → HasFewPages first (total self.old.new_counts) self.old.scan.left (merging_of self.old delta.now)
-            → OnOk result (self.new.at.next_page ≤ first + most_pages (total self.new.new_counts)) }
-        ensures behind { OnOk result (self.old.at.next_page ≤ self.new.at.next_page) }
+        ensures cost { IsTrue T.tells → self.old.file ≢ self.old.scan.file → (old_first pages first count total : ℕ) (front : List ℕ) (views : Views)
+            → IsBuilding ((T.disk site.old).files self.old.scan.file) old_first pages first delta.now front ((T.disk site.old).files self.old.file) count self.old
+            → IsMergeInto self.old.scan.shape first total views (pages_in self.old.scan.shape ((T.disk site.old).files self.old.scan.file) old_first pages) delta.now
+            → KeepsTo (moves_of self.old.scan.shape total (pages_in self.old.scan.shape ((T.disk site.old).files self.old.scan.file) old_first pages) delta.now)
+            count (count + moves_tried limit result) (T.reads site.old, T.writes site.old) (T.reads site.new, T.writes site.new) }
+
+        // Whatever the file holds.
+        ensures kept { (old : places.Place) (side first : ℕ) → IsMergeOf old delta.now side first self.old → OnOk result (IsMergeOf old delta.now side first self.new) }
+        ensures names { (old : places.Place) (side first : ℕ) → IsMergeOf old delta.now side first self.old → IfErr result (NamesPage old.first old.pages) }
+        ensures falls { IfOk result (λ made. made + falls self.new.scan.left (merging_of self.new delta.now) ≤ falls self.old.scan.left (merging_of self.old delta.now)) }
         ensures reach { IsTrue T.tells → OnOk result (4096 * self.new.at.next_page ≤ length ((T.disk site.new).files self.old.file)) }
         ensures others { IsTrue T.tells → (g : ℕ) → g ≢ self.old.file → (T.disk site.new).files g ≡ (T.disk site.old).files g }
         ensures disk { IsTrue T.tells → Changes (DiffersPast self.old.file (4096 * self.old.at.next_page)) (T.disk site.old) (T.disk site.new) }
         ensures calls { Calls T.Site (HasCauseWhere ScanStop.Disk) self.old.scan.left site.old site.new result }
+        ensures read { OnOk result (T.reads site.new + self.new.scan.left ≤ T.reads site.old + self.old.scan.left) }
         ensures wrote { OnOk result (T.writes site.new + self.old.at.next_page ≤ T.writes site.old + self.new.at.next_page) }
     {
         let mut new = self.next_new(delta);
-        loop {
+        for made in 0..limit {
             let taken = self.taken();
             if self.step_by(delta, &new, site)? == Advance::Done {
-                return Ok(());
+                return Ok(made);
             }
             self.look_on(delta, taken, &mut new);
         }
-    }
-
-    /// Merges a whole tree of points with new points, into the pages of a file from page `first` on; answers the number behind the last of
-    /// them. `old_counts` and `new_counts` tell then how many points both trees have. Each page is written once, in their order.
-    ///
-    /// `Damaged` names the first page of the old tree that does not fit: it is short, not lawful, out of order, or has a cell that does not
-    /// join with that of the new point there.
-    pub fn merge_tree<T: Site>(
-        &mut self,
-        old: &Place,
-        delta: &Points<'_>,
-        file: u32,
-        first: u64,
-        site: &mut T,
-    ) -> Result<u64, ScanStop>
-        requires may { MayMerge old.now delta.now file first }
-        requires place { IsTrue T.tells → 4096 * first ≤ length ((T.disk site.old).files file) }
-
-        ensures built { IsTrue T.tells → IfOk result (λ next.
-            IsBuilt ((T.disk site.old).files old.now.file) old.now.shape old.now.first old.now.pages first delta.now ((T.disk site.old).files file)
-            ((T.disk site.new).files file) next) }
-        ensures counted { IsTrue T.tells → OnOk result (IsCounted ((T.disk site.old).files old.now.file) old.now.shape old.now.first old.now.pages delta.now self.new) }
-        ensures damaged { IsTrue T.tells → IfErr result (IsDamaged ((T.disk site.old).files old.now.file) old.now.shape old.now.first old.now.pages delta.now) }
-        ensures tried { IsTrue T.tells → (views : Views)
-            → AreTreeViews old.now.shape views (merged_entries (entries_of old.now.shape ((T.disk site.old).files old.now.file) old.now.first old.now.pages) delta.now)
-            → T.writes site.new ≤ T.writes site.old + length (pages_of old.now.shape first views) }
-
-        // Whatever the file holds.
-        ensures names { IfErr result (NamesPage old.now.first old.now.pages) }
-        ensures few { OnOk result (AreFewPoints old.now.pages delta.now self.new) }
-        ensures pages { IfOk result (λ next. next ≤ first + most_pages (total self.new.new_counts)) }
-        ensures behind { IfOk result (λ next. first ≤ next) }
-        ensures reach { IsTrue T.tells → IfOk result (λ next. 4096 * next ≤ length ((T.disk site.new).files file)) }
-        ensures others { IsTrue T.tells → (g : ℕ) → g ≢ file → (T.disk site.new).files g ≡ (T.disk site.old).files g }
-        ensures disk { IsTrue T.tells → Changes (DiffersPast file (4096 * first)) (T.disk site.old) (T.disk site.new) }
-        ensures calls { Calls T.Site (HasCauseWhere ScanStop.Disk) old.now.pages site.old site.new result }
-        ensures wrote { IfOk result (λ next. T.writes site.new + first ≤ T.writes site.old + next) }
-    {
-        self.start(old, file, first);
-        self.run(delta, site)?;
-        Ok(self.packer.next_page())
+        Ok(limit)
     }
 }

@@ -1,5 +1,5 @@
 -- What the pages of a tree in a file hold, and the first of them that is damaged.
-use Rattle.std.specs.Prelude.{◌≡◌, ℕ, ◌+◌, ◌*◌, ◌<◌, ◌≤◌, ◌==◌, true, List, [], length, flat_map, slice_index, if◌then◌else◌, IsOk}
+use Rattle.std.specs.Prelude.{◌≡◌, ℕ, ◌+◌, ◌*◌, ◌<◌, ◌≤◌, ◌==◌, true, List, [], length, map, flat_map, slice_index, if◌then◌else◌, IsOk}
 use Rattle.std.specs.List.{All, range_with_len}
 use Rattle.cube_point.specs.declared.point.Entry.{Entry}
 use Rattle.cube_point.specs.declared.point.Shape.{Shape}
@@ -26,6 +26,10 @@ leaf_entries shape page = if slice_index page 0 == leaf_byte then entries shape.
 -- the entries of so many pages of a file, from page `first` on
 abbrev pub entries_of : Shape → List ℕ → ℕ → ℕ → List Entry
 entries_of shape bytes first count = flat_map (λ number. leaf_entries shape (page_at bytes number)) (range_with_len first count)
+
+-- the same, page by page
+abbrev pub pages_in : Shape → List ℕ → ℕ → ℕ → List (List Entry)
+pages_in shape bytes first count = map (λ number. leaf_entries shape (page_at bytes number)) (range_with_len first count)
 
 -- behind the pages from `first` on, this page is there and lawful, and its points come after all before it
 pub record IsGood (shape : Shape) (bytes : List ℕ) (first number : ℕ) : Type 0 where

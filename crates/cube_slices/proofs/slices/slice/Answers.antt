@@ -6,8 +6,8 @@ use Rattle.plain_machine.specs.Machine.{slice_reply}
 use Rattle.cube_state.specs.declared.state.State.{State}
 use Rattle.cube_state.specs.declared.state.State.TheVariants.{Pending}
 use Rattle.cube_state.specs.Stops.{IsNoDamage}
-use Rattle.cube_state.specs.Session.{Stands}
-use Rattle.cube_state.proofs.Answering.{resting, stands_rests}
+use Rattle.cube_state.specs.Session.{IsFit, IsRunning, Stands}
+use Rattle.cube_state.proofs.Answering.{fit_rests, resting, stands_rests}
 use Rattle.cube_state.proofs.Standing.{attends_belongs}
 use Rattle.forest_refresh.proofs.Ready.{err_if, err_then}
 use Rattle.cube_slices.specs.Costs.{MayRead}
@@ -74,3 +74,11 @@ returns-in_ok-reply-in-Idle-clause-any_moment g c = λ t world stands.
 pub returns-in_ok-reply-in-Hollow-clause-any_moment : goal.returns-in_ok-reply-in-Hollow-clause-any_moment
 returns-in_ok-reply-in-Hollow-clause-any_moment g c = λ t world stands.
     resting c.args.state _ _ world world stands (λ told files. g.met.T.Site.only_now c.args.site.now told files t) (c.reply_to-in-Hollow.ensures.looks.disk t)
+
+pub returns-in_ok-reply-in-Pending-clause-runs : goal.returns-in_ok-reply-in-Pending-clause-runs
+returns-in_ok-reply-in-Pending-clause-runs g c = record {
+  running = subst IsRunning c.in-Pending.is c.requires.runs.running;
+  fit = λ t.
+      fit_rests (Pending c.in-Pending.refresh) (g.T.Site.disk c.args.site.now) (g.T.Site.disk c.reply_to-in-Pending.new.site) (c.reply_to-in-Pending.ensures.looks.disk t)
+      (subst (λ (s : State). IsFit s (g.T.Site.disk c.args.site.now)) c.in-Pending.is (c.requires.runs.fit t));
+}

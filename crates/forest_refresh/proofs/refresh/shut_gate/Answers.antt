@@ -49,4 +49,5 @@ returns-in-Ok-clause-ready g c = λ t.
         root = record { gate = omega (arith, root.gate, range.no_shorter); names = omega (arith, root.names, ap length (range.others 1 (λ e. omega (arith, e)))) };
       };
       shut = subst (λ (k : ℕ). IsShut k (new.files 0)) c.slot.ensures (c.in-Ok.ensures.shut t);
+      moved = c.requires.moved new.files;
     }

@@ -1,15 +1,17 @@
-use Rattle.std.proofs.Common.{drop, ◌≡◌, ◌≢◌, ◌≤◌, ◌+◌, ◌*◌, ℕ, List, [], IsTrue, length}
+use Rattle.std.proofs.Common.{drop, ◌≡◌, ◌≢◌, ◌≤◌, ◌+◌, ◌*◌, ℕ, List, IsTrue, length}
 use Rattle.merge_pack.specs.Building.{IsBuilding}
+use Rattle.page_fmt.specs.declared.page.Place.{Place}
 use Rattle.site_core.specs.Calls.{Changes}
 use Rattle.site_core.specs.Disk.{DiffersPast}
 use Rattle.merge_pack.specs.Merging.{first_point, merging_of}
-use Rattle.merge_pack.specs.Few.{HasFewPages, HoldAtMost, total}
 use Rattle.merge_pack.specs.Safe.{IsSafe, falls}
-use Rattle.merge_pack.proofs.Reading.{IsReading}
+use Rattle.merge_pack.specs.Standing.{IsMergeOf}
 use Rattle.merge_pack.proofs.merge.Merge.run.Given as goal
 
-abbrev pub invariant-loop-self : goal.invariant-loop-self
-invariant-loop-self g l = record {
+-- so many moves are made
+abbrev pub invariant-loop-made : goal.invariant-loop-made
+invariant-loop-made g l = record {
+  within : l.made ≤ l.limit;
   safe : IsSafe l.self l.delta;
   new : first_point (drop l.self.taken l.delta) ≡ l.new;
   place : IsTrue g.T.Site.tells → 4096 * l.self.at.next_page ≤ length ((g.T.Site.disk l.site).files l.self.file);
@@ -17,12 +19,11 @@ invariant-loop-self g l = record {
   old_file : l.self.scan.file ≡ l.fn.self.scan.file;
   shape : l.self.scan.shape ≡ l.fn.self.scan.shape;
   others : IsTrue g.T.Site.tells → (n : ℕ) → n ≢ l.fn.self.file → (g.T.Site.disk l.site).files n ≡ (g.T.Site.disk l.fn.site).files n;
-  builds : IsTrue g.T.Site.tells → l.fn.self.file ≢ l.fn.self.scan.file → (old_first total first : ℕ) (front : List ℕ)
-      → IsBuilding ((g.T.Site.disk l.fn.site).files l.fn.self.scan.file) old_first total first l.delta front ((g.T.Site.disk l.fn.site).files l.fn.self.file) l.fn.self
-      → IsBuilding ((g.T.Site.disk l.fn.site).files l.fn.self.scan.file) old_first total first l.delta front ((g.T.Site.disk l.site).files l.fn.self.file) l.self;
-  reading : l.fn.self.scan.held ≡ [] → IsReading l.fn.self.scan l.self.scan;
-  pages : (first : ℕ) → HasFewPages first (total l.fn.self.new_counts) l.fn.self.scan.left (merging_of l.fn.self l.delta) → HasFewPages first (total l.self.new_counts) l.self.scan.left (merging_of l.self l.delta);
-  held : (most : ℕ) → HoldAtMost most l.fn.self → HoldAtMost most l.self;
+  builds : IsTrue g.T.Site.tells → l.fn.self.file ≢ l.fn.self.scan.file → (old_first total first count : ℕ) (front : List ℕ)
+      → IsBuilding ((g.T.Site.disk l.fn.site).files l.fn.self.scan.file) old_first total first l.delta front ((g.T.Site.disk l.fn.site).files l.fn.self.file) count l.fn.self
+      → IsBuilding ((g.T.Site.disk l.fn.site).files l.fn.self.scan.file) old_first total first l.delta front ((g.T.Site.disk l.site).files l.fn.self.file) (count + l.made) l.self;
+  kept : (old : Place) (side first : ℕ) → IsMergeOf old l.delta side first l.fn.self → IsMergeOf old l.delta side first l.self;
+  falls : l.made + falls l.self.scan.left (merging_of l.self l.delta) ≤ falls l.fn.self.scan.left (merging_of l.fn.self l.delta);
   next : l.fn.self.at.next_page ≤ l.self.at.next_page;
   disk : IsTrue g.T.Site.tells → Changes (DiffersPast l.fn.self.file (4096 * l.fn.self.at.next_page)) (g.T.Site.disk l.fn.site) (g.T.Site.disk l.site);
   faults : g.T.Site.disk_faults l.site ≡ g.T.Site.disk_faults l.fn.site;
@@ -30,6 +31,3 @@ invariant-loop-self g l = record {
   writes : g.T.Site.writes l.site + l.fn.self.at.next_page ≤ g.T.Site.writes l.fn.site + l.self.at.next_page;
   told_faults : g.T.Site.told_faults l.site ≡ g.T.Site.told_faults l.fn.site;
 }
-
-abbrev pub decreases-loop-self : goal.decreases-loop-self
-decreases-loop-self g l = falls l.self.scan.left (merging_of l.self l.delta)
