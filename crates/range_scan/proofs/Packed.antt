@@ -1,6 +1,6 @@
 -- A packed tree is searched.
-use Rattle.std.proofs.Common.{◌≡◌, ◌≤◌, ◌<◌, ◌+◌, ◌*◌, ◌/◌, ◌%◌, ◌^◌, ℕ, zero, suc, List, [], ◌∷◌, ◌++◌, filter, get_or, length, length-append, map, take, drop, Result, Ok, Err, refl, sym, ap, ◌∙◌, subst, arith, append-nil, mul-suc}
-use Rattle.std.specs.Prelude.{IfErr, IfOk, flat_map}
+use Rattle.std.proofs.Common.{◌≡◌, ◌≤◌, ◌<◌, ◌+◌, ◌*◌, ◌/◌, ◌%◌, ◌^◌, ℕ, zero, suc, List, [], ◌∷◌, ◌++◌, get_or, length, length-append, map, take, drop, Result, Ok, Err, refl, sym, ap, ◌∙◌, subst, arith, append-nil, mul-suc}
+use Rattle.std.specs.Prelude.{IfErr, flat_map}
 use Rattle.std.specs.List.{Contains}
 use Rattle.std.proofs.Math.Nat.{div-add-mod}
 use Rattle.std.proofs.lemmas.List.{length-map}
@@ -29,7 +29,6 @@ use Rattle.tree_pack.specs.Pages.{child_of, joined, pages_of}
 use Rattle.tree_pack.proofs.Lawful.{pages-lawful}
 use Rattle.tree_pack.proofs.Standing.{runs-few}
 use Rattle.tree_pack.proofs.Whole.{pages-entries}
-use Rattle.range_scan.specs.Meeting.{is_inside}
 use Rattle.range_scan.specs.Packed.{HoldsTree, IsUndamaged}
 use Rattle.range_scan.specs.Searching.{IsFirstBad, IsSearched, IsSound}
 use Rattle.range_scan.specs.Visits.{top_page, visits}
@@ -143,9 +142,9 @@ module _ (tree : Place) (shape : IsShape tree.shape) (low : tree.first ≤ max_f
           at [] = refl
           at (x ∷ b) = at b
 
-  -- so these points are found, and no page is damaged
-  pub packed-searched : (result : Result (List Entry) SearchStop) → IsSearched tree region bytes result → IfOk result (λ found. found ≡ filter (is_inside region) points) × IfErr result IsUndamaged
-  packed-searched (Ok found) is = (is.points ∙ packed-found.finds, tt)
-  packed-searched (Err stops.Disk) is = (tt, tt)
-  packed-searched (Err stops.Memory) is = (tt, tt)
-  packed-searched (Err (stops.Damaged page)) is = (tt, undamaged page is)
+  -- so no page is damaged
+  pub packed-searched : (result : Result (Unit {0}) SearchStop) → IsSearched tree region bytes result → IfErr result IsUndamaged
+  packed-searched (Ok done) is = tt
+  packed-searched (Err stops.Disk) is = tt
+  packed-searched (Err stops.Memory) is = tt
+  packed-searched (Err (stops.Damaged page)) is = undamaged page is

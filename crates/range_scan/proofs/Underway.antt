@@ -62,24 +62,22 @@ module _ (tree : Place) (region : Region) (bytes : List ℕ) where
   under n = below region (page_of tree.shape bytes n)
 
   -- the pages asked for are sound, and the ways from those ahead are left; the last of those comes next
-  pub record IsUnderway (asked : List ℕ) (found : List Entry) (ahead : List ℕ) : Type 0 where
+  pub record IsUnderway (asked : List ℕ) (ahead : List ℕ) : Type 0 where
     pub split : visits tree region bytes ≡ asked ++ flat_map down (reverse ahead)
     pub sound : All (IsSound tree bytes) asked
-    pub points : found ≡ found_in tree region bytes asked
 
-  pub starts : (found : List Entry) (ahead : List ℕ) → found ≡ [] → ahead ≡ top_page tree.first tree.pages → IsUnderway [] found ahead
+  pub starts : (ahead : List ℕ) → ahead ≡ top_page tree.first tree.pages → IsUnderway [] ahead
   unfolding visits
-  starts found ahead none top = record {
+  starts ahead top = record {
     split = ap (flat_map down) (same tree.pages ∙ ap reverse (sym top));
     sound = All-nil (IsSound tree bytes);
-    points = none;
   }
     where
       same : (pages : ℕ) → top_page tree.first pages ≡ reverse (top_page tree.first pages)
       same zero = refl
       same (suc pages) = refl
 
-  module _ (asked : List ℕ) (found : List Entry) (ahead rest : List ℕ) (number : ℕ) (top : ahead ≡ rest ++ number ∷ []) (so_far : IsUnderway asked found ahead) where
+  module _ (asked : List ℕ) (ahead rest : List ℕ) (number : ℕ) (top : ahead ≡ rest ++ number ∷ []) (so_far : IsUnderway asked ahead) where
     -- what is behind the next page
     abbrev behind : List ℕ
     behind = flat_map down (under number) ++ flat_map down (reverse rest)
@@ -92,15 +90,12 @@ module _ (tree : Place) (region : Region) (bytes : List ℕ) where
     pub more-asked : length asked + 1 ≤ length (visits tree region bytes)
     more-asked = omega (arith, ap length next-split, length-append asked (number ∷ behind))
 
-    pub one-more : (more : List Entry) (next : List ℕ) → IsVisited tree region bytes number found more rest next → IsUnderway (asked ++ number ∷ []) more next
-    one-more more next visited =
+    pub one-more : (next : List ℕ) → IsVisited tree region bytes number rest next → IsUnderway (asked ++ number ∷ []) next
+    one-more next visited =
         let ahead-is : flat_map down (reverse next) ≡ behind = ap (flat_map down) visited.goes_on ∙ flat_map-append down (under number) (reverse rest) in
-        let hit : ℕ → List Entry = λ n. hits region (page_of tree.shape bytes n) in
         record {
           split = next-split ∙ (sym (append_assoc asked (number ∷ []) behind) ∙ ap (λ l. (asked ++ number ∷ []) ++ l) (sym ahead-is));
           sound = All-push (IsSound tree bytes) asked number so_far.sound visited.sound;
-          points = visited.finds ∙ (ap (λ l. l ++ hit number) so_far.points
-              ∙ sym (flat_map-append hit asked (number ∷ []) ∙ ap (λ l. flat_map hit asked ++ l) (append-nil (hit number))));
         }
 
     -- the next page is not sound, or there are no more pages in the tree
@@ -114,24 +109,32 @@ module _ (tree : Place) (region : Region) (bytes : List ℕ) where
     stop-searched few stops.Disk names bad = tt
     stop-searched few stops.Memory names bad = tt
 
+  -- behind what was given before come the points of one page more
+  pub found-more : (es : List Entry) (asked : List ℕ) (number : ℕ)
+      → (es ++ found_in tree region bytes asked) ++ hits region (page_of tree.shape bytes number) ≡ es ++ found_in tree region bytes (asked ++ number ∷ [])
+  found-more es asked number =
+      let hit : ℕ → List Entry = λ n. hits region (page_of tree.shape bytes n) in
+      append_assoc es (flat_map hit asked) (hit number)
+      ∙ ap (λ l. es ++ l) (sym (flat_map-append hit asked (number ∷ []) ∙ ap (λ l. flat_map hit asked ++ l) (append-nil (hit number))))
+
   -- no page is left
-  module _ (asked : List ℕ) (found : List Entry) (ahead : List ℕ) (none : ahead ≡ []) (so_far : IsUnderway asked found ahead) where
-    all-asked : visits tree region bytes ≡ asked
+  module _ (asked : List ℕ) (ahead : List ℕ) (none : ahead ≡ []) (so_far : IsUnderway asked ahead) where
+    pub all-asked : visits tree region bytes ≡ asked
     all-asked = so_far.split ∙ (ap (λ l. asked ++ flat_map down (reverse l)) none ∙ append-nil asked)
 
-    pub finished : length asked ≤ tree.pages → IsAnswer tree region bytes found
+    pub finished : length asked ≤ tree.pages → IsAnswer tree region bytes (found_in tree region bytes (visits tree region bytes))
     finished few = record {
       sound = subst (All (IsSound tree bytes)) (sym all-asked) so_far.sound;
       few = omega (arith, few, ap length all-asked);
-      points = so_far.points ∙ ap (found_in tree region bytes) (sym all-asked);
+      points = refl;
     }
 
-  pub asked-few : (asked : List ℕ) (found : List Entry) (ahead : List ℕ) → IsUnderway asked found ahead → length asked ≤ length (visits tree region bytes)
-  asked-few asked found ahead so_far = omega (arith, ap length so_far.split, length-append asked (flat_map down (reverse ahead)))
+  pub asked-few : (asked : List ℕ) (ahead : List ℕ) → IsUnderway asked ahead → length asked ≤ length (visits tree region bytes)
+  asked-few asked ahead so_far = omega (arith, ap length so_far.split, length-append asked (flat_map down (reverse ahead)))
 
   -- what is answered is this stop
-  pub answered : (stop : SearchStop) (result : Result (List Entry) SearchStop) → IsErrAnd result (λ told. told ≡ stop) → IsSearched tree region bytes (Err stop) → IsSearched tree region bytes result
-  answered stop (Ok found) is searched = absurd is
+  pub answered : (stop : SearchStop) (result : Result (Unit {0}) SearchStop) → IsErrAnd result (λ told. told ≡ stop) → IsSearched tree region bytes (Err stop) → IsSearched tree region bytes result
+  answered stop (Ok done) is searched = absurd is
   answered stop (Err told) is searched = subst (λ (s : SearchStop). IsSearched tree region bytes (Err s)) (sym is) searched
 
 -- damage at a page of the tree

@@ -33,11 +33,12 @@ module _ (tree : Place) (bytes : List ℕ) (number : ℕ) (page : List ℕ) (is 
     leaf-is : page_of tree.shape bytes number ≡ Leaf (entries tree.shape.measures page)
     leaf-is = page-is ∙ ap (held tree.shape page) node
 
-    pub leaf-visited : (region : Region) (found more : List Entry) (ahead : List ℕ) → more ≡ found ++ filter (is_inside region) (entries tree.shape.measures page)
-        → IsVisited tree region bytes number found more ahead ahead
-    leaf-visited region found more ahead finds = record {
+    pub leaf-hits : (region : Region) → filter (is_inside region) (entries tree.shape.measures page) ≡ hits region (page_of tree.shape bytes number)
+    leaf-hits region = ap (hits region) (sym leaf-is)
+
+    pub leaf-visited : (region : Region) (ahead : List ℕ) → IsVisited tree region bytes number ahead ahead
+    leaf-visited region ahead = record {
       sound = sound (subst (λ (p : PointPage). All (λ (c : Child). tree.first ≤ c.page) (children_in p)) (sym leaf-is) (All-nil (λ (c : Child). tree.first ≤ c.page)));
-      finds = finds ∙ ap (λ p. found ++ hits region p) (sym leaf-is);
       goes_on = ap (λ p. below region p ++ reverse ahead) (sym leaf-is);
     }
 
@@ -45,11 +46,14 @@ module _ (tree : Place) (bytes : List ℕ) (number : ℕ) (page : List ℕ) (is 
     inner-is : page_of tree.shape bytes number ≡ Inner (children page)
     inner-is = page-is ∙ ap (held tree.shape page) node
 
-    pub inner-visited : (region : Region) (found : List Entry) (ahead next : List ℕ) → All (λ (c : Child). tree.first ≤ c.page) (children page) → reverse next ≡ met region (children page) ++ reverse ahead
-        → IsVisited tree region bytes number found found ahead next
-    inner-visited region found ahead next all goes_on = record {
+    -- an inner page has no points
+    pub inner-hits : (region : Region) (es : List Entry) → es ≡ es ++ hits region (page_of tree.shape bytes number)
+    inner-hits region es = sym (append-nil es) ∙ ap (λ p. es ++ hits region p) (sym inner-is)
+
+    pub inner-visited : (region : Region) (ahead next : List ℕ) → All (λ (c : Child). tree.first ≤ c.page) (children page) → reverse next ≡ met region (children page) ++ reverse ahead
+        → IsVisited tree region bytes number ahead next
+    inner-visited region ahead next all goes_on = record {
       sound = sound (subst (λ (p : PointPage). All (λ (c : Child). tree.first ≤ c.page) (children_in p)) (sym inner-is) all);
-      finds = sym (append-nil found) ∙ ap (λ p. found ++ hits region p) (sym inner-is);
       goes_on = goes_on ∙ ap (λ p. below region p ++ reverse ahead) (sym inner-is);
     }
 

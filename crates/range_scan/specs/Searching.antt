@@ -1,16 +1,13 @@
 -- What a search of a tree answers, whatever the file holds.
 use Rattle.std.specs.Prelude.{◌≡◌, ℕ, ◌+◌, ◌*◌, ◌<◌, ◌≤◌, List, [], ◌∷◌, ◌++◌, length, Result, Ok, Err, IsOk}
 use Rattle.std.specs.List.{All}
-use Rattle.cube_point.specs.Boxes.{IsInside}
 use Rattle.cube_point.specs.declared.bounds.Region.{Region}
 use Rattle.cube_point.specs.declared.point.Entry.{Entry}
-use Rattle.cube_point.specs.declared.point.Shape.{Shape}
 use Rattle.packing.specs.Tree.{Leaf, Inner}
 use Rattle.page_fmt.specs.declared.page.Child.{Child}
 use Rattle.page_fmt.specs.declared.page.Place.{Place}
 use Rattle.page_fmt.specs.declared.page.TheConstants.{PAGE}
 use Rattle.page_fmt.specs.Taking.{taken}
-use Rattle.page_fmt.specs.Writing.{FitsLeaf}
 use Rattle.tree_pack.specs.Pages.{PointPage}
 use Rattle.page_fmt.specs.InFiles.{page_at}
 use Rattle.range_scan.specs.Visits.{found_in, page_of, visits}
@@ -43,14 +40,9 @@ pub record IsFirstBad (tree : Place) (region : Region) (bytes : List ℕ) (numbe
   pub few : length before ≤ tree.pages
   pub bad : length before < tree.pages → IsSound tree bytes number → ⊥
 
--- the point lies in the region, and is one that a leaf may hold
-pub record IsHit (shape : Shape) (region : Region) (e : Entry) : Type 0 where
-  pub inside : IsInside e.point region
-  pub good : FitsLeaf shape e
-
--- the points found, or the first page that is bad
-abbrev pub IsSearched : Place → Region → List ℕ → Result (List Entry) SearchStop → Type 0
-IsSearched tree region bytes (Ok found) = IsAnswer tree region bytes found
+-- all pages that the search goes to are sound, and their points in the region are found; or the first page that is bad
+abbrev pub IsSearched : Place → Region → List ℕ → Result (Unit {0}) SearchStop → Type 0
+IsSearched tree region bytes (Ok done) = IsAnswer tree region bytes (found_in tree region bytes (visits tree region bytes))
 IsSearched tree region bytes (Err (stops.Damaged page)) = IsFirstBad tree region bytes page
 IsSearched tree region bytes (Err stops.Disk) = Unit {0}
 IsSearched tree region bytes (Err stops.Memory) = Unit {0}

@@ -2,9 +2,8 @@
 use Rattle.std.specs.Prelude.{◌≡◌, ℕ, ◌+◌, ◌<◌, ◌≤◌, List, ◌++◌, reverse}
 use Rattle.std.specs.List.{All}
 use Rattle.cube_point.specs.declared.bounds.Region.{Region}
-use Rattle.cube_point.specs.declared.point.Entry.{Entry}
 use Rattle.page_fmt.specs.declared.page.Place.{Place}
-use Rattle.range_scan.specs.Visits.{below, hits, page_of}
+use Rattle.range_scan.specs.Visits.{below, page_of}
 use Rattle.range_scan.specs.Searching.{IsSound}
 use Rattle.range_scan.specs.declared.walk.SearchStop.{SearchStop}
 use Rattle.range_scan.specs.declared.walk.SearchStop.TheVariants as stops
@@ -13,10 +12,9 @@ use Rattle.range_scan.specs.declared.walk.SearchStop.TheVariants as stops
 abbrev pub AreAhead : Place → List ℕ → Type 0
 AreAhead tree ahead = All (λ number. (tree.first ≤ number) × (number < tree.first + tree.pages)) ahead
 
--- after a page its points in the region are found, and the pages below it come next, the last of the list first
-pub record IsVisited (tree : Place) (region : Region) (bytes : List ℕ) (number : ℕ) (found more : List Entry) (ahead next : List ℕ) : Type 0 where
+-- the page is sound, and after it the pages below it come next, the last of the list first
+pub record IsVisited (tree : Place) (region : Region) (bytes : List ℕ) (number : ℕ) (ahead next : List ℕ) : Type 0 where
   pub sound : IsSound tree bytes number
-  pub finds : more ≡ found ++ hits region (page_of tree.shape bytes number)
   pub goes_on : reverse next ≡ below region (page_of tree.shape bytes number) ++ reverse ahead
 
 -- damage that is told is that the page is not sound

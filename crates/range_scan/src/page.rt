@@ -1,42 +1,39 @@
 //! What a search takes from one page.
 
-ghost use Rattle.std.specs.Prelude.{◌≡◌, ◌↔◌, ◌<◌, ◌≤◌, ◌+◌, ◌++◌, IsTrue, OnOk, IfOk, filter, length, reverse};
+ghost use Rattle.std.specs.Prelude.{◌≡◌, ◌↔◌, ◌<◌, ◌≤◌, ◌+◌, ◌++◌, IsTrue, List, OnOk, IfOk, filter, length, reverse};
 ghost use Rattle.std.specs.List.{All};
+ghost use Rattle.cube_point.specs.declared.point.Entry as points;
 ghost use Rattle.page_fmt.specs.declared.page.Child.{Child};
 ghost use Rattle.page_fmt.specs.Lawful.{HasChildren, HasEntries};
 ghost use Rattle.page_fmt.specs.Taking.{children, entries, page_count};
-ghost use Rattle.page_fmt.specs.Writing.{FitsLeaf};
 ghost use Rattle.range_scan.specs.Meeting.{is_inside};
-ghost use Rattle.range_scan.specs.Searching.{IsHit};
 ghost use Rattle.range_scan.specs.Steps.{AreAhead};
 ghost use Rattle.range_scan.specs.Visits.{met};
 
 use crate::walk::Query;
-use cube_point::{Entry, inside, meets};
+use cube_point::{inside, meets};
 use fact_model::Memory;
 use page_fmt::{PAGE, inner_entry, leaf_entry};
+use point_taker::Taker;
 
-/// Puts the points of a leaf that lie in the region behind the others.
-pub(crate) fn take_points(
+/// Gives the points of a leaf that lie in the region to the taker.
+pub(crate) fn take_points<G: Taker>(
     page: &[u8; PAGE],
     query: &Query<'_>,
     count: u16,
-    found: &mut Vec<Entry>,
+    taker: &mut G,
 ) -> Result<(), Memory>
     requires page { HasEntries query.now.tree.now.shape page.now }
     requires said { count ≡ page_count page.now }
     requires count { count ≡ length (entries query.now.tree.now.shape.measures page.now) }
-    requires good { All (FitsLeaf query.now.tree.now.shape) (entries query.now.tree.now.shape.measures page.now) }
-    requires hits { All (IsHit query.now.tree.now.shape query.now.region.now) found.old.items }
 
-    ensures finds { OnOk result (found.new.items
-        ≡ found.old.items ++ filter (is_inside query.now.region.now) (entries query.now.tree.now.shape.measures page.now)) }
-    ensures hits { OnOk result (All (IsHit query.now.tree.now.shape query.now.region.now) found.new.items) }
+    ensures { (start : G) (es : List points.Entry) → G.was_given start es taker.old → OnOk result (G.was_given start
+        (es ++ filter (is_inside query.now.region.now) (entries query.now.tree.now.shape.measures page.now)) taker.new) }
 {
     for index in 0..count as usize {
         let entry = leaf_entry(page, &query.tree.shape, index);
         if inside(&entry.point, query.region) {
-            found.push(entry)?;
+            taker.take(entry)?;
         }
     }
     Ok(())

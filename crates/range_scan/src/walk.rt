@@ -1,6 +1,6 @@
 //! The search: from the top page down to each child whose box meets the region, from left to right.
 
-ghost use Rattle.std.specs.Prelude.{◌≡◌, ◌<◌, ◌≤◌, ◌+◌, ◌^◌, IsTrue, IfOk, IfErr, OnOk, List, filter, length, nat_eq};
+ghost use Rattle.std.specs.Prelude.{◌≡◌, ◌<◌, ◌≤◌, ◌+◌, ◌^◌, IsTrue, IfOk, IfErr, OnOk, List, ◌++◌, filter, length, nat_eq};
 ghost use Rattle.std.specs.List.{All, IsDistinct};
 ghost use Rattle.site_core.specs.Causes.{HasCauseWhere};
 ghost use Rattle.site_core.specs.Frames.{LooksOnly};
@@ -8,15 +8,16 @@ ghost use Rattle.cube_point.specs.declared.point.Entry as entries;
 ghost use Rattle.page_fmt.specs.Writing.{IsShape};
 ghost use Rattle.range_scan.specs.Meeting.{is_inside};
 ghost use Rattle.range_scan.specs.Packed.{HoldsTree, IsUndamaged};
-ghost use Rattle.range_scan.specs.Searching.{IsHit, IsSearched, NamesPage};
+ghost use Rattle.range_scan.specs.Searching.{IsSearched, NamesPage};
 ghost use Rattle.range_scan.specs.Steps.{AreAhead, ExplainsStop, IsVisited};
-ghost use Rattle.range_scan.specs.Visits.{top_page, visits};
+ghost use Rattle.range_scan.specs.Visits.{found_in, hits, page_of, top_page, visits};
 
 use crate::page::{take_children, take_points};
-use cube_point::{Entry, EntryList, Region};
-use fact_model::{ListOf, Memory};
+use cube_point::Region;
+use fact_model::Memory;
 use page_cache::{CacheStop, Pages};
 use page_fmt::{Node, Place, take_page};
+use point_taker::Taker;
 use site_core::Site;
 use std::alloc::Global;
 
@@ -42,39 +43,36 @@ pub(crate) struct Query<'a> {
     pub(crate) region: &'a Region,
 }
 
-/// How far a search has come.
-#[derive(Drop)]
-struct Progress {
-    found: Vec<Entry>,
-    // The pages that are still to be visited, the next one last.
-    ahead: Vec<u64>,
-}
-
-/// The points of a tree inside a region, in the order of its leaves, which in a packed tree is point order. It reads the top
-/// page, and each page whose box and all boxes above it meet the region. Nothing is changed, also after an error.
+/// Gives the points of a tree inside a region to a taker, in the order of its leaves, which in a packed tree is point order. It reads
+/// the top page, and each page whose box and all boxes above it meet the region. No file is changed, also after an error.
 ///
 /// `Damaged` names the first of these pages that is short or not lawful, or has a child before the tree's first page; or the
 /// first that is one more than the tree has.
-pub fn search<T: Site>(
+pub fn search<T: Site, G: Taker>(
     alloc: Global,
     site: &mut T,
     pages: &mut Pages,
     tree: &Place,
     region: &Region,
-) -> Result<EntryList, SearchStop>
+    taker: &mut G,
+) -> Result<(), SearchStop>
     requires file { tree.now.file < 4 }
     requires shape { IsShape tree.now.shape }
     requires few { tree.now.first + tree.now.pages ≤ 2 ^ 50 }
 
     ensures searched { IsTrue T.tells
         → IsSearched tree.now region.now ((T.disk site.old).files tree.now.file) result }
+    ensures gives { IsTrue T.tells → (start : G) (es : List entries.Entry) → G.was_given start es taker.old
+        → OnOk result (G.was_given start (es ++ found_in tree.now region.now ((T.disk site.old).files tree.now.file)
+        (visits tree.now region.now ((T.disk site.old).files tree.now.file))) taker.new) }
     ensures visits { IsTrue T.tells
         → T.reads site.new ≤ T.reads site.old + length (visits tree.now region.now ((T.disk site.old).files tree.now.file)) }
 
     // A packed tree.
     ensures points { IsTrue T.tells → (points : List entries.Entry)
         → HoldsTree tree.now ((T.disk site.old).files tree.now.file) points
-        → IfOk result (λ found. found ≡ filter (is_inside region.now) points) }
+        → (start : G) (es : List entries.Entry) → G.was_given start es taker.old
+        → OnOk result (G.was_given start (es ++ filter (is_inside region.now) points) taker.new) }
     ensures undamaged { IsTrue T.tells → (points : List entries.Entry)
         → HoldsTree tree.now ((T.disk site.old).files tree.now.file) points → IfErr result IsUndamaged }
     ensures once { IsTrue T.tells → (points : List entries.Entry)
@@ -82,47 +80,47 @@ pub fn search<T: Site>(
         → IsDistinct nat_eq (visits tree.now region.now ((T.disk site.old).files tree.now.file)) }
 
     // Whatever the file holds.
-    ensures hits { IfOk result (All (IsHit tree.now.shape region.now)) }
     ensures page { IfErr result (NamesPage tree.now.first tree.now.pages) }
     ensures cache { pages.new ≡ pages.old }
     ensures looks { LooksOnly T.Site (HasCauseWhere SearchStop.Disk) tree.now.pages site.old site.new result }
 {
-    walk(alloc, site, pages, &Query { tree, region })
+    walk(alloc, site, pages, &Query { tree, region }, taker)
 }
 
 /// Visits the pages of the search one after another.
-fn walk<T: Site>(
+fn walk<T: Site, G: Taker>(
     alloc: Global,
     site: &mut T,
     pages: &mut Pages,
     query: &Query<'_>,
-) -> Result<EntryList, SearchStop>
+    taker: &mut G,
+) -> Result<(), SearchStop>
     requires file { query.now.tree.now.file < 4 }
     requires shape { IsShape query.now.tree.now.shape }
     requires few { query.now.tree.now.first + query.now.tree.now.pages ≤ 2 ^ 50 }
 
     ensures searched { IsTrue T.tells → IsSearched query.now.tree.now query.now.region.now
         ((T.disk site.old).files query.now.tree.now.file) result }
+    ensures gives { IsTrue T.tells → (start : G) (es : List entries.Entry) → G.was_given start es taker.old
+        → OnOk result (G.was_given start (es ++ found_in query.now.tree.now query.now.region.now ((T.disk site.old).files query.now.tree.now.file)
+        (visits query.now.tree.now query.now.region.now ((T.disk site.old).files query.now.tree.now.file))) taker.new) }
     ensures visits { IsTrue T.tells → T.reads site.new ≤ T.reads site.old
         + length (visits query.now.tree.now query.now.region.now ((T.disk site.old).files query.now.tree.now.file)) }
-    ensures hits { IfOk result (All (IsHit query.now.tree.now.shape query.now.region.now)) }
     ensures page { IfErr result (NamesPage query.now.tree.now.first query.now.tree.now.pages) }
     ensures cache { pages.new ≡ pages.old }
     ensures looks { LooksOnly T.Site (HasCauseWhere SearchStop.Disk) query.now.tree.now.pages site.old site.new result }
 {
-    let mut walk = Progress {
-        found: Vec::new(alloc),
-        ahead: top_page(alloc, query.tree)?,
-    };
+    // The pages that are still to be visited, the next one last.
+    let mut ahead = top_page(alloc, query.tree)?;
     // A packed tree has no more ways than pages.
     for _ in 0..query.tree.pages {
-        match walk.ahead.pop() {
-            None => return Ok(ListOf::from_vec(walk.found)),
-            Some(number) => visit(site, pages, query, number, &mut walk)?,
+        match ahead.pop() {
+            None => return Ok(()),
+            Some(number) => visit(site, pages, query, number, &mut ahead, taker)?,
         }
     }
-    match walk.ahead.pop() {
-        None => Ok(ListOf::from_vec(walk.found)),
+    match ahead.pop() {
+        None => Ok(()),
         Some(page) => Err(SearchStop::Damaged { page }),
     }
 }
@@ -140,28 +138,29 @@ fn top_page(alloc: Global, tree: &Place) -> Result<Vec<u64>, Memory>
 }
 
 /// Takes the points or the children of the page with this number.
-fn visit<T: Site>(
+fn visit<T: Site, G: Taker>(
     site: &mut T,
     pages: &mut Pages,
     query: &Query<'_>,
     number: u64,
-    walk: &mut Progress,
+    ahead: &mut Vec<u64>,
+    taker: &mut G,
 ) -> Result<(), SearchStop>
     requires file { query.now.tree.now.file < 4 }
     requires shape { IsShape query.now.tree.now.shape }
     requires few { query.now.tree.now.first + query.now.tree.now.pages ≤ 2 ^ 50 }
     requires from { query.now.tree.now.first ≤ number }
     requires within { number < query.now.tree.now.first + query.now.tree.now.pages }
-    requires ahead { AreAhead query.now.tree.now walk.old.ahead.items }
-    requires hits { All (IsHit query.now.tree.now.shape query.now.region.now) walk.old.found.items }
+    requires ahead { AreAhead query.now.tree.now ahead.old.items }
 
     ensures visited { IsTrue T.tells → OnOk result (IsVisited query.now.tree.now query.now.region.now
-        ((T.disk site.old).files query.now.tree.now.file) number
-        walk.old.found.items walk.new.found.items walk.old.ahead.items walk.new.ahead.items) }
+        ((T.disk site.old).files query.now.tree.now.file) number ahead.old.items ahead.new.items) }
+    ensures gives { IsTrue T.tells → (start : G) (es : List entries.Entry) → G.was_given start es taker.old
+        → OnOk result (G.was_given start (es ++ hits query.now.region.now (page_of query.now.tree.now.shape
+        ((T.disk site.old).files query.now.tree.now.file) number)) taker.new) }
     ensures stop { IsTrue T.tells
         → IfErr result (ExplainsStop query.now.tree.now ((T.disk site.old).files query.now.tree.now.file) number) }
-    ensures ahead { OnOk result (AreAhead query.now.tree.now walk.new.ahead.items) }
-    ensures hits { OnOk result (All (IsHit query.now.tree.now.shape query.now.region.now) walk.new.found.items) }
+    ensures ahead { OnOk result (AreAhead query.now.tree.now ahead.new.items) }
     ensures names { IfErr result (NamesPage number 1) }
     ensures cache { pages.new ≡ pages.old }
     ensures looks { LooksOnly T.Site (HasCauseWhere SearchStop.Disk) 1 site.old site.new result }
@@ -176,8 +175,8 @@ fn visit<T: Site>(
         return Err(SearchStop::Damaged { page: number });
     };
     if head.node == Node::Leaf {
-        take_points(page, query, head.count, &mut walk.found)?;
-    } else if !take_children(page, query, head.count, &mut walk.ahead)? {
+        take_points(page, query, head.count, taker)?;
+    } else if !take_children(page, query, head.count, ahead)? {
         return Err(SearchStop::Damaged { page: number });
     }
     Ok(())

@@ -22,7 +22,7 @@ use page_cache::Pages;
 use site_core::{SIDES, Site};
 use std::alloc::Global;
 use view_route::route;
-use view_rows::{RowsStop, rows_by};
+use view_rows::{Groups, RowsStop};
 
 /// The rows of a slice: one for each group of the accepted facts that meet its conditions, ascending by key. They are made from the
 /// points of a covering view with fewest points, and of its tree only those pages are read whose boxes meet the conditions. Nothing is
@@ -94,9 +94,10 @@ fn answer_from<T: Site>(
     ensures cache { pages.new ≡ pages.old }
     ensures looks { LooksOnly T.Site (HasCauseWhere AnswerStop.Disk) ((tree_of_view store.now view).pages) site.old site.new result }
 {
-    let points = find(alloc, site, pages, store, slice, view)?;
     let attrs = store.forest.schema.views.as_slice()[view as usize].as_slice();
-    match rows_by(alloc, &store.dicts, attrs, slice, points.as_slice()) {
+    let mut groups = Groups::new(alloc, attrs, slice.group.as_slice());
+    find(alloc, site, pages, store, slice, view, &mut groups)?;
+    match groups.rows(alloc, &store.dicts, attrs, slice) {
         Ok(rows) => Ok(rows),
         Err(RowsStop::Damaged) => Err(bad_side(&store.forest)),
         Err(RowsStop::Memory) => Err(AnswerStop::Memory),

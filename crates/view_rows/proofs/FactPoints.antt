@@ -40,7 +40,7 @@ use Rattle.attr_dict.specs.Admitting.{Agrees}
 use Rattle.attr_dict.specs.Book.{Book, kind_at, names_at, value_of}
 use Rattle.view_points.specs.Light.{IsLight, KeepMasses}
 use Rattle.view_points.proofs.Light.{light-fits, light-join}
-use Rattle.view_rows.specs.Grouped.{AllJoin, AllJoinTo, Answers, AreSound, cells_of, group_key, has_values, key_of_entry, points_inside, rows_from}
+use Rattle.view_rows.specs.Grouped.{AllJoin, AllJoinTo, Answers, cells_of, group_key, has_values, key_of_entry, points_inside, rows_from}
 use Rattle.view_rows.specs.Regions.{is_word}
 use Rattle.view_rows.proofs.GroupKeys.{every-group}
 use Rattle.view_rows.proofs.CodedValues.{code-is, value-told}
@@ -124,7 +124,7 @@ module _ (b : Book) where
         each (e ∷ ps) stand =
             (list_all-every (λ a. is_some (value_of b a (coordinate view e.0 a))) group (values-known group e.0 members stand.0), each ps stand.1)
 
-pairs-back : (ps : List PlacedCell) → map pair_of (map entry_of ps) ≡ ps
+pub pairs-back : (ps : List PlacedCell) → map pair_of (map entry_of ps) ≡ ps
 pairs-back [] = refl
 pairs-back (e ∷ ps) = ap (λ es. e ∷ es) (pairs-back ps)
 
@@ -146,19 +146,19 @@ module _ (n : ℕ) where
       let both : PlacedCell = (e.0, join e.1 d.1) in
       (record { measures = light.same.0 ∙ sym light.same.1.0; fit = light-fits n e d es light }, all-joins both es (light-join n e d both es light refl))
 
-  light-joins : (es : List PlacedCell) → IsLight n es → AllJoin (map (λ (e : PlacedCell). e.1) es)
+  pub light-joins : (es : List PlacedCell) → IsLight n es → AllJoin (map (λ (e : PlacedCell). e.1) es)
   light-joins [] light = tt
   light-joins (e ∷ es) light = all-joins e es light
 
   -- some of light cells are light
-  light-filter : (p : PlacedCell → Bool) (es : List PlacedCell) → IsLight n es → IsLight n (filter p es)
+  pub light-filter : (p : PlacedCell → Bool) (es : List PlacedCell) → IsLight n es → IsLight n (filter p es)
   light-filter p es light = record {
     masses = λ m low. omega (arith, weight-filter (size_at m) p es, light.masses m low);
     count = omega (arith, weight-filter count_in p es, light.count);
     same = every-filter (λ (e : PlacedCell). e.1.measures ≡ n) p es light.same;
   }
 
-  points-light : (names : Names) (view : View) (facts : List Fact) → KeepMasses facts → length facts < 2 ^ 64 → IsLight n (points_by names n view facts)
+  pub points-light : (names : Names) (view : View) (facts : List Fact) → KeepMasses facts → length facts < 2 ^ 64 → IsLight n (points_by names n view facts)
   points-light names view facts masses few = record {
     masses = λ m low. omega (arith, points-mass names n view facts m low, masses m low);
     count = omega (arith, counts-all names n view facts);
@@ -189,10 +189,10 @@ cells-back b view group k (e ∷ ps) =
 -- ---- points of facts in the region of a slice
 
 module _ (b : Book) (view : View) (s : Slice) (n : ℕ) (facts : List Fact) (are : Answers b view s facts) where
-  abbrev test : PlacedCell → Bool
+  abbrev pub test : PlacedCell → Bool
   test e = inside (region (names_at b) s.conds view) e.0
 
-  abbrev kept : List PlacedCell
+  abbrev pub kept : List PlacedCell
   kept = filter test (points_by (names_at b) n view facts)
 
   members : AllByRecursion (λ a. among view a ≡ true) s.group
@@ -216,12 +216,10 @@ module _ (b : Book) (view : View) (s : Slice) (n : ℕ) (facts : List Fact) (are
       ∙ (ap (map (row_from s.columns)) (groups-same own theirs kept same)
       ∙ answer-rows (is_word b) (names_at b) n view s are.slice are.covers facts are.known (facts-kinds b facts are.agree) (facts-ranges b few facts are.agree))
 
-  -- they are sound
-  pub sound-facts : KeepMasses facts → length facts < 2 ^ 64 → AreSound b view s.group (points_inside b n view s facts)
-  sound-facts masses few = record {
-    values = entries-known b view s.group kept members stand;
-    cells = λ k. subst AllJoin (sym (cells-back b view s.group k kept))
-        (light-joins n (filter (λ (e : PlacedCell). is key_cmp k (group_key b view s.group e.0)) kept)
-        (light-filter n (λ (e : PlacedCell). is key_cmp k (group_key b view s.group e.0)) kept
-        (light-filter n test (points_by (names_at b) n view facts) (points-light n (names_at b) view facts masses few))));
-  }
+  -- they are light
+  pub inside-light : KeepMasses facts → length facts < 2 ^ 64 → IsLight n kept
+  inside-light masses few = light-filter n test (points_by (names_at b) n view facts) (points-light n (names_at b) view facts masses few)
+
+  -- their grouped coordinates stand for values
+  pub inside-known : list_all (has_values b view s.group) (points_inside b n view s facts) ≡ true
+  inside-known = entries-known b view s.group kept members stand

@@ -1,2 +1,6 @@
+pub mod Folded
 pub mod Grouped
+pub mod Held
+pub mod Kept
 pub mod Regions
+pub mod Sound

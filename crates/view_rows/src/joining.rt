@@ -85,7 +85,7 @@ fn join_equal(
 }
 
 /// Joins the cell of the next point to that of the last one, where they join.
-fn take_in(last: &mut Entry, next: &Entry) -> Result<(), RowsStop>
+pub(crate) fn take_in(last: &mut Entry, next: &Entry) -> Result<(), RowsStop>
     ensures joined { OnOk result (last.new ≡ both last.old next.now) }
     ensures joins { OnOk result (Joins last.old.cell next.now.cell) }
     ensures stop { IfErr result (λ stop. stop ≡ stops.Damaged) }

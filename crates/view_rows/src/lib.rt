@@ -1,13 +1,17 @@
 //! The rows of slices from the points of a view, and the region in which these points lie.
 #![tactic(auto)]
 
+mod gathering;
 mod grouped;
+mod groups;
+mod indexing;
 mod joining;
+mod kept;
 mod keys;
 mod regions;
 mod rows;
 mod stop;
 
-pub use grouped::rows_by;
+pub use groups::Groups;
 pub use regions::region;
 pub use stop::RowsStop;

@@ -1,7 +1,7 @@
-use Rattle.std.proofs.Common.{rules, ◌≡◌, sym, ◌∙◌}
+use Rattle.std.proofs.Common.{rules, ◌≡◌, ◌++◌, sym, ◌∙◌, subst}
 use Rattle.std.proofs.lemmas.Bool.{true≢false}
 use Rattle.page_fmt.specs.declared.page.Node.TheVariants as nodes
-use Rattle.range_scan.proofs.Visiting.{inner-unsound, inner-visited, leaf-visited}
+use Rattle.range_scan.proofs.Visiting.{inner-hits, inner-unsound, inner-visited, leaf-hits, leaf-visited}
 use Rattle.range_scan.proofs.walk.visit.Goals as goal
 
 pub returns-then-not-branch-clause-stop : goal.returns-then-not-branch-clause-stop
@@ -14,11 +14,27 @@ pub returns-in_ok-take_points-clause-visited : goal.returns-in_ok-take_points-cl
 returns-in_ok-take_points-clause-visited g c = λ tells.
     let node : c.in-Ok-take_page.head.node ≡ nodes.Leaf = search rules in
     leaf-visited c.args.query.now.tree.now ((g.T.Site.disk c.args.site.now).files c.args.query.now.tree.now.file) c.args.number c.in-Ok.page.now (c.in-Ok.ensures.page tells) c.in-Ok-take_page.head c.in-Ok-take_page.ensures.exact node
-    c.args.query.now.region.now c.args.walk.now.found.items c.take_points.new.found.items c.args.walk.now.ahead.items c.in_ok-take_points.ensures.finds
+    c.args.query.now.region.now c.args.ahead.now.items
+
+pub returns-in_ok-take_points-clause-gives : goal.returns-in_ok-take_points-clause-gives
+returns-in_ok-take_points-clause-gives g c = λ tells start es given.
+    let node : c.in-Ok-take_page.head.node ≡ nodes.Leaf = search rules in
+    subst (λ l. g.G.Taker.was_given start (es ++ l) c.take_points.new.taker)
+    (leaf-hits c.args.query.now.tree.now ((g.T.Site.disk c.args.site.now).files c.args.query.now.tree.now.file) c.args.number c.in-Ok.page.now (c.in-Ok.ensures.page tells) c.in-Ok-take_page.head c.in-Ok-take_page.ensures.exact node
+    c.args.query.now.region.now)
+    (c.in_ok-take_points.ensures start es given)
 
 pub returns-else-not-branch-clause-visited : goal.returns-else-not-branch-clause-visited
 returns-else-not-branch-clause-visited g c = λ tells.
     let node : c.in-Ok-take_page.head.node ≡ nodes.Inner = search rules in
     inner-visited c.args.query.now.tree.now ((g.T.Site.disk c.args.site.now).files c.args.query.now.tree.now.file) c.args.number c.in-Ok.page.now (c.in-Ok.ensures.page tells) c.in-Ok-take_page.head c.in-Ok-take_page.ensures.exact node
-    c.args.query.now.region.now c.args.walk.now.found.items c.args.walk.now.ahead.items c.take_children.new.ahead.items
+    c.args.query.now.region.now c.args.ahead.now.items c.take_children.new.ahead.items
     (c.in_ok-take_children.ensures.within.0 c.if-not-branch.false) (c.in_ok-take_children.ensures.goes_on c.if-not-branch.false)
+
+pub returns-else-not-branch-clause-gives : goal.returns-else-not-branch-clause-gives
+returns-else-not-branch-clause-gives g c = λ tells start es given.
+    let node : c.in-Ok-take_page.head.node ≡ nodes.Inner = search rules in
+    subst (λ l. g.G.Taker.was_given start l c.args.taker.now)
+    (inner-hits c.args.query.now.tree.now ((g.T.Site.disk c.args.site.now).files c.args.query.now.tree.now.file) c.args.number c.in-Ok.page.now (c.in-Ok.ensures.page tells) c.in-Ok-take_page.head c.in-Ok-take_page.ensures.exact node
+    c.args.query.now.region.now es)
+    given

@@ -1,23 +1,25 @@
-use Rattle.std.proofs.Common.{◌++◌, ◌∙◌, [], ◌∷◌, refl, sym, subst, arith}
-use Rattle.std.specs.List.{All}
+use Rattle.std.proofs.Common.{◌++◌, ◌∙◌, [], ◌∷◌, append-nil, refl, sym, subst, arith}
 use Rattle.std.proofs.lemmas.List.{length_push}
-use Rattle.std.proofs.lemmas.List.Elements.{All-nil}
 use Rattle.site_core.specs.Calls.{Stays}
 use Rattle.site_core.specs.Disk.{Files}
 use Rattle.site_core.proofs.Run.{Changes-refl, Rests-then}
-use Rattle.range_scan.specs.Searching.{IsHit}
 use Rattle.range_scan.specs.Steps.{ExplainsStop, IsVisited}
+use Rattle.range_scan.specs.Visits.{found_in, hits, page_of}
 use Rattle.range_scan.proofs.Lists.{ahead-next, top-ahead}
-use Rattle.range_scan.proofs.Underway.{answered, more-asked, named, one-more, starts, stop-searched}
+use Rattle.range_scan.proofs.Underway.{answered, found-more, more-asked, named, one-more, starts, stop-searched}
 use Rattle.range_scan.proofs.walk.walk.Goals as goal
 
 pub loop-init : goal.loop-init
 loop-init g c =
     let tree = c.args.query.now.tree.now in
     record {
-      so_far = λ tells. ([], refl, starts tree c.args.query.now.region.now ((g.T.Site.disk c.args.site.now).files tree.file) c.new.result.items c.in_ok-top_page.field-0.items c.new.ensures.items c.in_ok-top_page.ensures);
-      hits = subst (All (IsHit tree.shape c.args.query.now.region.now)) (sym c.new.ensures.items) (All-nil (IsHit tree.shape c.args.query.now.region.now));
-      ahead = top-ahead tree c.in_ok-top_page.field-0.items c.in_ok-top_page.ensures;
+      so_far = λ tells. (
+        [],
+        refl,
+        starts tree c.args.query.now.region.now ((g.T.Site.disk c.args.site.now).files tree.file) c.in_ok-ahead.ahead.items c.in_ok-ahead.ensures,
+        λ start es given. subst (λ l. g.G.Taker.was_given start l c.args.taker.now) (sym (append-nil es)) given,
+      );
+      ahead = top-ahead tree c.in_ok-ahead.ahead.items c.in_ok-ahead.ensures;
       cache = refl;
       disk = λ tells. Changes-refl Stays (g.T.Site.disk c.args.site.now) (λ files. refl);
       faults = refl;
@@ -27,10 +29,10 @@ loop-init g c =
     }
 
 pub visit-requires-clause-from : goal.visit-requires-clause-from
-visit-requires-clause-from g c = (ahead-next c.args.query.now.tree.now c.loop.walk.ahead.items c.pop.new.self.items c.in-Some.number c.in-Some.ensures.items c.loop.invariant.ahead).0
+visit-requires-clause-from g c = (ahead-next c.args.query.now.tree.now c.loop.ahead.items c.pop.new.self.items c.in-Some.number c.in-Some.ensures.items c.loop.invariant.ahead).0
 
 pub visit-requires-clause-within : goal.visit-requires-clause-within
-visit-requires-clause-within g c = (ahead-next c.args.query.now.tree.now c.loop.walk.ahead.items c.pop.new.self.items c.in-Some.number c.in-Some.ensures.items c.loop.invariant.ahead).1
+visit-requires-clause-within g c = (ahead-next c.args.query.now.tree.now c.loop.ahead.items c.pop.new.self.items c.in-Some.number c.in-Some.ensures.items c.loop.invariant.ahead).1
 
 pub returns-in_err-visit-in-Some-clause-searched : goal.returns-in_err-visit-in-Some-clause-searched
 returns-in_err-visit-in-Some-clause-searched g c = λ tells.
@@ -40,21 +42,21 @@ returns-in_err-visit-in-Some-clause-searched g c = λ tells.
     let so_far = c.loop.invariant.so_far tells in
     let stop = c.in_err-visit-in-Some.field-0.0 in
     answered tree region bytes stop c.from_residual-in_err-visit-in-Some.result c.from_residual-in_err-visit-in-Some.ensures.1
-    (stop-searched tree region bytes so_far.0 c.loop.walk.found.items c.loop.walk.ahead.items c.pop.new.self.items c.in-Some.number c.in-Some.ensures.items so_far.2
+    (stop-searched tree region bytes so_far.0 c.loop.ahead.items c.pop.new.self.items c.in-Some.number c.in-Some.ensures.items so_far.2
     (omega (arith, so_far.1)) stop c.in_err-visit-in-Some.ensures.names
     (subst (λ (f : Files). ExplainsStop tree (f tree.file) c.in-Some.number stop) (c.loop.invariant.disk tells).files (c.in_err-visit-in-Some.ensures.stop tells)))
 
 pub returns-in_err-visit-in-Some-clause-page : goal.returns-in_err-visit-in-Some-clause-page
 returns-in_err-visit-in-Some-clause-page g c =
     let tree = c.args.query.now.tree.now in
-    let one = ahead-next tree c.loop.walk.ahead.items c.pop.new.self.items c.in-Some.number c.in-Some.ensures.items c.loop.invariant.ahead in
+    let one = ahead-next tree c.loop.ahead.items c.pop.new.self.items c.in-Some.number c.in-Some.ensures.items c.loop.invariant.ahead in
     named tree.first tree.pages c.in-Some.number c.in_err-visit-in-Some.field-0.0 c.from_residual-in_err-visit-in-Some.result c.from_residual-in_err-visit-in-Some.ensures.1 one.0 one.1 c.in_err-visit-in-Some.ensures.names
 
 pub returns-in_err-visit-in-Some-clause-visits : goal.returns-in_err-visit-in-Some-clause-visits
 returns-in_err-visit-in-Some-clause-visits g c = λ tells.
     let tree = c.args.query.now.tree.now in
     let so_far = c.loop.invariant.so_far tells in
-    let more = more-asked tree c.args.query.now.region.now ((g.T.Site.disk c.args.site.now).files tree.file) so_far.0 c.loop.walk.found.items c.loop.walk.ahead.items c.pop.new.self.items c.in-Some.number c.in-Some.ensures.items so_far.2 in
+    let more = more-asked tree c.args.query.now.region.now ((g.T.Site.disk c.args.site.now).files tree.file) so_far.0 c.loop.ahead.items c.pop.new.self.items c.in-Some.number c.in-Some.ensures.items so_far.2 in
     omega (arith, more, so_far.1, c.in_err-visit-in-Some.ensures.looks.reads, c.loop.invariant.reads)
 
 pub loop-preserved : goal.loop-preserved
@@ -63,14 +65,20 @@ loop-preserved g c =
     let region = c.args.query.now.region.now in
     record {
       so_far = λ tells.
-          let bytes = (g.T.Site.disk c.args.site.now).files tree.file in
+          let files = (g.T.Site.disk c.args.site.now).files in
+          let bytes = files tree.file in
           let so_far = c.loop.invariant.so_far tells in
-          let visited = subst (λ (f : Files). IsVisited tree region (f tree.file) c.in-Some.number c.loop.walk.found.items c.visit.new.walk.found.items c.pop.new.self.items c.visit.new.walk.ahead.items) (c.loop.invariant.disk tells).files (c.in_ok-visit-in-Some.ensures.visited tells) in (
+          let rests = (c.loop.invariant.disk tells).files in
+          let visited = subst (λ (f : Files). IsVisited tree region (f tree.file) c.in-Some.number c.pop.new.self.items c.visit.new.ahead.items) rests (c.in_ok-visit-in-Some.ensures.visited tells) in (
             so_far.0 ++ c.in-Some.number ∷ [],
             omega (arith, so_far.1, length_push so_far.0 c.in-Some.number),
-            one-more tree region bytes so_far.0 c.loop.walk.found.items c.loop.walk.ahead.items c.pop.new.self.items c.in-Some.number c.in-Some.ensures.items so_far.2 c.visit.new.walk.found.items c.visit.new.walk.ahead.items visited,
+            one-more tree region bytes so_far.0 c.loop.ahead.items c.pop.new.self.items c.in-Some.number c.in-Some.ensures.items so_far.2 c.visit.new.ahead.items visited,
+            λ start es given.
+                let before = es ++ found_in tree region bytes so_far.0 in
+                let more = c.in_ok-visit-in-Some.ensures.gives tells start before (so_far.3 start es given) in
+                subst (λ l. g.G.Taker.was_given start l c.visit.new.taker) (found-more tree region bytes es so_far.0 c.in-Some.number)
+                (subst (λ (f : Files). g.G.Taker.was_given start (before ++ hits region (page_of tree.shape (f tree.file) c.in-Some.number)) c.visit.new.taker) rests more),
           );
-      hits = c.in_ok-visit-in-Some.ensures.hits;
       ahead = c.in_ok-visit-in-Some.ensures.ahead;
       cache = c.in_ok-visit-in-Some.ensures.cache ∙ c.loop.invariant.cache;
       disk = λ tells. Rests-then (g.T.Site.disk c.args.site.now) (g.T.Site.disk c.loop.site) (g.T.Site.disk c.visit.new.site) (c.loop.invariant.disk tells) (c.in_ok-visit-in-Some.ensures.looks.disk tells);
@@ -80,5 +88,5 @@ loop-preserved g c =
       writes = c.in_ok-visit-in-Some.ensures.looks.writes ∙ c.loop.invariant.writes;
     }
 
-pub returns-in-Some-pop-clause-page : goal.returns-in-Some-pop-clause-page
-returns-in-Some-pop-clause-page g c = ahead-next c.args.query.now.tree.now c.loop.walk.ahead.items c.pop-2.new.self.items c.in-Some-pop.page c.in-Some-pop.ensures.items c.loop.invariant.ahead
+pub returns-clause-page : goal.returns-clause-page
+returns-clause-page g c = ahead-next c.args.query.now.tree.now c.loop.ahead.items c.pop-2.new.self.items c.in-Some-pop.page c.in-Some-pop.ensures.items c.loop.invariant.ahead

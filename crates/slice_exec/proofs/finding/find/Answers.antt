@@ -1,4 +1,4 @@
-use Rattle.std.proofs.Common.{Err, ◌<◌, ◌≤◌, ◌+◌, ◌^◌, ◌∙◌, List, ap, filter, subst, sym}
+use Rattle.std.proofs.Common.{Err, ◌<◌, ◌≤◌, ◌+◌, ◌++◌, ◌^◌, ◌∙◌, List, ap, filter, subst, sym}
 use Rattle.std.specs.List.{All}
 use Rattle.fact_model.specs.declared.slice.Cond.{Cond}
 use Rattle.page_fmt.specs.declared.page.Place.{Place}
@@ -11,6 +11,7 @@ use Rattle.forest_store.proofs.Places.{place-few, place-file, place-shape}
 use Rattle.forest_store.proofs.ViewReads.{in-tree, view-taken}
 use Rattle.range_scan.specs.Meeting.{is_inside}
 use Rattle.range_scan.specs.Packed.{HoldsTree}
+use Rattle.range_scan.specs.Visits.{found_in, visits}
 use Rattle.view_rows.specs.Regions.{is_word}
 use Rattle.slice_exec.specs.Answers.{IsNoDamage, NamesSide, TellsPoints}
 use Rattle.slice_exec.proofs.Agreed.{slice-agrees}
@@ -60,7 +61,7 @@ stop_at-requires-clause-few g c =
     subst (λ (p : Place). p.first + p.pages ≤ 2 ^ 50) (sym c.place-tree.ensures) (place-few forest c.tree_of.result lt)
 
 pub returns-in-Ok-clause-points : goal.returns-in-Ok-clause-points
-returns-in-Ok-clause-points g c = λ t accepted stored.
+returns-in-Ok-clause-points g c = λ t accepted stored start es given.
     let store = c.args.store.now in
     let forest = store.forest in
     let files = (g.T.Site.disk c.args.site.now).files in
@@ -73,9 +74,24 @@ returns-in-Ok-clause-points g c = λ t accepted stored.
     let region = region-is store c.args.view c.args.slice.now c.region-region.result c.as_slice-attrs.result.now c.as_slice-2.result.now attrs c.as_slice-2.ensures c.region-region.ensures.intervals in
     let agree = agree-is store c.args.view c.args.slice.now c.region-region.result c.as_slice-attrs.result.now c.as_slice-2.result.now attrs c.as_slice-2.ensures c.region-region.ensures.intervals
     c.region-region.ensures.inside in
-    let found = c.in-Ok.ensures.points t (tree_entries forest.schema accepted (tree_of forest.mapping c.tree_of.result)) holds in
-    found-points store c.args.view c.args.slice.now accepted stored.accepted stored.names c.requires.agrees c.requires.covering agree c.in-Ok.points
-    (found ∙ (λ i. filter (is_inside (region i)) (tree_entries forest.schema accepted (tree_of forest.mapping (number i)))))
+    let all = tree_entries forest.schema accepted (tree_of forest.mapping c.tree_of.result) in
+    let found = found-points store c.args.view c.args.slice.now accepted stored.accepted stored.names c.requires.agrees c.requires.covering agree (filter (is_inside c.region-region.result) all)
+    (λ i. filter (is_inside (region i)) (tree_entries forest.schema accepted (tree_of forest.mapping (number i)))) in
+    subst (λ l. g.G.Taker.was_given start (es ++ l) c.search.new.taker) found (c.in-Ok.ensures.points t all holds start es given)
+
+pub returns-in-Ok-clause-gives : goal.returns-in-Ok-clause-gives
+returns-in-Ok-clause-gives g c = λ t start es given.
+    let store = c.args.store.now in
+    let forest = store.forest in
+    let files = (g.T.Site.disk c.args.site.now).files in
+    let low = c.requires.covering.0 in
+    let number = c.tree_of.ensures.number forest.schema forest.lawful forest.mapped low in
+    let attrs = view-taken forest.schema.views c.as_slice.result.now c.args.view c.index-as_slice-view.result c.as_slice-attrs.result.now low c.as_slice.ensures c.index-as_slice-view.is c.as_slice-attrs.ensures in
+    let region = region-is store c.args.view c.args.slice.now c.region-region.result c.as_slice-attrs.result.now c.as_slice-2.result.now attrs c.as_slice-2.ensures c.region-region.ensures.intervals in
+    let tree = c.place-tree.ensures ∙ ap (place_of forest) number in
+    subst (λ l. g.G.Taker.was_given start (es ++ l) c.search.new.taker)
+    (λ i. found_in (tree i) (region i) (files (tree i).file) (visits (tree i) (region i) (files (tree i).file)))
+    (c.in-Ok.ensures.gives t start es given)
 
 pub returns-in-Err-clause-undamaged : goal.returns-in-Err-clause-undamaged
 returns-in-Err-clause-undamaged g c = λ t accepted stored.

@@ -1,14 +1,10 @@
-use Rattle.std.proofs.Common.{rules, ◌≡◌, ◌<◌, ℕ, List, All, true, false, length, map, ap, sym, ◌∙◌, subst, refl, true≢false}
+use Rattle.std.proofs.Common.{rules, ◌≡◌, ◌<◌, ℕ, List, All, true, false, length, map, ap, sym, ◌∙◌, subst, true≢false}
 use Rattle.std.specs.List.{list_all}
 use Rattle.std.proofs.lemmas.Result.{err_from_is_err_and}
 use Rattle.fact_model.specs.declared.slice.Row.{Row}
 use Rattle.fact_model.specs.Value.{Key}
-use Rattle.cube_point.specs.declared.point.Entry.{Entry}
 use Rattle.view_points.specs.Answer.{row_from}
-use Rattle.view_rows.specs.Grouped.{AllJoin, AreSound, HasForm, by_key, cells_of, has_values, keyed, rows_from}
-use Rattle.view_rows.specs.declared.stop.RowsStop.{RowsStop}
-use Rattle.view_rows.specs.declared.stop.RowsStop.TheVariants.{Damaged, Memory}
-use Rattle.view_rows.proofs.FactPoints.{rows-of_facts, sound-facts}
+use Rattle.view_rows.specs.Grouped.{AllJoin, HasForm, by_key, cells_of, has_values, keyed}
 use Rattle.view_rows.proofs.KeyRows.{declared, formed}
 use Rattle.view_rows.proofs.grouped.rows_by.Goals as goal
 
@@ -33,19 +29,7 @@ returns-then-not-all_known-clause-damaged c = λ is sound.
     let known = ap (λ (g : List ℕ). list_all (has_values b c.args.view.now g) c.args.points.now) c.as_slice-group.ensures ∙ sound.values in
     true≢false (sym known ∙ (sym c.all_known.ensures ∙ unknown))
 
-pub returns-then-not-all_known-clause-never : goal.returns-then-not-all_known-clause-never
-returns-then-not-all_known-clause-never c = λ measures facts are is masses few.
-    let b = c.args.names.now in
-    let view = c.args.view.now in
-    let s = c.args.slice.now in
-    let sound = subst (λ (es : List Entry). AreSound b view s.group es) (sym is) (sound-facts b view s measures facts are masses few) in
-    absurd (returns-then-not-all_known-clause-damaged c refl sound)
-
 -- ---- cells that do not join
-
-only_memory : (stop : RowsStop) → (stop ≡ Damaged → ⊥) → stop ≡ Memory
-only_memory Damaged other = absurd (other refl)
-only_memory Memory other = refl
 
 pub returns-in_err-joined-clause-damaged : goal.returns-in_err-joined-clause-damaged
 returns-in_err-joined-clause-damaged c =
@@ -55,16 +39,6 @@ returns-in_err-joined-clause-damaged c =
     let p = err_from_is_err_and c.from_residual.result c.from_residual.ensures.1 in
     rw p.1 (λ is sound. c.in_err-joined.ensures.damaged (sym p.2 ∙ is)
     (subst (λ (g : List ℕ). (k : Key) → AllJoin (cells_of b view g k es)) (sym c.as_slice-group.ensures) sound.cells))
-
-pub returns-in_err-joined-clause-never : goal.returns-in_err-joined-clause-never
-returns-in_err-joined-clause-never c = λ measures facts are is masses few.
-    let b = c.args.names.now in
-    let view = c.args.view.now in
-    let s = c.args.slice.now in
-    let sound = subst (λ (es : List Entry). AreSound b view s.group es) (sym is) (sound-facts b view s measures facts are masses few) in
-    let p = err_from_is_err_and c.from_residual.result c.from_residual.ensures.1 in
-    rw p.1 (only_memory p.0 (λ damaged. c.in_err-joined.ensures.damaged (sym p.2 ∙ damaged)
-    (subst (λ (g : List ℕ). (k : Key) → AllJoin (cells_of b view g k c.args.points.now)) (sym c.as_slice-group.ensures) sound.cells)))
 
 -- ---- rows
 
@@ -95,10 +69,3 @@ returns-clause-form c =
     let view = c.args.view.now in
     let s = c.args.slice.now in
     subst (λ (rows : List Row). All (HasForm b s) rows) (sym (returns-clause-grouped c)) (formed b view s c.args.points.now (returns-clause-sound c).values)
-
-pub returns-clause-rows : goal.returns-clause-rows
-returns-clause-rows c = λ measures facts are is.
-    let b = c.args.names.now in
-    let view = c.args.view.now in
-    let s = c.args.slice.now in
-    returns-clause-grouped c ∙ (ap (rows_from b view s) is ∙ rows-of_facts b view s measures facts are c.few_names.ensures)
