@@ -13,7 +13,7 @@ ghost use Rattle.range_scan.specs.Visits.{met};
 use crate::walk::Query;
 use cube_point::{inside, meets};
 use fact_model::Memory;
-use page_fmt::{PAGE, inner_entry, leaf_entry};
+use page_fmt::{PAGE, inner_entry, lent_entry};
 use point_taker::Taker;
 
 /// Gives the points of a leaf that lie in the region to the taker.
@@ -31,9 +31,9 @@ pub(crate) fn take_points<G: Taker>(
         (es ++ filter (is_inside query.now.region.now) (entries query.now.tree.now.shape.measures page.now)) taker.new) }
 {
     for index in 0..count as usize {
-        let entry = leaf_entry(page, &query.tree.shape, index);
-        if inside(&entry.point, query.region) {
-            taker.take(entry)?;
+        let entry = lent_entry(page, &query.tree.shape, index);
+        if inside(&entry.point(), query.region) {
+            taker.take(entry.entry())?;
         }
     }
     Ok(())

@@ -47,15 +47,28 @@ pub(crate) fn compare_keys(
     ensures { result ≡ key_cmp (key_of_entry names.now view.now group.now a.now) (key_of_entry names.now view.now group.now b.now) }
 {
     for attr in group {
-        let order = compare_values(
-            value_at(names, *attr, coordinate(view, &a.point.at, *attr)),
-            value_at(names, *attr, coordinate(view, &b.point.at, *attr)),
+        let order = compare_codes(
+            names,
+            *attr,
+            coordinate(view, &a.point.at, *attr),
+            coordinate(view, &b.point.at, *attr),
         );
         if order != Ordering::Equal {
             return order;
         }
     }
     Ordering::Equal
+}
+
+/// How the values of two coordinates of an attribute stand to each other.
+fn compare_codes(names: &Dicts, attr: u32, a: u64, b: u64) -> Ordering
+    requires { attr < length names.now.kinds }
+    ensures { result ≡ value_cmp (value_at_code names.now attr a) (value_at_code names.now attr b) }
+{
+    if a == b {
+        return Ordering::Equal;
+    }
+    compare_values(value_at(names, attr, a), value_at(names, attr, b))
 }
 
 /// The value that a coordinate of an attribute stands for, and the number 0 where there is none.

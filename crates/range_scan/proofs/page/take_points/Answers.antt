@@ -1,4 +1,7 @@
-use Rattle.std.proofs.Common.{◌++◌, ◌+◌, ◌<◌, ◌∙◌, List, filter, length, take, refl, subst, sym, arith}
+use Rattle.std.specs.Prelude.{◌↔◌, IsTrue}
+use Rattle.cube_point.specs.Boxes.{IsInside}
+use Rattle.cube_point.specs.declared.point.Point.{Point}
+use Rattle.std.proofs.Common.{[], ◌∷◌, ◌++◌, ◌+◌, ◌<◌, ◌∙◌, List, filter, length, take, refl, subst, sym, arith}
 use Rattle.cube_point.specs.declared.point.Entry.{Entry}
 use Rattle.page_fmt.specs.Taking.{entries}
 use Rattle.range_scan.specs.Meeting.{is_inside}
@@ -12,18 +15,18 @@ loop-index-preserved g c = λ start es given.
     let region = c.args.query.now.region.now in
     let all = entries c.args.query.now.tree.now.shape.measures c.args.page.now in
     let i = c.loop-index.index in
-    let e = c.leaf_entry-entry.result in
+    let e = c.lent_entry-entry.result in
     let low : i < length all = omega arith in
-    let test = inside-is c.inside.result region e c.inside.ensures in
+    let test = inside-is c.inside.result region e (subst (λ (p : Point). IsTrue c.inside.result ↔ IsInside p region) c.point.ensures c.inside.ensures) in
     let now : List Entry = es ++ filter (is_inside region) (take i all) in
     let so_far = c.loop-index.invariant start es given in
     elim c.if-inside.branch [
       | then-inside+in_ok-take w ↦
           subst (λ t. g.G.Taker.was_given start (es ++ filter (is_inside region) (take (i + 1) all)) t) (sym w.taker-is)
-          (subst (λ l. g.G.Taker.was_given start l w.take.new.self) (keeps (is_inside region) all i e es now low c.leaf_entry-entry.ensures.value (sym test ∙ w.if-inside.true) refl)
-          (w.in_ok-take.ensures start now so_far))
+          (subst (λ l. g.G.Taker.was_given start l w.take.new.self) (keeps (is_inside region) all i e es now low c.lent_entry-entry.ensures (sym test ∙ w.if-inside.true) refl)
+          (subst (λ (x : Entry). g.G.Taker.was_given start (now ++ x ∷ []) w.take.new.self) w.entry.ensures (w.in_ok-take.ensures start now so_far)))
       | else-inside w ↦
           subst (λ t. g.G.Taker.was_given start (es ++ filter (is_inside region) (take (i + 1) all)) t) (sym w.taker-is)
-          (subst (λ l. g.G.Taker.was_given start l c.loop-index.taker) (skips (is_inside region) all i e es now low c.leaf_entry-entry.ensures.value (sym test ∙ w.if-inside.false) refl)
+          (subst (λ l. g.G.Taker.was_given start l c.loop-index.taker) (skips (is_inside region) all i e es now low c.lent_entry-entry.ensures (sym test ∙ w.if-inside.false) refl)
           so_far)
     ]
