@@ -7,12 +7,11 @@ use Rattle.site_core.specs.Disk.{Disk}
 use Rattle.plain_machine.specs.declared.batch_source.BatchSource.{BatchSource}
 use Rattle.plain_machine.specs.Machine.{Answer, batch_from, read_by, refusal_of, unless}
 use Rattle.plain_machine.specs.World.{Warehouse, World, idle}
-use Rattle.cube_state.specs.declared.state.State.{State}
 use Rattle.cube_state.specs.Session.{Belongs}
 use Rattle.cube_batches.specs.declared.batch.Read.{Read}
 use Rattle.cube_batches.specs.declared.batch.Read.TheVariants.{Batch}
 use Rattle.cube_batches.specs.Reading.{IsRead}
-use Rattle.cube_batches.specs.Taking.{IsPending, answer_by}
+use Rattle.cube_batches.specs.Taking.{IsFitting, answer_by}
 
 -- the facts of a batch
 batch_of : (read : Result (List Fact) (List ℕ)) (batch : List Fact) → IsRead read (Batch batch) → read ≡ Ok batch
@@ -34,9 +33,8 @@ pub answer_read : (warehouse : Warehouse) (source : BatchSource) (batch : List F
 answer_read warehouse source batch next read =
     ap (read_by (idle warehouse) (λ (b : List Fact). unless (idle warehouse) (next warehouse b) (refusal_of warehouse.schema (warehouse.facts ++ b)))) read
 
--- and where it is pending by what follows
-pub answer_pending : (disk : Disk) (world : World) (source : BatchSource) (state : State) (is : IsPending disk world source state) (next : Warehouse → List Fact → Answer)
-    → answer_by world next source ≡ next is.warehouse is.batch
-answer_pending disk world source state is next =
+-- and where it keeps the limits by what follows
+pub answer_fitting : (world : World) (source : BatchSource) (is : IsFitting world source) (next : Warehouse → List Fact → Answer) → answer_by world next source ≡ next is.warehouse is.batch
+answer_fitting world source is next =
     ap (λ (w : World). answer_by w next source) is.idle
     ∙ (answer_read is.warehouse source is.batch next is.read ∙ ap (unless (idle is.warehouse) (next is.warehouse is.batch)) is.fits)

@@ -1,4 +1,5 @@
 pub mod BatchReads
+pub mod Costs
 pub mod Gives
 pub mod Limits
 pub mod Takings

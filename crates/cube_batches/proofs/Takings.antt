@@ -1,5 +1,5 @@
 -- What a batch that is taken in makes of the plain machine's world.
-use Rattle.std.proofs.Common.{◌≡◌, IsTrue, ◌<◌, ◌++◌, ℕ, List, [], length, inl, inr, Some, Result, Ok, Err, IfOk, refl, sym, ◌∙◌, ap, subst, take}
+use Rattle.std.proofs.Common.{◌≡◌, IsTrue, ◌<◌, ◌*◌, ◌++◌, ℕ, List, [], length, inl, inr, Some, Result, Ok, Err, IfOk, refl, sym, ◌∙◌, ap, arith, subst, take}
 use Rattle.std.proofs.lemmas.List.Elements.{All-append}
 use Rattle.std.specs.List.{All}
 use Rattle.std.specs.Prelude.{slice_index}
@@ -11,7 +11,9 @@ use Rattle.cube_schema.specs.Agreeing.{Agrees}
 use Rattle.cube_schema.specs.declared.schema.Schema.{Schema}
 use Rattle.fact_model.specs.declared.fact.Fact.{Fact}
 use Rattle.forest_refresh.specs.Back.{IsBack}
-use Rattle.forest_refresh.specs.Begun.{Begun, IsReady, IsRefreshOf}
+use Rattle.packing.specs.Moves.{written}
+use Rattle.forest_moves.specs.Forest.{bytes_after, forest_moves}
+use Rattle.forest_refresh.specs.Begun.{Begun, IsReady, IsRefreshOf, StandsAt, next_side}
 use Rattle.forest_refresh.specs.Limits.{TellsLimit}
 use Rattle.forest_refresh.specs.Refreshed as refreshes
 use Rattle.forest_refresh.specs.declared.stop.BeginStop.{BeginStop}
@@ -37,9 +39,9 @@ use Rattle.cube_state.specs.Stops.{IsNoDamage, refresh_stop}
 use Rattle.cube_state.specs.Session.{Attends, Belongs, Between, IsAnswer, KeepsEither, Stands}
 use Rattle.cube_state.proofs.Answering.{answers, between_as}
 use Rattle.cube_batches.specs.Refusals.{refusal_text}
-use Rattle.cube_batches.specs.Taking.{IsPending, IsTaken}
+use Rattle.cube_batches.specs.Taking.{IsFitting, IsPending, IsTaken}
 use Rattle.cube_batches.specs.declared.taking.Taken.TheVariants.{Refused}
-use Rattle.cube_batches.proofs.BatchReads.{answer_pending, answer_read}
+use Rattle.cube_batches.proofs.BatchReads.{answer_fitting, answer_read}
 use Rattle.cube_batches.proofs.Limits.{empty_fits, none_refused, one_refused}
 
 -- ---- one run behind another
@@ -56,6 +58,14 @@ moments_as old new world warehouse next same run = subst (λ (w : World). Betwee
 
 -- ---- a batch that is to begin
 
+-- no move is made
+none_moved : (r : Begun) (files : Files) (facts batch : List Fact) → r.progress.taken ≡ 0 → StandsAt r facts batch files
+none_moved r files facts batch none = record {
+  within = omega (arith, none);
+  pages = (λ i. take (4096 * written (none i) (forest_moves r.store.forest.schema facts batch)) (files (next_side r.store.forest.body)))
+      ∙ (λ i. bytes_after r.store.forest.schema facts batch (sym none i));
+}
+
 module _ (store : Store) (old new : Disk) (warehouse : Warehouse) (batch : List Fact) (is : Belongs store old warehouse) where
   -- at every moment the files keep what they kept
   pub begin_moments : (next : World) → LeavesOnly old new (λ told files. (told ≡ old.told) × KeepsFacts store.forest.schema warehouse.facts files)
@@ -65,39 +75,39 @@ module _ (store : Store) (old new : Disk) (warehouse : Warehouse) (batch : List 
 
   -- it has begun
   pub begin_attends : (r : Begun) → r.store.forest ≡ store.forest → IsRefreshOf r warehouse.facts batch new.files → IsStable new → 0 < length batch → IsReady r new
-      → Attends r new warehouse batch
-  begin_attends r same adds stable some ready = record {
+      → r.progress.taken ≡ 0 → Attends r new warehouse batch
+  begin_attends r same adds stable some ready none = record {
     lawful = is.lawful;
     schema = ap (λ (f : Forest). f.schema) same ∙ is.schema;
     adds = stable_holds (IsRefreshOf r warehouse.facts batch) new stable adds;
     some = some;
     ready = ready;
+    moved = none_moved r new.files warehouse.facts batch none;
   }
 
 -- so it is pending, and all facts keep the limits
 pub all_fine : (r : Begun) (new : Disk) (warehouse : Warehouse) (batch : List Fact) → Attends r new warehouse batch → AreAccepted warehouse.schema (warehouse.facts ++ batch)
 all_fine r new warehouse batch is = subst (λ (s : Schema). AreAccepted s (warehouse.facts ++ batch)) is.schema is.adds.read.all
 
-pub begun_pending : (r : Begun) (new : Disk) (warehouse : Warehouse) (source : BatchSource) (batch : List Fact) → Attends r new warehouse batch
-    → batch_from warehouse.schema source ≡ Ok batch → IsPending new (idle warehouse) source (Pending r)
-begun_pending r new warehouse source batch is read = record {
+abbrev pub begun_fits : (r : Begun) (new : Disk) (warehouse : Warehouse) (source : BatchSource) (batch : List Fact) → Attends r new warehouse batch
+    → batch_from warehouse.schema source ≡ Ok batch → IsFitting (idle warehouse) source
+begun_fits r new warehouse source batch is read = record {
   warehouse = warehouse;
   batch = batch;
   idle = refl;
   read = read;
   fits = none_refused warehouse batch is.lawful.schema (all_fine r new warehouse batch is);
-  stands = (warehouse, batch, refl, is);
 }
+
+pub begun_pending : (r : Begun) (new : Disk) (warehouse : Warehouse) (source : BatchSource) (batch : List Fact) → Attends r new warehouse batch
+    → batch_from warehouse.schema source ≡ Ok batch → IsPending new (idle warehouse) source (Pending r)
+begun_pending r new warehouse source batch is read = record { fitting = begun_fits r new warehouse source batch is read; stands = (warehouse, batch, refl, is) }
 
 -- so is an empty one
 pub empty_pending : (store : Store) (disk : Disk) (warehouse : Warehouse) (source : BatchSource) (batch : List Fact) → Belongs store disk warehouse
     → batch_from warehouse.schema source ≡ Ok batch → batch ≡ [] → IsPending disk (idle warehouse) source (Hollow store)
 empty_pending store disk warehouse source batch is read none = record {
-  warehouse = warehouse;
-  batch = batch;
-  idle = refl;
-  read = read;
-  fits = empty_fits warehouse batch is.lawful.schema is.lawful.accepted none;
+  fitting = record { warehouse = warehouse; batch = batch; idle = refl; read = read; fits = empty_fits warehouse batch is.lawful.schema is.lawful.accepted none };
   stands = (warehouse, ap (begun_with warehouse) none, is);
 }
 
@@ -183,13 +193,15 @@ module _ (r : Begun) (old new : Disk) (warehouse : Warehouse) (batch : List Fact
 -- a batch that is pending is committed at once, which is a load
 module _ (mid new : Disk) (world : World) (source : BatchSource) (state : State) (is : IsPending mid world source state) where
   abbrev pending : World
-  pending = begun_with is.warehouse is.batch
+  pending = begun_with is.fitting.warehouse is.fitting.batch
 
   same_answer : finish pending ≡ load world source
-  same_answer = sym (answer_pending mid world source state is committed)
+  same_answer = sym (answer_fitting world source is.fitting committed)
 
-  pub load_moments : Between mid new (begun_with is.warehouse is.batch) (finish (begun_with is.warehouse is.batch)).0 → Between mid new world (load world source).0
-  load_moments run = moments_as mid new world is.warehouse (load world source).0 is.idle (between_as mid new (idle is.warehouse) (finish pending) (load world source) same_answer run)
+  pub load_moments : Between mid new (begun_with is.fitting.warehouse is.fitting.batch) (finish (begun_with is.fitting.warehouse is.fitting.batch)).0 → Between mid new world (load world source).0
+  load_moments run =
+      moments_as mid new world is.fitting.warehouse (load world source).0 is.fitting.idle
+      (between_as mid new (idle is.fitting.warehouse) (finish pending) (load world source) same_answer run)
 
 -- ---- a batch that has begun is dropped
 
@@ -210,3 +222,11 @@ abandoned r store disk world (Ok done) same given is state =
 pub same_damage : (stop : RefreshStop) → refreshes.IsNoDamage stop → IsNoDamage (refresh_stop stop)
 same_damage ends.Disk none = tt
 same_damage (ends.Damaged file offset) none = none
+
+-- ---- moves of a refresh
+
+-- at every moment the files keep what they kept
+pub step_moments : (r : Begun) (old new : Disk) (warehouse : Warehouse) (batch : List Fact) → Attends r old warehouse batch
+    → LeavesOnly old new (λ told files. (told ≡ old.told) × KeepsFacts r.store.forest.schema warehouse.facts files) → Between old new (begun_with warehouse batch) (begun_with warehouse batch)
+step_moments r old new warehouse batch is run = wider old new _ _
+    (λ told files both. (both.0, inl (record { lawful = is.lawful; kept = subst (λ (s : Schema). KeepsFacts s warehouse.facts files) is.schema both.1 }))) run

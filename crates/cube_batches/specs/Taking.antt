@@ -1,5 +1,5 @@
 -- What becomes of a batch that is to begin.
-use Rattle.std.specs.Prelude.{◌≡◌, ◌≢◌, ◌≤◌, ◌+◌, ℕ, List, [], ◌∷◌, ◌++◌, IsTrue, codes, None, Result, Ok, Err}
+use Rattle.std.specs.Prelude.{◌≡◌, ◌≢◌, ◌⊎◌, ◌<◌, ◌≤◌, ◌+◌, ℕ, List, [], ◌∷◌, ◌++◌, IsTrue, codes, length, None, Result, Ok, Err}
 use Rattle.site_core.specs.Disk.{Disk}
 use Rattle.site_core.specs.declared.site.Site.{Ghosts}
 use Rattle.attr_dict.specs.Admitting.{names_with}
@@ -13,6 +13,7 @@ use Rattle.plain_machine.specs.Machine.{Answer, batch_from, refusal_of, take_ove
 use Rattle.plain_machine.specs.World.{Warehouse, World, begun_with, idle}
 use Rattle.cube_state.specs.declared.state.State.{State}
 use Rattle.cube_state.specs.declared.state.State.TheVariants.{Empty, Idle, Hollow, Pending}
+use Rattle.cube_state.specs.Costs.{Spends}
 use Rattle.cube_state.specs.Session.{IsAnswer, Stands}
 use Rattle.cube_batches.specs.declared.taking.Taken.{Taken}
 use Rattle.cube_batches.specs.declared.taking.Taken.TheVariants.{Refused, Begun as Began}
@@ -30,14 +31,23 @@ abbrev pub answer_by : World → (Warehouse → List Fact → Answer) → BatchS
 answer_by world next source =
     take_over world (λ warehouse batch. unless world (next warehouse batch) (refusal_of warehouse.schema (warehouse.facts ++ batch))) world.kept world.pending source
 
--- the batch of the source keeps the limits, and is pending
-pub record IsPending (disk : Disk) (world : World) (source : BatchSource) (state : State) : Type 0 where
+-- nothing is pending, and the batch of the source keeps the limits
+pub record IsFitting (world : World) (source : BatchSource) : Type 0 where
   pub warehouse : Warehouse
   pub batch : List Fact
   pub idle : world ≡ idle warehouse
   pub read : batch_from warehouse.schema source ≡ Ok batch
   pub fits : refusal_of warehouse.schema (warehouse.facts ++ batch) ≡ None
-  pub stands : Stands state disk (begun_with warehouse batch)
+
+-- and it is pending then
+pub record IsPending (disk : Disk) (world : World) (source : BatchSource) (state : State) : Type 0 where
+  pub fitting : IsFitting world source
+  pub stands : Stands state disk (begun_with fitting.warehouse fitting.batch)
+
+-- no call was made, or a read and a write where such a batch begins that is not empty
+abbrev pub AsksFor : {S : Type 0} (T : Ghosts S) (old new : S) → World → BatchSource → Type 0
+AsksFor T old new world source =
+    (new ≡ old) ⊎ ((fitting : IsFitting world source) × (0 < length fitting.batch) × Spends T (record { reads = 1; writes = 1 }) old new)
 
 -- the batch is pending, or is refused, whatever would follow
 abbrev pub IsTaken : Disk → World → BatchSource → Taken → Type 0

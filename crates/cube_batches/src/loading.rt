@@ -2,9 +2,12 @@
 ghost use Rattle.std.specs.Prelude.{◌≡◌, IsTrue, OnOk, IfOk, IfErr};
 ghost use Rattle.plain_machine.specs.Machine.{load};
 ghost use Rattle.plain_machine.specs.World.{World};
+ghost use Rattle.cube_state.specs.Costs.{Spends};
 ghost use Rattle.cube_state.specs.Frames.{IsQuiet, RunsOn};
+ghost use Rattle.cube_state.specs.Moves.{moves_made};
 ghost use Rattle.cube_state.specs.Stops.{IsNoDamage};
 ghost use Rattle.cube_state.specs.Session.{Between, IsAnswer, Stands};
+ghost use Rattle.cube_batches.specs.Costs.{load_cost};
 ghost use Rattle.cube_batches.specs.Gives.{LoadGives};
 ghost use Rattle.cube_batches.specs.Told.{LoadTells};
 
@@ -34,11 +37,14 @@ pub fn load<T: Site>(
         → Between (T.disk site.old) (T.disk site.new) world (load world source).0 }
     ensures undamaged { IsTrue T.tells → (world : World) → Stands state (T.disk site.old) world
         → IfErr result IsNoDamage }
+    ensures cost { IsTrue T.tells → (world : World) → Stands state (T.disk site.old) world
+        → Spends T.Site (load_cost world (load world source).0) site.old site.new }
     ensures damage { IsTrue T.tells → IfErr result (LoadTells state (T.disk site.old).files source) }
     ensures answered { IsTrue T.tells → IfOk result (λ done. LoadGives state (T.disk site.old).files source done.reply.items) }
     ensures unwritten { IsTrue T.tells → (world : World) → Stands state (T.disk site.old) world
         → (load world source).0.kept ≡ world.kept → OnOk result (T.writes site.new ≡ T.writes site.old) }
 
+    ensures moved { IfOk result (λ done. moves_made done.state ≡ moves_made state) }
     ensures runs { IfOk result (λ done. RunsOn T.Site site.new done.state) }
     ensures cache { pages.new ≡ pages.old }
     ensures quiet { IsQuiet T.Site site.old site.new result }

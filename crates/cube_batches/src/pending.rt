@@ -1,15 +1,18 @@
 //! The commands `begin`, `step`, `finish` and `abandon`, over a batch that is pending.
-ghost use Rattle.std.specs.Prelude.{◌≡◌, ◌≤◌, ◌+◌, IsTrue, List, OnOk, IfOk, IfErr};
+ghost use Rattle.std.specs.Prelude.{◌≡◌, ◌≤◌, ◌+◌, IsTrue, List, OnOk, IfOk, IfErr, codes};
 ghost use Rattle.fact_model.specs.declared.fact.Fact as facts;
 ghost use Rattle.forest_refresh.specs.Begun.{IsGoing, IsReady};
-ghost use Rattle.forest_store.specs.Stored.{IsWhole};
-ghost use Rattle.reply_text.specs.Replies.{committed_text};
-ghost use Rattle.plain_machine.specs.Machine.{abandon, begin, committed, finish};
-ghost use Rattle.plain_machine.specs.World.{Warehouse, World, idle};
+ghost use Rattle.forest_store.specs.Sides.{page_count};
+ghost use Rattle.reply_text.specs.Replies.{committed_text, line};
+ghost use Rattle.script_lang.specs.declared.command.Command.TheVariants as says;
+ghost use Rattle.plain_machine.specs.Machine.{abandon, begin, committed, finish, step};
+ghost use Rattle.plain_machine.specs.World.{Warehouse, World, begun_with, idle};
+ghost use Rattle.cube_state.specs.Costs.{Spends};
 ghost use Rattle.cube_state.specs.Frames.{IsQuiet, RunsOn};
+ghost use Rattle.cube_state.specs.Moves.{made_behind, moves_made};
 ghost use Rattle.cube_state.specs.Stops.{IsNoDamage};
-ghost use Rattle.cube_state.specs.Session.{Attends, Between, IsAnswer, IsRunning, Stands, abandon_text, step_text};
-ghost use Rattle.cube_batches.specs.Costs.{begins};
+ghost use Rattle.cube_state.specs.Session.{Attends, Between, IsAnswer, Stands, abandon_text, step_text};
+ghost use Rattle.cube_batches.specs.Costs.{begin_cost, begins, finish_cost, pages_over, step_cost};
 ghost use Rattle.cube_batches.specs.Gives.{BeginGives, FinishGives, IsFinished};
 ghost use Rattle.cube_batches.specs.Told.{FinishTells, TellsRefreshDamage};
 
@@ -37,10 +40,11 @@ pub fn begin<T: Site>(
         → IfOk result (IsAnswer (T.disk site.new) (begin world block)) }
     ensures any_moment { IsTrue T.tells → (world : World) → Stands state (T.disk site.old) world
         → Between (T.disk site.old) (T.disk site.new) world (begin world block).0 }
+    ensures cost { IsTrue T.tells → (world : World) → Stands state (T.disk site.old) world
+        → Spends T.Site (begin_cost world (begin world block).0) site.old site.new }
     ensures damage { IfErr result IsNoDamage }
     ensures answered { IfOk result (λ done. BeginGives state block done.reply.items) }
-    ensures unwritten { IsTrue T.tells → (world : World) → Stands state (T.disk site.old) world
-        → OnOk result (T.writes site.new ≤ T.writes site.old + begins world (begin world block).0) }
+    ensures moved { IfOk result (λ done. moves_made done.state ≡ moves_made state) }
     ensures silent { IsTrue T.tells → (world : World) → Stands state (T.disk site.old) world
         → begins world (begin world block).0 ≡ 0 → OnOk result (T.writes site.new ≡ T.writes site.old) }
     ensures runs { IfOk result (λ done. RunsOn T.Site site.new done.state) }
@@ -52,19 +56,73 @@ pub fn begin<T: Site>(
     }
 }
 
-/// Answers whether a batch is pending. No move is made, and an error is want of memory.
-pub fn step(alloc: Global, state: State) -> Result<Answered, Stop>
-    requires running { IsRunning state }
+/// Makes so many moves of the pending batch, or all that are left where these are fewer, or refuses where no batch is pending. An empty batch
+/// takes none. A move is a read of an old page, a write of a new one, or a point; slices see nothing of them. A stop at any moment leaves the
+/// files with the facts that they had, and so does an error, which ends the session: a file failed, a page is not sound, or memory ran out.
+pub fn step<T: Site>(
+    alloc: Global,
+    state: State,
+    moves: u64,
+    site: &mut T,
+) -> Result<Answered, Stop>
+    requires runs { RunsOn T.Site site.old state }
 
-    ensures state { IfOk result (λ done. done.state ≡ state) }
-    ensures reply { IfOk result (λ done. done.reply.items ≡ step_text state) }
-    ensures memory { IfErr result (λ stop. stop ≡ Stop.Memory) }
+    ensures answer { IsTrue T.tells → (world : World) → Stands state (T.disk site.old) world
+        → IfOk result (IsAnswer (T.disk site.new) (step world)) }
+    ensures any_moment { IsTrue T.tells → (world : World) → Stands state (T.disk site.old) world
+        → Between (T.disk site.old) (T.disk site.new) world (step world).0 }
+    ensures undamaged { IsTrue T.tells → (world : World) → Stands state (T.disk site.old) world
+        → IfErr result IsNoDamage }
+    ensures moved { IsTrue T.tells → (world : World) → Stands state (T.disk site.old) world
+        → IfOk result (λ done. moves_made done.state ≡ made_behind world (moves_made state) (says.Step moves)) }
+    ensures cost { IsTrue T.tells → (world : World) → Stands state (T.disk site.old) world
+        → Spends T.Site (step_cost world (moves_made state) moves) site.old site.new }
+
+    // Whatever the files hold.
+    ensures damage { IsTrue T.tells → IfErr result (FinishTells state (T.disk site.old).files) }
+    ensures answered { IfOk result (λ done. done.reply.items ≡ step_text state) }
+    ensures runs { IfOk result (λ done. RunsOn T.Site site.new done.state) }
+    ensures quiet { IsQuiet T.Site site.old site.new result }
 {
     match state {
         State::Empty => plain(alloc, State::Empty, "refused nothing pending"),
         State::Idle(store) => plain(alloc, State::Idle(store), "refused nothing pending"),
         State::Hollow(store) => plain(alloc, State::Hollow(store), "stepped"),
-        State::Pending(refresh) => plain(alloc, State::Pending(refresh), "stepped"),
+        State::Pending(refresh) => go_on(alloc, refresh, moves, site),
+    }
+}
+
+/// Makes so many moves of a refresh, or all that are left.
+fn go_on<T: Site>(
+    alloc: Global,
+    refresh: Refresh,
+    moves: u64,
+    site: &mut T,
+) -> Result<Answered, Stop>
+    requires goes { IsGoing refresh }
+    requires fit { IsTrue T.tells → IsReady refresh (T.disk site.old) }
+
+    ensures stands { IsTrue T.tells → (warehouse : Warehouse) (batch : List facts.Fact) → Attends refresh (T.disk site.old) warehouse batch
+        → IfOk result (λ done. Stands done.state (T.disk site.new) (begun_with warehouse batch)) }
+    ensures any_moment { IsTrue T.tells → (warehouse : Warehouse) (batch : List facts.Fact) → Attends refresh (T.disk site.old) warehouse batch
+        → Between (T.disk site.old) (T.disk site.new) (begun_with warehouse batch) (begun_with warehouse batch) }
+    ensures undamaged { IsTrue T.tells → (warehouse : Warehouse) (batch : List facts.Fact) → Attends refresh (T.disk site.old) warehouse batch
+        → IfErr result IsNoDamage }
+    ensures moved { IsTrue T.tells → (warehouse : Warehouse) (batch : List facts.Fact) → Attends refresh (T.disk site.old) warehouse batch
+        → IfOk result (λ done. moves_made done.state ≡ made_behind (begun_with warehouse batch) refresh.progress.taken (says.Step moves)) }
+    ensures cost { IsTrue T.tells → (warehouse : Warehouse) (batch : List facts.Fact) → Attends refresh (T.disk site.old) warehouse batch
+        → Spends T.Site (step_cost (begun_with warehouse batch) refresh.progress.taken moves) site.old site.new }
+
+    // Whatever the files hold.
+    ensures damage { IsTrue T.tells → IfErr result (TellsRefreshDamage refresh (T.disk site.old).files) }
+    ensures answered { IfOk result (λ done. done.reply.items ≡ line (codes "stepped")) }
+    ensures runs { IfOk result (λ done. RunsOn T.Site site.new done.state) }
+    ensures quiet { IsQuiet T.Site site.old site.new result }
+{
+    let mut refresh = refresh;
+    match refresh.step(site, moves) {
+        Ok(_) => plain(alloc, State::Pending(refresh), "stepped"),
+        Err(stop) => Err(Stop::from(stop)),
     }
 }
 
@@ -84,11 +142,16 @@ pub fn finish<T: Site>(
         → Between (T.disk site.old) (T.disk site.new) world (finish world).0 }
     ensures undamaged { IsTrue T.tells → (world : World) → Stands state (T.disk site.old) world
         → IfErr result IsNoDamage }
+    ensures cost { IsTrue T.tells → (world : World) → Stands state (T.disk site.old) world
+        → Spends T.Site (finish_cost world (moves_made state) (finish world).0) site.old site.new }
+    ensures pages { IsTrue T.tells → (world : World) → Stands state (T.disk site.old) world
+        → T.reads site.new ≤ T.reads site.old + pages_over world.kept }
     ensures damage { IsTrue T.tells → IfErr result (FinishTells state (T.disk site.old).files) }
     ensures answered { IsTrue T.tells → IfOk result (λ done. FinishGives state (T.disk site.old).files done.reply.items) }
     ensures unwritten { IsTrue T.tells → (world : World) → Stands state (T.disk site.old) world
         → (finish world).0.kept ≡ world.kept → OnOk result (T.writes site.new ≡ T.writes site.old) }
 
+    ensures moved { IfOk result (λ done. moves_made done.state ≡ 0) }
     ensures runs { IfOk result (λ done. RunsOn T.Site site.new done.state) }
     ensures cache { pages.new ≡ pages.old }
     ensures quiet { IsQuiet T.Site site.old site.new result }
@@ -117,9 +180,14 @@ fn commit<T: Site>(
         → Between (T.disk site.old) (T.disk site.new) (idle warehouse) (committed warehouse batch).0 }
     ensures undamaged { IsTrue T.tells → (warehouse : Warehouse) (batch : List facts.Fact) → Attends refresh (T.disk site.old) warehouse batch
         → IfErr result IsNoDamage }
+    ensures cost { IsTrue T.tells → (warehouse : Warehouse) (batch : List facts.Fact) → Attends refresh (T.disk site.old) warehouse batch
+        → Spends T.Site (finish_cost (begun_with warehouse batch) refresh.progress.taken (finish (begun_with warehouse batch)).0) site.old site.new }
+    ensures pages { IsTrue T.tells → (warehouse : Warehouse) (batch : List facts.Fact) → Attends refresh (T.disk site.old) warehouse batch
+        → T.reads site.new ≤ T.reads site.old + page_count warehouse.schema warehouse.facts }
     ensures damage { IsTrue T.tells → IfErr result (TellsRefreshDamage refresh (T.disk site.old).files) }
     ensures answered { IsTrue T.tells → IfOk result (λ done. IsFinished refresh (T.disk site.old).files done.reply.items) }
 
+    ensures moved { IfOk result (λ done. moves_made done.state ≡ 0) }
     ensures runs { IfOk result (λ done. RunsOn T.Site site.new done.state) }
     ensures cache { pages.new ≡ pages.old }
     ensures quiet { IsQuiet T.Site site.old site.new result }
@@ -154,6 +222,7 @@ pub fn abandon<T: Site>(alloc: Global, state: State, _site: &T) -> Result<Answer
     ensures stands { IsTrue T.tells → (world : World) → Stands state (T.disk _site.now) world
         → IfOk result (λ done. Stands done.state (T.disk _site.now) (abandon world).0) }
     ensures reply { IfOk result (λ done. done.reply.items ≡ abandon_text state) }
+    ensures moved { IfOk result (λ done. moves_made done.state ≡ 0) }
     ensures runs { IfOk result (λ done. RunsOn T.Site _site.now done.state) }
     ensures memory { IfErr result (λ stop. stop ≡ Stop.Memory) }
 {

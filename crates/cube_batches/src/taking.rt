@@ -5,10 +5,11 @@ ghost use Rattle.forest_store.specs.Stored.{IsWhole};
 ghost use Rattle.plain_machine.specs.Machine.{batch_from};
 ghost use Rattle.plain_machine.specs.World.{Warehouse, World, idle};
 ghost use Rattle.cube_state.specs.Frames.{IsQuiet, RunsOn};
+ghost use Rattle.cube_state.specs.Moves.{moves_made};
 ghost use Rattle.cube_state.specs.Stops.{IsNoDamage};
 ghost use Rattle.cube_state.specs.Session.{Belongs, Between, Stands};
 ghost use Rattle.cube_batches.specs.Refusals.{begin_stop, refusal_text};
-ghost use Rattle.cube_batches.specs.Taking.{IsTaken, Takes, TakesRead, Touches, state_of};
+ghost use Rattle.cube_batches.specs.Taking.{AsksFor, IsTaken, Takes, TakesRead, Touches, state_of};
 
 use crate::batch::{Read, read_source};
 use cube_state::{Answered, State, Stop, plain};
@@ -42,10 +43,13 @@ pub fn take_in<T: Site>(
         → IfOk result (IsTaken (T.disk site.new) world source) }
     ensures any_moment { IsTrue T.tells → (world next : World) → Stands state (T.disk site.old) world
         → Between (T.disk site.old) (T.disk site.new) world next }
+    ensures asks { IsTrue T.tells → (world : World) → Stands state (T.disk site.old) world
+        → AsksFor T.Site site.old site.new world source }
 
     // Whatever the files hold.
     ensures takes { IfOk result (Takes state source) }
     ensures touches { IfOk result (Touches T.Site site.old site.new) }
+    ensures moved { IfOk result (λ taken. moves_made (state_of taken) ≡ moves_made state) }
     ensures damage { IfErr result IsNoDamage }
     ensures runs { IfOk result (λ taken. RunsOn T.Site site.new (state_of taken)) }
     ensures quiet { IsQuiet T.Site site.old site.new result }
@@ -73,10 +77,13 @@ fn take_source<T: Site>(
         → IfOk result (IsTaken (T.disk site.new) (idle warehouse) source) }
     ensures any_moment { IsTrue T.tells → (warehouse : Warehouse) (next : World) → Belongs store (T.disk site.old) warehouse
         → Between (T.disk site.old) (T.disk site.new) (idle warehouse) next }
+    ensures asks { IsTrue T.tells → (warehouse : Warehouse) → Belongs store (T.disk site.old) warehouse
+        → AsksFor T.Site site.old site.new (idle warehouse) source }
 
     // Whatever the files hold.
     ensures takes { IfOk result (TakesRead store (batch_from store.forest.schema source)) }
     ensures touches { IfOk result (Touches T.Site site.old site.new) }
+    ensures moved { IfOk result (λ taken. moves_made (state_of taken) ≡ 0) }
     ensures damage { IfErr result IsNoDamage }
     ensures runs { IfOk result (λ taken. RunsOn T.Site site.new (state_of taken)) }
     ensures quiet { IsQuiet T.Site site.old site.new result }

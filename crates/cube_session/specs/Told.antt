@@ -9,7 +9,7 @@ use Rattle.cube_state.specs.Stops.{IsNoDamage}
 use Rattle.cube_slices.specs.Sliced.{SliceTells}
 use Rattle.cube_batches.specs.Told.{LoadTells, FinishTells}
 
--- damage that a command tells is there; no command but these four tells any
+-- damage that a command tells is there; no command but these five tells any
 abbrev pub TellsDamage : State → Files → Command → Stop → Type 0
 TellsDamage state files (says.Slice text) stop = SliceTells state files text stop
 TellsDamage state files (says.Load block) stop = LoadTells state files (Rows block) stop
@@ -19,7 +19,7 @@ TellsDamage state files says.Status stop = IsNoDamage stop
 TellsDamage state files says.LongLine stop = IsNoDamage stop
 TellsDamage state files says.OpenBlock stop = IsNoDamage stop
 TellsDamage state files (says.Begin block) stop = IsNoDamage stop
-TellsDamage state files (says.Step n) stop = IsNoDamage stop
+TellsDamage state files (says.Step n) stop = FinishTells state files stop
 TellsDamage state files says.Finish stop = FinishTells state files stop
 TellsDamage state files says.Abandon stop = IsNoDamage stop
 TellsDamage state files says.Unknown stop = IsNoDamage stop

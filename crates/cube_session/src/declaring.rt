@@ -4,9 +4,12 @@ ghost use Rattle.cube_schema.specs.Lawful.{IsSchema};
 ghost use Rattle.forest_store.specs.Opened.{IsEmpty};
 ghost use Rattle.plain_machine.specs.Machine.{declare, declared};
 ghost use Rattle.plain_machine.specs.World.{World, bare};
+ghost use Rattle.cube_state.specs.Costs.{Spends};
 ghost use Rattle.cube_state.specs.Frames.{IsQuiet, RunsOn};
+ghost use Rattle.cube_state.specs.Moves.{moves_made};
 ghost use Rattle.cube_state.specs.Stops.{IsNoDamage};
 ghost use Rattle.cube_state.specs.Session.{Between, IsAnswer, Stands};
+ghost use Rattle.cube_session.specs.Costs.{schema_cost};
 ghost use Rattle.cube_session.specs.Gives.{SchemaGives};
 
 use cube_schema::Schema;
@@ -28,11 +31,14 @@ pub fn declare<T: Site>(
         → IfOk result (IsAnswer (T.disk site.new) (declare world block)) }
     ensures any_moment { IsTrue T.tells → (world : World) → Stands state (T.disk site.old) world
         → Between (T.disk site.old) (T.disk site.new) world (declare world block).0 }
+    ensures cost { IsTrue T.tells → (world : World) → Stands state (T.disk site.old) world
+        → Spends T.Site (schema_cost world (declare world block).0) site.old site.new }
     ensures undamaged { IfErr result IsNoDamage }
     ensures answered { IsTrue T.tells → IfOk result (λ done. SchemaGives state block done.reply.items) }
     ensures unwritten { IsTrue T.tells → (world : World) → Stands state (T.disk site.old) world
         → (declare world block).0.kept ≡ world.kept → OnOk result (T.writes site.new ≡ T.writes site.old) }
 
+    ensures moved { IfOk result (λ done. moves_made done.state ≡ moves_made state) }
     ensures runs { IfOk result (λ done. RunsOn T.Site site.new done.state) }
     ensures quiet { IsQuiet T.Site site.old site.new result }
 {
@@ -50,9 +56,11 @@ fn declare_first<T: Site>(alloc: Global, block: Block, site: &mut T) -> Result<A
 
     ensures answer { IsTrue T.tells → IfOk result (IsAnswer (T.disk site.new) (declare (bare None) block)) }
     ensures any_moment { IsTrue T.tells → Between (T.disk site.old) (T.disk site.new) (bare None) (declare (bare None) block).0 }
+    ensures cost { Spends T.Site (schema_cost (bare None) (declare (bare None) block).0) site.old site.new }
     ensures undamaged { IfErr result IsNoDamage }
     ensures unwritten { (declare (bare None) block).0.kept ≡ None → OnOk result (T.writes site.new ≡ T.writes site.old) }
 
+    ensures moved { IfOk result (λ done. moves_made done.state ≡ 0) }
     ensures runs { IfOk result (λ done. RunsOn T.Site site.new done.state) }
     ensures quiet { IsQuiet T.Site site.old site.new result }
 {
@@ -78,9 +86,11 @@ fn declare_schema<T: Site>(alloc: Global, schema: Schema, site: &mut T) -> Resul
 
     ensures answer { IsTrue T.tells → IfOk result (IsAnswer (T.disk site.new) (declared (bare None) (Ok schema))) }
     ensures any_moment { IsTrue T.tells → Between (T.disk site.old) (T.disk site.new) (bare None) (declared (bare None) (Ok schema)).0 }
+    ensures cost { Spends T.Site (schema_cost (bare None) (declared (bare None) (Ok schema)).0) site.old site.new }
     ensures undamaged { IfErr result IsNoDamage }
     ensures unwritten { (declared (bare None) (Ok schema)).0.kept ≡ None → OnOk result (T.writes site.new ≡ T.writes site.old) }
 
+    ensures moved { IfOk result (λ done. moves_made done.state ≡ 0) }
     ensures runs { IfOk result (λ done. RunsOn T.Site site.new done.state) }
     ensures quiet { IsQuiet T.Site site.old site.new result }
 {

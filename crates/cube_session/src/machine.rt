@@ -1,13 +1,14 @@
 //! Commands are carried out over the files, up to their replies, which are not told yet.
-ghost use Rattle.std.specs.Prelude.{◌≡◌, ◌≤◌, ◌+◌, ℕ, List, IsTrue, OnOk, IfOk, IfErr};
-ghost use Rattle.script_lang.specs.declared.command.Command.TheVariants as says;
+ghost use Rattle.std.specs.Prelude.{◌≡◌, IsTrue, OnOk, IfOk, IfErr};
 ghost use Rattle.plain_machine.specs.Machine.{act};
 ghost use Rattle.plain_machine.specs.World.{World};
+ghost use Rattle.cube_state.specs.Costs.{Cost, Spends};
 ghost use Rattle.cube_state.specs.Frames.{IsQuiet, RunsOn};
+ghost use Rattle.cube_state.specs.Moves.{made_behind, moves_made};
 ghost use Rattle.cube_state.specs.Stops.{IsNoDamage};
 ghost use Rattle.cube_state.specs.Session.{Between, IsAnswer, IsRunning, Stands, state_text};
-ghost use Rattle.cube_slices.specs.Costs.{Costs};
 ghost use Rattle.cube_batches.specs.Costs.{begins};
+ghost use Rattle.cube_session.specs.Costs.{Costs, IsNoStep};
 ghost use Rattle.cube_session.specs.Gives.{Gives};
 ghost use Rattle.cube_session.specs.Told.{TellsDamage};
 
@@ -37,18 +38,17 @@ pub fn act<T: Site>(
         → Between (T.disk site.old) (T.disk site.new) world (act world command).0 }
     ensures undamaged { IsTrue T.tells → (world : World) → Stands state (T.disk site.old) world
         → IfErr result IsNoDamage }
-    ensures cost { IsTrue T.tells → (world : World) (text : List ℕ) (most : ℕ) → Stands state (T.disk site.old) world
-        → command ≡ says.Slice text → Costs world text most → T.reads site.new ≤ T.reads site.old + most }
+    ensures moved { IsTrue T.tells → (world : World) → Stands state (T.disk site.old) world
+        → IfOk result (λ done. moves_made done.state ≡ made_behind world (moves_made state) command) }
+    ensures cost { IsTrue T.tells → (world : World) (cost : Cost) → Stands state (T.disk site.old) world
+        → Costs world (moves_made state) command cost → Spends T.Site cost site.old site.new }
 
     // Whatever the files hold.
     ensures damage { IsTrue T.tells → IfErr result (TellsDamage state (T.disk site.old).files command) }
     ensures answered { IsTrue T.tells → IfOk result (λ done. Gives state (T.disk site.old).files command done.reply.items) }
-    // Where no fact is accepted and no schema declared, nothing is written, but for one write where a batch that is not empty begins.
-    ensures unwritten { IsTrue T.tells → (world : World) → Stands state (T.disk site.old) world
-        → (act world command).0.kept ≡ world.kept
-        → OnOk result (T.writes site.new ≤ T.writes site.old + begins world (act world command).0) }
+    // Where no fact is accepted and no schema declared, no batch that is not empty begins and no move is asked for, nothing is written.
     ensures silent { IsTrue T.tells → (world : World) → Stands state (T.disk site.old) world
-        → (act world command).0.kept ≡ world.kept → begins world (act world command).0 ≡ 0
+        → (act world command).0.kept ≡ world.kept → begins world (act world command).0 ≡ 0 → IsNoStep command
         → OnOk result (T.writes site.new ≡ T.writes site.old) }
     ensures runs { IfOk result (λ done. RunsOn T.Site site.new done.state) }
     ensures cache { pages.new ≡ pages.old }
@@ -69,7 +69,7 @@ pub fn act<T: Site>(
         Command::Slice(text) => slice(alloc, pages, state, text.as_bytes(), site),
         Command::Status => status(alloc, state),
         Command::Begin(block) => begin(alloc, state, block, site),
-        Command::Step(_) => step(alloc, state),
+        Command::Step(moves) => step(alloc, state, moves, site),
         Command::Finish => finish(alloc, pages, state, site),
         Command::Abandon => abandon(alloc, state, site),
         Command::LongLine => plain(alloc, state, "refused long line"),

@@ -1,22 +1,22 @@
 //! A session: the files are opened, and each command is carried out and its reply emitted.
-ghost use Rattle.std.specs.Prelude.{◌≡◌, ◌≤◌, ◌+◌, ◌++◌, ◌↔◌, ℕ, List, IsTrue, IsErrOf, None, OnOk, OnErr, IfOk, IfErr, IfSome};
+ghost use Rattle.std.specs.Prelude.{◌≡◌, ◌≤◌, ◌+◌, ◌++◌, ◌↔◌, IsTrue, IsErrOf, None, OnOk, OnErr, IfOk, IfErr, IfSome};
 ghost use Rattle.site_core.specs.Calls.{Settles, Stays};
 ghost use Rattle.site_core.specs.Moments.{LeavesOnly};
 ghost use Rattle.forest_open.specs.Breaks.{BreaksAt};
 ghost use Rattle.forest_open.specs.Opening.{Place};
-ghost use Rattle.script_lang.specs.declared.command.Command.TheVariants as says;
 ghost use Rattle.plain_machine.specs.Stages.{Meanwhile};
 ghost use Rattle.plain_machine.specs.Keeps.{Keeps};
 ghost use Rattle.plain_machine.specs.Machine.{act};
 ghost use Rattle.plain_machine.specs.World.{Kept, World, bare};
+ghost use Rattle.cube_state.specs.Costs.{Cost, Spends};
 ghost use Rattle.cube_state.specs.Frames.{IsQuiet, StopsFor};
+ghost use Rattle.cube_state.specs.Moves.{made_behind};
 ghost use Rattle.cube_state.specs.Stops.{IsNoDamage};
-ghost use Rattle.cube_slices.specs.Costs.{Costs};
 ghost use Rattle.cube_batches.specs.Costs.{begins};
-ghost use Rattle.cube_session.specs.Costs.{open_cost};
+ghost use Rattle.cube_session.specs.Costs.{Costs, IsNoStep, open_cost};
 ghost use Rattle.cube_session.specs.Damage.{StopsAt, TellsBreak};
 ghost use Rattle.cube_session.specs.Gives.{RepliesTo};
-ghost use Rattle.cube_session.specs.Session.{Runs, StandsFor};
+ghost use Rattle.cube_session.specs.Session.{Runs, StandsFor, moves_for};
 ghost use Rattle.cube_session.specs.Told.{TellsDamage};
 
 use crate::machine::act;
@@ -53,6 +53,7 @@ impl Session {
             → T.reads site.new ≤ T.reads site.old + open_cost kept }
 
         ensures runs { IfOk result (λ session. Runs T.Site site.new session.state) }
+        ensures moved { IfOk result (λ session. moves_for session.state ≡ 0) }
         ensures cache { IfOk result (λ session. session.pages.capacity ≡ cache) }
         ensures disk { IsTrue T.tells → Settles Stays (T.disk site.old) (T.disk site.new) result }
         ensures quiet { IsQuiet T.Site site.old site.new result }
@@ -82,6 +83,16 @@ impl Session {
         self.state.is_none()
     }
 
+    /// How many moves of the pending batch were made: 0 where none is pending, behind its `begin`, and once the session has stopped.
+    pub fn moves(&self) -> u64
+        ensures { result ≡ moves_for self.now.state }
+    {
+        match &self.state {
+            Some(State::Pending(refresh)) => refresh.taken(),
+            _ => 0,
+        }
+    }
+
     /// Carries out a command and emits its reply. After a stop the session has stopped. No rows are told of a page that is damaged, and no
     /// batch is acknowledged over a tree that is.
     pub fn command<T: Site>(&mut self, site: &mut T, command: Command) -> Result<(), Stop>
@@ -95,20 +106,19 @@ impl Session {
             → LeavesOnly (T.disk site.old) (T.disk site.new) (Meanwhile world command (T.disk site.old).told) }
         ensures undamaged { IsTrue T.tells → (world : World) → StandsFor self.old.state (T.disk site.old) world
             → IfErr result IsNoDamage }
-        ensures cost { IsTrue T.tells → (world : World) (text : List ℕ) (most : ℕ) → StandsFor self.old.state (T.disk site.old) world
-            → command ≡ says.Slice text → Costs world text most → T.reads site.new ≤ T.reads site.old + most }
+        ensures moved { IsTrue T.tells → (world : World) → StandsFor self.old.state (T.disk site.old) world
+            → OnOk result (moves_for self.new.state ≡ made_behind world (moves_for self.old.state) command) }
+        ensures cost { IsTrue T.tells → (world : World) (cost : Cost) → StandsFor self.old.state (T.disk site.old) world
+            → Costs world (moves_for self.old.state) command cost → Spends T.Site cost site.old site.new }
 
         // Whatever the files hold.
         ensures damage { IsTrue T.tells → IfErr result (λ stop. IfSome self.old.state (λ state.
             TellsDamage state (T.disk site.old).files command stop)) }
         ensures answered { IsTrue T.tells → OnOk result (IfSome self.old.state (λ state.
             RepliesTo state (T.disk site.old).files command (T.disk site.old).told (T.disk site.new).told)) }
-        // Where no fact is accepted and no schema declared, nothing is written, but for one write where a batch that is not empty begins.
-        ensures unwritten { IsTrue T.tells → (world : World) → StandsFor self.old.state (T.disk site.old) world
-            → (act world command).0.kept ≡ world.kept
-            → OnOk result (T.writes site.new ≤ T.writes site.old + begins world (act world command).0) }
+        // Where no fact is accepted and no schema declared, no batch that is not empty begins and no move is asked for, nothing is written.
         ensures silent { IsTrue T.tells → (world : World) → StandsFor self.old.state (T.disk site.old) world
-            → (act world command).0.kept ≡ world.kept → begins world (act world command).0 ≡ 0
+            → (act world command).0.kept ≡ world.kept → begins world (act world command).0 ≡ 0 → IsNoStep command
             → OnOk result (T.writes site.new ≡ T.writes site.old) }
         ensures stopped { OnErr result (self.new.state ≡ None) }
         ensures runs { OnOk result (Runs T.Site site.new self.new.state) }

@@ -1,5 +1,5 @@
 -- How a session goes on from command to command.
-use Rattle.std.proofs.Common.{◌≡◌, arith, Option, Some, None, inl, inr, ℕ, List, [], ◌∷◌, ◌++◌, length, take, refl, sym, ◌∙◌, ap, subst, append-nil, Result, Ok, Err, OnOk}
+use Rattle.std.proofs.Common.{◌≡◌, arith, Option, Some, None, inl, inr, ℕ, List, [], ◌∷◌, ◌++◌, length, take, refl, sym, ◌∙◌, ap, subst, append-nil, append_assoc, Result, Ok, Err, OnOk}
 use Rattle.std.proofs.Math.Seq.{take-append_seam}
 use Rattle.site_core.specs.Disk.{Files, Disk}
 use Rattle.site_core.specs.Moments.{Elapses, LeavesOnly}
@@ -12,7 +12,12 @@ use Rattle.plain_machine.specs.Keeps.{Keeps}
 use Rattle.plain_machine.specs.Stages.{AfterStop, Meanwhile, replies_from, final, Carried}
 use Rattle.plain_machine.proofs.Stages.{at_rest, during, carried_none, carried_more, carried_then}
 use Rattle.cube_state.specs.declared.state.State.{State}
-use Rattle.cube_session.specs.Session.{StandsFor}
+use Rattle.cube_state.specs.Costs.{Cost, Spends, both}
+use Rattle.cube_state.specs.Moves.{HasMovedTo, made_behind, made_from}
+use Rattle.cube_session.specs.Costs.{CostTogether, Costs, one_costs}
+use Rattle.cube_session.specs.Session.{StandsFor, moves_for}
+use Rattle.cube_state.proofs.Moves.{stands_moved}
+use Rattle.site_core.specs.declared.site.Site.{Ghosts}
 use Rattle.cube_state.proofs.Standing.{stands_read, stands_left}
 use Rattle.cube_state.proofs.Answering.{OnlyNow}
 use Rattle.cube_shell.specs.Headline.{AfterRun, Finished, Opened}
@@ -27,67 +32,155 @@ for_left : (session : Option State) (d : Disk) (w : World) → StandsFor session
 for_left None d w stands = λ files left. absurd stands
 for_left (Some state) d w stands = stands_left state d w stands
 
+for_moved : (session : Option State) (d : Disk) (w : World) → StandsFor session d w → HasMovedTo d.files w (moves_for session)
+for_moved None d w stands = absurd stands
+for_moved (Some state) d w stands = stands_moved state d w stands
+
+-- what the first of some commands costs, and the others
+record FirstCosts (w : World) (made : ℕ) (c : Command) (rest : List Command) (all : Cost) : Type 0 where
+  one : Cost
+  others : Cost
+  own : Costs w made c one
+  behind : CostTogether (act w c).0 (made_behind w made c) rest others
+  sum : all ≡ both one others
+
+first_costs : (w : World) (made : ℕ) (c : Command) (rest : List Command) (all : Cost) → CostTogether w made (c ∷ rest) all → FirstCosts w made c rest all
+first_costs w made c rest all (one_costs one others own more) = record { one = one; others = others; own = own; behind = more; sum = refl }
+
 -- before the first command
 pub started_moments : (session : Option State) (d : Disk) (w : World) (cs : List Command) → StandsFor session d w → OnlyNow d
     → LeavesOnly d d (AfterStop w cs d.told)
 started_moments session d w cs stands only_now = started d (AfterStop w cs d.told) (λ told files left.
     let now = only_now told files left in at_rest w cs d.told told files now.0 (for_left session d w stands files now.1))
 
-abbrev pub started_onward : (session : Option State) (d : Disk) (w : World) (cs : List Command) → StandsFor session d w
-    → Onward session d w cs d.told cs
-started_onward session d w cs stands = record { now = w; stands = stands; carried = carried_none w cs d.told d.told refl }
-
-module _ (old mid new : Disk) (session : Option State) (w : World) (cs : List Command) (c : Command) (all rest : List Command)
-    (onward : Onward session mid w cs old.told all) (first : all ≡ c ∷ rest) where
-  -- a command, whether it succeeds or fails
-  pub more_moments : LeavesOnly old mid (AfterStop w cs old.told) → LeavesOnly mid new (Meanwhile onward.now c mid.told)
-      → LeavesOnly old new (AfterStop w cs old.told)
-  more_moments so_far call = joined old mid new (AfterStop w cs old.told) so_far
-      (wider mid new (Meanwhile onward.now c mid.told) (AfterStop w cs old.told) (λ told files m.
-      onward.carried.onto told files (subst (λ (l : List Command). AfterStop onward.now l mid.told told files) (sym first)
-      (during onward.now c rest mid.told told files m))) call)
-
-  pub more_onward : (next : Option State) → StandsFor next new (act onward.now c).0 → new.told ≡ mid.told ++ (act onward.now c).1
-      → Onward next new w cs old.told rest
-  more_onward next stands told = record {
-    now = (act onward.now c).0;
+module _ {S : Type 0} (T : Ghosts S) where
+  pub started_onward : (site : S) (session : Option State) (w : World) (cs : List Command) → StandsFor session (T.disk site) w → Onward T site site session session w cs cs
+  started_onward site session w cs stands = record {
+    now = w;
     stands = stands;
-    carried = carried_more w cs old.told onward.now c rest all mid.told new.told onward.carried first told;
+    carried = carried_none w cs (T.disk site).told (T.disk site).told refl;
+    moved = refl;
+    spent = λ all costs. record { left = all; costs = costs; reads = omega arith; writes = omega arith };
   }
 
--- a run of commands, and then more of them
-module _ (old mid new : Disk) (session : Option State) (w : World) (cs all part rest : List Command)
-    (onward : Onward session mid w cs old.told all) (same : all ≡ part) where
-  pub then_moments : LeavesOnly old mid (AfterStop w cs old.told) → LeavesOnly mid new (AfterStop onward.now part mid.told)
-      → LeavesOnly old new (AfterStop w cs old.told)
-  then_moments so_far run = joined old mid new (AfterStop w cs old.told) so_far
-      (wider mid new (AfterStop onward.now part mid.told) (AfterStop w cs old.told) (λ told files a.
-      onward.carried.onto told files (subst (λ (l : List Command). AfterStop onward.now l mid.told told files) (sym same) a)) run)
+  -- ---- a command more
 
-  pub then_onward : (next : Option State) → Onward next new onward.now part mid.told rest → Onward next new w cs old.told rest
-  then_onward next o = record {
-    now = o.now;
-    stands = o.stands;
-    carried = carried_then w cs old.told onward.now all mid.told o.now rest new.told onward.carried
-        (subst (λ (l : List Command). Carried onward.now l mid.told o.now rest new.told) (sym same) o.carried);
-  }
+  module _ (old mid new : S) (was session : Option State) (w : World) (cs : List Command) (c : Command) (all rest : List Command)
+      (onward : Onward T old mid was session w cs all) (first : all ≡ c ∷ rest) where
+    -- whether it succeeds or fails
+    pub more_moments : LeavesOnly (T.disk old) (T.disk mid) (AfterStop w cs (T.disk old).told) → LeavesOnly (T.disk mid) (T.disk new) (Meanwhile onward.now c (T.disk mid).told)
+        → LeavesOnly (T.disk old) (T.disk new) (AfterStop w cs (T.disk old).told)
+    more_moments so_far call = joined (T.disk old) (T.disk mid) (T.disk new) (AfterStop w cs (T.disk old).told) so_far
+        (wider (T.disk mid) (T.disk new) (Meanwhile onward.now c (T.disk mid).told) (AfterStop w cs (T.disk old).told) (λ told files m.
+        onward.carried.onto told files (subst (λ (l : List Command). AfterStop onward.now l (T.disk mid).told told files) (sym first)
+        (during onward.now c rest (T.disk mid).told told files m))) call)
 
--- nothing is left
-pub all_done : (session : Option State) (disk : Disk) (w : World) (cs rest : List Command) (before : List ℕ)
-    → Onward session disk w cs before rest → rest ≡ [] → Finished disk w cs before
-all_done session disk w cs rest before o none = record {
-  told = o.carried.tells ∙ ap (λ (l : List ℕ). before ++ l)
-      (sym (o.carried.replies ∙ ap (λ (l : List Command). o.carried.front ++ replies_from o.now l) none ∙ append-nil o.carried.front));
-  kept = subst (λ (v : World). Keeps disk.files v.kept) (sym (o.carried.final ∙ ap (final o.now) none))
-      (for_read session disk o.now o.stands);
-}
+    -- of the cost that is left the command has its own
+    split_cost : (cost : Cost) (costs : CostTogether w (moves_for was) cs cost) → FirstCosts onward.now (moves_for session) c rest (onward.spent cost costs).left
+    split_cost cost costs = first_costs onward.now (moves_for session) c rest (onward.spent cost costs).left
+        (subst (λ (l : List Command). CostTogether onward.now (moves_for session) l (onward.spent cost costs).left) first (onward.spent cost costs).costs)
 
-pub finished_at : {E : Type 0} (r : Result (Unit {0}) E) (session : Option State) (disk : Disk) (w : World) (cs rest ready : List Command)
-    (before : List ℕ) (all : List Command) → OnOk r (Onward session disk w cs before rest) → OnOk r (ready ≡ [])
-    → (ready ≡ [] → rest ≡ []) → all ≡ cs → OnOk r (Finished disk w all before)
-finished_at (Ok x) session disk w cs rest ready before all onward none is same =
-    subst (λ (l : List Command). Finished disk w l before) (sym same) (all_done session disk w cs rest before onward (is none))
-finished_at (Err e) session disk w cs rest ready before all onward none is same = tt
+    pub more_spends : ((one : Cost) → Costs onward.now (moves_for session) c one → Spends T one mid new) → (cost : Cost) → CostTogether w (moves_for was) cs cost → Spends T cost old new
+    more_spends call cost costs =
+        let left = onward.spent cost costs in
+        let split = split_cost cost costs in
+        let spent = call split.one split.own in
+        record {
+          reads = omega (arith, left.reads, spent.reads, ap (λ (x : Cost). x.reads) split.sum);
+          writes = omega (arith, left.writes, spent.writes, ap (λ (x : Cost). x.writes) split.sum);
+        }
+
+    pub more_onward : (next : Option State) → StandsFor next (T.disk new) (act onward.now c).0 → (T.disk new).told ≡ (T.disk mid).told ++ (act onward.now c).1
+        → moves_for next ≡ made_behind onward.now (moves_for session) c → ((one : Cost) → Costs onward.now (moves_for session) c one → Spends T one mid new)
+        → Onward T old new was next w cs rest
+    more_onward next stands told moved call = record {
+      now = (act onward.now c).0;
+      stands = stands;
+      carried = carried_more w cs (T.disk old).told onward.now c rest all (T.disk mid).told (T.disk new).told onward.carried first told;
+      moved = onward.moved ∙ (ap (made_from onward.now (moves_for session)) first ∙ ap (λ (m : ℕ). made_from (act onward.now c).0 m rest) (sym moved));
+      spent = λ cost costs.
+          let left = onward.spent cost costs in
+          let split = split_cost cost costs in
+          let spent = call split.one split.own in
+          record {
+            left = split.others;
+            costs = subst (λ (m : ℕ). CostTogether (act onward.now c).0 m rest split.others) (sym moved) split.behind;
+            reads = omega (arith, left.reads, spent.reads, ap (λ (x : Cost). x.reads) split.sum);
+            writes = omega (arith, left.writes, spent.writes, ap (λ (x : Cost). x.writes) split.sum);
+          };
+    }
+
+  -- ---- a run of commands, and then more of them
+
+  module _ (old mid new : S) (was session : Option State) (w : World) (cs all part rest : List Command)
+      (onward : Onward T old mid was session w cs all) (same : all ≡ part) where
+    pub then_moments : LeavesOnly (T.disk old) (T.disk mid) (AfterStop w cs (T.disk old).told) → LeavesOnly (T.disk mid) (T.disk new) (AfterStop onward.now part (T.disk mid).told)
+        → LeavesOnly (T.disk old) (T.disk new) (AfterStop w cs (T.disk old).told)
+    then_moments so_far run = joined (T.disk old) (T.disk mid) (T.disk new) (AfterStop w cs (T.disk old).told) so_far
+        (wider (T.disk mid) (T.disk new) (AfterStop onward.now part (T.disk mid).told) (AfterStop w cs (T.disk old).told) (λ told files a.
+        onward.carried.onto told files (subst (λ (l : List Command). AfterStop onward.now l (T.disk mid).told told files) (sym same) a)) run)
+
+    costs_part : (cost : Cost) → CostTogether onward.now (moves_for session) all cost → CostTogether onward.now (moves_for session) part cost
+    costs_part cost = subst (λ (l : List Command). CostTogether onward.now (moves_for session) l cost) same
+
+    pub then_spends : ((cost : Cost) → CostTogether onward.now (moves_for session) part cost → Spends T cost mid new) → (cost : Cost) → CostTogether w (moves_for was) cs cost → Spends T cost old new
+    then_spends run cost costs =
+        let left = onward.spent cost costs in
+        let spent = run left.left (costs_part left.left left.costs) in
+        record { reads = omega (arith, left.reads, spent.reads); writes = omega (arith, left.writes, spent.writes) }
+
+    pub then_onward : (next : Option State) → Onward T mid new session next onward.now part rest → Onward T old new was next w cs rest
+    then_onward next o = record {
+      now = o.now;
+      stands = o.stands;
+      carried = carried_then w cs (T.disk old).told onward.now all (T.disk mid).told o.now rest (T.disk new).told onward.carried
+          (subst (λ (l : List Command). Carried onward.now l (T.disk mid).told o.now rest (T.disk new).told) (sym same) o.carried);
+      moved = onward.moved ∙ (ap (made_from onward.now (moves_for session)) same ∙ o.moved);
+      spent = λ cost costs.
+          let left = onward.spent cost costs in
+          let then = o.spent left.left (costs_part left.left left.costs) in
+          record { left = then.left; costs = then.costs; reads = omega (arith, left.reads, then.reads); writes = omega (arith, left.writes, then.writes) };
+    }
+
+    pub then_finished : Finished (T.disk new) onward.now (moves_for session) part (T.disk mid).told → Finished (T.disk new) w (moves_for was) cs (T.disk old).told
+    then_finished is =
+        let last : final w cs ≡ final onward.now part = onward.carried.final ∙ ap (final onward.now) same in
+        let made : made_from w (moves_for was) cs ≡ made_from onward.now (moves_for session) part = onward.moved ∙ ap (made_from onward.now (moves_for session)) same in
+        record {
+          told = is.told ∙ (ap (λ (l : List ℕ). l ++ replies_from onward.now part) onward.carried.tells
+              ∙ (append_assoc (T.disk old).told onward.carried.front (replies_from onward.now part)
+              ∙ ap (λ (l : List ℕ). (T.disk old).told ++ l) (sym (onward.carried.replies ∙ ap (λ (l : List Command). onward.carried.front ++ replies_from onward.now l) same))));
+          kept = subst (λ (v : World). Keeps (T.disk new).files v.kept) (sym last) is.kept;
+          moved = subst (λ (v : World). HasMovedTo (T.disk new).files v (made_from w (moves_for was) cs)) (sym last) (subst (HasMovedTo (T.disk new).files (final onward.now part)) (sym made) is.moved);
+        }
+
+  -- what was spent so far
+  pub so_far_spends : (old mid : S) (was session : Option State) (w : World) (cs all : List Command) → Onward T old mid was session w cs all
+      → (cost : Cost) → CostTogether w (moves_for was) cs cost → Spends T cost old mid
+  so_far_spends old mid was session w cs all onward cost costs =
+      let left = onward.spent cost costs in
+      record { reads = omega (arith, left.reads); writes = omega (arith, left.writes) }
+
+  -- ---- nothing is left
+
+  pub all_done : (old new : S) (was session : Option State) (w : World) (cs rest : List Command)
+      → Onward T old new was session w cs rest → rest ≡ [] → Finished (T.disk new) w (moves_for was) cs (T.disk old).told
+  all_done old new was session w cs rest o none =
+      let last : final w cs ≡ o.now = o.carried.final ∙ ap (final o.now) none in
+      record {
+        told = o.carried.tells ∙ ap (λ (l : List ℕ). (T.disk old).told ++ l)
+            (sym (o.carried.replies ∙ ap (λ (l : List Command). o.carried.front ++ replies_from o.now l) none ∙ append-nil o.carried.front));
+        kept = subst (λ (v : World). Keeps (T.disk new).files v.kept) (sym last) (for_read session (T.disk new) o.now o.stands);
+        moved = subst (λ (v : World). HasMovedTo (T.disk new).files v (made_from w (moves_for was) cs)) (sym last)
+            (subst (HasMovedTo (T.disk new).files o.now) (sym (o.moved ∙ ap (made_from o.now (moves_for session)) none)) (for_moved session (T.disk new) o.now o.stands));
+      }
+
+  pub finished_at : {E : Type 0} (r : Result (Unit {0}) E) (old new : S) (was session : Option State) (w : World) (cs rest ready all : List Command)
+      → OnOk r (Onward T old new was session w cs rest) → OnOk r (ready ≡ [])
+      → (ready ≡ [] → rest ≡ []) → all ≡ cs → OnOk r (Finished (T.disk new) w (moves_for was) all (T.disk old).told)
+  finished_at (Ok x) old new was session w cs rest ready all onward none is same =
+      subst (λ (l : List Command). Finished (T.disk new) w (moves_for was) l (T.disk old).told) (sym same) (all_done old new was session w cs rest onward (is none))
+  finished_at (Err e) old new was session w cs rest ready all onward none is same = tt
 
 -- what was told in the end
 pub told_front : (old new : Disk) (w : World) (cs : List Command) → LeavesOnly old new (AfterRun w cs old)

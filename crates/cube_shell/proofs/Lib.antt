@@ -1,3 +1,4 @@
+pub mod Costs
 pub mod Going
 pub mod Pieces
 pub mod Replied

@@ -1,3 +1,4 @@
+pub mod Costs
 pub mod Damage
 pub mod Ends
 pub mod Headline

@@ -5,9 +5,11 @@ ghost use Rattle.script_lang.specs.Reading.{nothing_read, ready, to_come, whole_
 ghost use Rattle.script_lang.specs.Script.{commands};
 ghost use Rattle.plain_machine.specs.Stages.{AfterStop};
 ghost use Rattle.plain_machine.specs.World.{World};
+ghost use Rattle.cube_state.specs.Costs.{Cost, Spends};
 ghost use Rattle.cube_state.specs.Frames.{StopsFor};
 ghost use Rattle.cube_state.specs.Stops.{IsNoDamage};
-ghost use Rattle.cube_session.specs.Session.{Runs, StandsFor};
+ghost use Rattle.cube_session.specs.Costs.{CostTogether};
+ghost use Rattle.cube_session.specs.Session.{Runs, StandsFor, moves_for};
 ghost use Rattle.cube_shell.specs.Ends.{EndsFor, IsUndamaged, faults};
 ghost use Rattle.cube_shell.specs.Headline.{Finished, StopsShort};
 ghost use Rattle.cube_shell.specs.Pulls.{Gave, KeepsLimit};
@@ -35,9 +37,11 @@ pub fn serve<S: Source, T: Site>(
     requires runs { Runs T.Site site.old session.old.state }
 
     ensures finished { IsTrue S.tells → IsTrue T.tells → (world : World) → StandsFor session.old.state (T.disk site.old) world
-        → OnOk result (Finished (T.disk site.new) world (commands (S.left source.old)) (T.disk site.old).told) }
+        → OnOk result (Finished (T.disk site.new) world (moves_for session.old.state) (commands (S.left source.old)) (T.disk site.old).told) }
     ensures any_moment { IsTrue S.tells → IsTrue T.tells → (world : World) → StandsFor session.old.state (T.disk site.old) world
         → LeavesOnly (T.disk site.old) (T.disk site.new) (AfterStop world (commands (S.left source.old)) (T.disk site.old).told) }
+    ensures cost { IsTrue S.tells → IsTrue T.tells → (world : World) (cost : Cost) → StandsFor session.old.state (T.disk site.old) world
+        → CostTogether world (moves_for session.old.state) (commands (S.left source.old)) cost → Spends T.Site cost site.old site.new }
     ensures undamaged { IsTrue T.tells → (world : World) → StandsFor session.old.state (T.disk site.old) world
         → IfErr result IsUndamaged }
     ensures replied { IsTrue S.tells → IsTrue T.tells
@@ -46,7 +50,7 @@ pub fn serve<S: Source, T: Site>(
     ensures read { IsTrue S.tells → OnOk result (S.left source.new ≡ []) }
     ensures limit { IsTrue S.tells → KeepsLimit (λ status. IsErrOf result status) limit (S.left source.old) (S.left source.new) }
     ensures short { IsTrue S.tells → IsTrue T.tells → (world : World) → StandsFor session.old.state (T.disk site.old) world
-        → StopsShort (λ status. IsErrOf result status) (T.disk site.new) world (S.left source.old) (S.left source.new) limit (T.disk site.old).told }
+        → StopsShort (λ status. IsErrOf result status) (T.disk site.new) world (moves_for session.old.state) (S.left source.old) (S.left source.new) limit (T.disk site.old).told }
     ensures asked { S.ends source.new ≤ S.ends source.old + 1 }
     ensures no_usage { IsErrOf result Status.Usage → ⊥ }
     ensures cause { EndsFor (faults (S.faults source.old) (T.disk_faults site.old) (T.told_faults site.old))
@@ -82,11 +86,11 @@ fn take_piece<T: Site>(
     requires within { count ≤ vec_len buffer }
 
     ensures onward { IsTrue T.tells → (world : World) (more : List ℕ) → StandsFor session.old.state (T.disk site.old) world
-        → OnOk result (Onward session.new.state (T.disk site.new) world (to_come lines.old (take count buffer.items ++ more))
-        (T.disk site.old).told (to_come lines.new more)) }
+        → OnOk result (Onward T.Site site.old site.new session.old.state session.new.state world (to_come lines.old (take count buffer.items ++ more))
+        (to_come lines.new more)) }
     ensures whole { IsTrue T.tells → (world : World) (more : List ℕ) → StandsFor session.old.state (T.disk site.old) world
-        → OnOk result (Onward session.new.state (T.disk site.new) world (whole_with lines.old (take count buffer.items ++ more))
-        (T.disk site.old).told (whole_with lines.new more)) }
+        → OnOk result (Onward T.Site site.old site.new session.old.state session.new.state world (whole_with lines.old (take count buffer.items ++ more))
+        (whole_with lines.new more)) }
     ensures replied { IsTrue T.tells → (more : List ℕ) → OnOk result (AreLeft (to_come lines.old (take count buffer.items ++ more))
         (T.disk site.old).told (to_come lines.new more) (T.disk site.new).told) }
     ensures ready { OnOk result (ready lines.new ≡ []) }
@@ -94,6 +98,9 @@ fn take_piece<T: Site>(
     ensures any_moment { IsTrue T.tells → (world : World) (more : List ℕ) → StandsFor session.old.state (T.disk site.old) world
         → LeavesOnly (T.disk site.old) (T.disk site.new)
         (AfterStop world (to_come lines.old (take count buffer.items ++ more)) (T.disk site.old).told) }
+    ensures cost { IsTrue T.tells → (world : World) (more : List ℕ) (cost : Cost) → StandsFor session.old.state (T.disk site.old) world
+        → CostTogether world (moves_for session.old.state) (to_come lines.old (take count buffer.items ++ more)) cost
+        → Spends T.Site cost site.old site.new }
     ensures undamaged { IsTrue T.tells → (world : World) → StandsFor session.old.state (T.disk site.old) world
         → IfErr result IsNoDamage }
     ensures goes_on { lines.new.over ≡ false }
@@ -111,9 +118,11 @@ fn take_end<T: Site>(session: &mut Session, lines: &mut Lines, site: &mut T) -> 
     requires goes_on { lines.old.over ≡ false }
 
     ensures finished { IsTrue T.tells → (world : World) → StandsFor session.old.state (T.disk site.old) world
-        → OnOk result (Finished (T.disk site.new) world (to_come lines.old []) (T.disk site.old).told) }
+        → OnOk result (Finished (T.disk site.new) world (moves_for session.old.state) (to_come lines.old []) (T.disk site.old).told) }
     ensures any_moment { IsTrue T.tells → (world : World) → StandsFor session.old.state (T.disk site.old) world
         → LeavesOnly (T.disk site.old) (T.disk site.new) (AfterStop world (to_come lines.old []) (T.disk site.old).told) }
+    ensures cost { IsTrue T.tells → (world : World) (cost : Cost) → StandsFor session.old.state (T.disk site.old) world
+        → CostTogether world (moves_for session.old.state) (to_come lines.old []) cost → Spends T.Site cost site.old site.new }
     ensures undamaged { IsTrue T.tells → (world : World) → StandsFor session.old.state (T.disk site.old) world
         → IfErr result IsNoDamage }
     ensures replied { IsTrue T.tells → OnOk result (HasReplied (to_come lines.old []) (T.disk site.old).told (T.disk site.new).told) }
@@ -130,13 +139,15 @@ fn carry_out<T: Site>(session: &mut Session, lines: &mut Lines, site: &mut T) ->
     requires runs { Runs T.Site site.old session.old.state }
 
     ensures onward { IsTrue T.tells → (world : World) (more : List ℕ) → StandsFor session.old.state (T.disk site.old) world
-        → OnOk result (Onward session.new.state (T.disk site.new) world (to_come lines.old more) (T.disk site.old).told
+        → OnOk result (Onward T.Site site.old site.new session.old.state session.new.state world (to_come lines.old more)
         (to_come lines.new more)) }
     ensures whole { IsTrue T.tells → lines.old.over ≡ false → (world : World) (more : List ℕ)
-        → StandsFor session.old.state (T.disk site.old) world → OnOk result (Onward session.new.state (T.disk site.new) world
-        (whole_with lines.old more) (T.disk site.old).told (whole_with lines.new more)) }
+        → StandsFor session.old.state (T.disk site.old) world → OnOk result (Onward T.Site site.old site.new session.old.state session.new.state world
+        (whole_with lines.old more) (whole_with lines.new more)) }
     ensures any_moment { IsTrue T.tells → (world : World) (more : List ℕ) → StandsFor session.old.state (T.disk site.old) world
         → LeavesOnly (T.disk site.old) (T.disk site.new) (AfterStop world (to_come lines.old more) (T.disk site.old).told) }
+    ensures cost { IsTrue T.tells → (world : World) (more : List ℕ) (cost : Cost) → StandsFor session.old.state (T.disk site.old) world
+        → CostTogether world (moves_for session.old.state) (to_come lines.old more) cost → Spends T.Site cost site.old site.new }
     ensures undamaged { IsTrue T.tells → (world : World) → StandsFor session.old.state (T.disk site.old) world
         → IfErr result IsNoDamage }
     ensures replied { IsTrue T.tells → (more : List ℕ)

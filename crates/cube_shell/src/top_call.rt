@@ -8,6 +8,9 @@ ghost use Rattle.script_lang.specs.Script.{commands};
 ghost use Rattle.cube_words.specs.Words.{AreValid};
 ghost use Rattle.plain_machine.specs.Keeps.{Keeps};
 ghost use Rattle.plain_machine.specs.World.{Kept, bare};
+ghost use Rattle.cube_state.specs.Costs.{Cost, Spends};
+ghost use Rattle.cube_session.specs.Costs.{CostTogether};
+ghost use Rattle.cube_shell.specs.Costs.{CostsRun, opening_and};
 ghost use Rattle.cube_shell.specs.Damage.{EndsAt, EndsForBreak};
 ghost use Rattle.cube_shell.specs.Ends.{EndsFor, EndsUnpulled, EndsUntouched, StatusCause, IsDoneOrMemory, IsUndamaged, IsUsageOrMemory, faults};
 ghost use Rattle.cube_shell.specs.Headline.{AfterRun, Finished, HasOpened, Headline, Opened, StopsShort};
@@ -34,6 +37,8 @@ pub fn run<S: Source, T: Site>(
 ) -> Status
     ensures headline { IsTrue S.tells → IsTrue T.tells → (kept : Kept) → Keeps (T.disk site.old).files kept
         → Headline (bare kept) (S.left source.old) (S.left source.new) (T.disk site.old) (T.disk site.new) result }
+    ensures cost { IsTrue S.tells → IsTrue T.tells → (kept : Kept) → Keeps (T.disk site.old).files kept
+        → CostsRun T.Site kept (commands (S.left source.old)) site.old site.new }
     ensures undamaged { IsTrue T.tells → (kept : Kept) → Keeps (T.disk site.old).files kept
         → IsUndamaged result }
     ensures complete { IsTrue S.tells → IsTrue T.tells → (kept : Kept) → Keeps (T.disk site.old).files kept
@@ -53,7 +58,7 @@ pub fn run<S: Source, T: Site>(
         → EndsUntouched (IsUsageOrMemory result) source.old source.new site.old site.new }
     ensures limit { IsTrue S.tells → KeepsLimit (λ status. result ≡ status) (2 ^ 30) (S.left source.old) (S.left source.new) }
     ensures short { IsTrue S.tells → IsTrue T.tells → (kept : Kept) → Keeps (T.disk site.old).files kept
-        → StopsShort (λ status. result ≡ status) (T.disk site.new) (bare kept) (S.left source.old) (S.left source.new) (2 ^ 30) (T.disk site.old).told }
+        → StopsShort (λ status. result ≡ status) (T.disk site.new) (bare kept) 0 (S.left source.old) (S.left source.new) (2 ^ 30) (T.disk site.old).told }
     ensures asked { S.ends source.new ≤ S.ends source.old + 1 }
     ensures cause { StatusCause (faults (S.faults source.old) (T.disk_faults site.old) (T.told_faults site.old))
         (faults (S.faults source.new) (T.disk_faults site.new) (T.told_faults site.new)) result }
@@ -76,6 +81,8 @@ pub fn run_within<S: Source, T: Site>(
     requires { limit ≤ 2 ^ 30 }
     ensures headline { IsTrue S.tells → IsTrue T.tells → (kept : Kept) → Keeps (T.disk site.old).files kept
         → Headline (bare kept) (S.left source.old) (S.left source.new) (T.disk site.old) (T.disk site.new) result }
+    ensures cost { IsTrue S.tells → IsTrue T.tells → (kept : Kept) → Keeps (T.disk site.old).files kept
+        → CostsRun T.Site kept (commands (S.left source.old)) site.old site.new }
     ensures undamaged { IsTrue T.tells → (kept : Kept) → Keeps (T.disk site.old).files kept
         → IsUndamaged result }
     ensures complete { IsTrue S.tells → IsTrue T.tells → (kept : Kept) → Keeps (T.disk site.old).files kept
@@ -95,7 +102,7 @@ pub fn run_within<S: Source, T: Site>(
         → EndsUntouched (IsUsageOrMemory result) source.old source.new site.old site.new }
     ensures limit { IsTrue S.tells → KeepsLimit (λ status. result ≡ status) limit (S.left source.old) (S.left source.new) }
     ensures short { IsTrue S.tells → IsTrue T.tells → (kept : Kept) → Keeps (T.disk site.old).files kept
-        → StopsShort (λ status. result ≡ status) (T.disk site.new) (bare kept) (S.left source.old) (S.left source.new) limit (T.disk site.old).told }
+        → StopsShort (λ status. result ≡ status) (T.disk site.new) (bare kept) 0 (S.left source.old) (S.left source.new) limit (T.disk site.old).told }
     ensures asked { S.ends source.new ≤ S.ends source.old + 1 }
     ensures cause { StatusCause (faults (S.faults source.old) (T.disk_faults site.old) (T.told_faults site.old))
         (faults (S.faults source.new) (T.disk_faults site.new) (T.told_faults site.new)) result }
@@ -116,9 +123,11 @@ fn attempt<S: Source, T: Site>(
 ) -> Result<(), Status>
     requires { limit ≤ 2 ^ 30 }
     ensures finished { IsTrue S.tells → IsTrue T.tells → (kept : Kept) → Keeps (T.disk site.old).files kept
-        → OnOk result (Finished (T.disk site.new) (bare kept) (commands (S.left source.old)) (T.disk site.old).told) }
+        → OnOk result (Finished (T.disk site.new) (bare kept) 0 (commands (S.left source.old)) (T.disk site.old).told) }
     ensures any_moment { IsTrue S.tells → IsTrue T.tells → (kept : Kept) → Keeps (T.disk site.old).files kept
         → LeavesOnly (T.disk site.old) (T.disk site.new) (AfterRun (bare kept) (commands (S.left source.old)) (T.disk site.old)) }
+    ensures cost { IsTrue S.tells → IsTrue T.tells → (kept : Kept) (cost : Cost) → Keeps (T.disk site.old).files kept
+        → CostTogether (bare kept) 0 (commands (S.left source.old)) cost → Spends T.Site (opening_and kept cost) site.old site.new }
     ensures opened { IsTrue S.tells → IsTrue T.tells → (kept : Kept) → Keeps (T.disk site.old).files kept
         → OnOk result (Opened (T.disk site.old) (T.disk site.new) (bare kept) (commands (S.left source.old)))
         × IfErr result (λ status. HasOpened (S.left source.old) (S.left source.new) status
@@ -137,7 +146,7 @@ fn attempt<S: Source, T: Site>(
         → EndsUntouched (IsErrAnd result IsUsageOrMemory) source.old source.new site.old site.new }
     ensures limit { IsTrue S.tells → KeepsLimit (λ status. IsErrOf result status) limit (S.left source.old) (S.left source.new) }
     ensures short { IsTrue S.tells → IsTrue T.tells → (kept : Kept) → Keeps (T.disk site.old).files kept
-        → StopsShort (λ status. IsErrOf result status) (T.disk site.new) (bare kept) (S.left source.old) (S.left source.new) limit (T.disk site.old).told }
+        → StopsShort (λ status. IsErrOf result status) (T.disk site.new) (bare kept) 0 (S.left source.old) (S.left source.new) limit (T.disk site.old).told }
     ensures asked { S.ends source.new ≤ S.ends source.old + 1 }
     ensures cause { EndsFor (faults (S.faults source.old) (T.disk_faults site.old) (T.told_faults site.old))
         (faults (S.faults source.new) (T.disk_faults site.new) (T.told_faults site.new)) result }

@@ -46,6 +46,7 @@ pub fn slice<T: Site>(
 
     // Whatever the files hold.
     ensures damage { IsTrue T.tells → IfErr result (SliceTells state (T.disk site.old).files text.now) }
+    ensures state { IfOk result (λ done. done.state ≡ state) }
     ensures answered { IsTrue T.tells → IfOk result (λ done. SliceGives state (T.disk site.old).files text.now done.reply.items) }
     ensures runs { IfOk result (λ done. RunsOn T.Site site.new done.state) }
     ensures cache { pages.new ≡ pages.old }

@@ -1,5 +1,5 @@
 -- What was answered, and what a stop leaves where nothing is written.
-use Rattle.std.proofs.Common.{◌≡◌, inl, ℕ, List, sym, ◌∙◌, subst, arith, Result, Ok, Err, OnOk, ◌≤◌, ◌+◌, IfOk}
+use Rattle.std.proofs.Common.{◌≡◌, inl, ℕ, List, sym, ◌∙◌, subst, Result, Ok, Err, IfOk}
 use Rattle.site_core.specs.Disk.{Files, Disk}
 use Rattle.site_core.proofs.Run.{each_moment, started}
 use Rattle.site_core.specs.Calls.{Rests, Stays}
@@ -38,11 +38,6 @@ pub between_as : (old new : Disk) (world : World) (one other : Answer) → one �
 between_as old new world one other same is = subst (λ (a : Answer). Between old new world a.0) same is
 
 -- ---- nothing was written
-
--- so no more than this
-pub no_more : (result : Result Answered Stop) (old now more : ℕ) → OnOk result (now ≡ old) → OnOk result (now ≤ old + more)
-no_more (Ok done) old now more same = omega (arith, same)
-no_more (Err stop) old now more same = tt
 
 -- nothing was called
 pub quiet : (state : State) (disk : Disk) (world next : World) → Stands state disk world → OnlyNow disk → Between disk disk world next

@@ -1,2 +1,4 @@
 pub mod Answering
+pub mod Costs
+pub mod Moves
 pub mod Standing

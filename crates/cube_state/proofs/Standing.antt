@@ -6,7 +6,7 @@ use Rattle.site_core.specs.Moments.{HoldsNow, IsStable}
 use Rattle.site_core.proofs.Run.{holds_to}
 use Rattle.cube_schema.specs.declared.schema.Schema.{Schema}
 use Rattle.fact_model.specs.declared.fact.Fact.{Fact}
-use Rattle.forest_refresh.specs.Begun.{Begun, HasMoved, IsReady, IsRefreshOf}
+use Rattle.forest_refresh.specs.Begun.{Begun, HasMoved, IsReady, IsRefreshOf, StandsAt}
 use Rattle.forest_root.specs.Keeps.{KeepsNothing}
 use Rattle.forest_root.specs.Root.{IsShut, RootIsStable}
 use Rattle.forest_root.specs.declared.body.Body.{Body}
@@ -103,6 +103,7 @@ module _ (old new : Disk) (same : new.files ≡ old.files) (left : (files : File
     adds = holds_on (IsRefreshOf r warehouse.facts batch) is.adds;
     some = is.some;
     ready = ready_on r is.ready;
+    moved = subst (StandsAt r warehouse.facts batch) (sym same) is.moved;
   }
 
   -- the files are still those that it has opened

@@ -1,3 +1,5 @@
+pub mod Costs
 pub mod Frames
+pub mod Moves
 pub mod Session
 pub mod Stops

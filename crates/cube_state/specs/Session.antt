@@ -4,7 +4,7 @@ use Rattle.site_core.specs.Disk.{Files, Disk}
 use Rattle.site_core.specs.Moments.{HoldsNow, LeavesOnly}
 use Rattle.fact_model.specs.declared.fact.Fact.{Fact}
 use Rattle.forest_root.specs.declared.forest.Store.{Store}
-use Rattle.forest_refresh.specs.Begun.{Begun, IsGoing, IsReady, IsRefreshOf, batch_size}
+use Rattle.forest_refresh.specs.Begun.{Begun, IsGoing, IsReady, IsRefreshOf, StandsAt, batch_size}
 use Rattle.forest_store.specs.Opened.{IsEmpty, IsOpened}
 use Rattle.forest_store.specs.Stored.{IsStoreOf, IsWhole}
 use Rattle.reply_text.specs.Replies.{line, facts_text, pending_text}
@@ -32,6 +32,8 @@ pub record Attends (r : Begun) (disk : Disk) (warehouse : Warehouse) (batch : Li
   -- an empty batch needs no refresh
   pub some : 0 < length batch
   pub ready : IsReady r disk
+  -- the pages of the moves made stand on the new side
+  pub moved : StandsAt r warehouse.facts batch disk.files
 
 -- where no refresh has begun, slices know all names; where one has, its moves go on
 abbrev pub IsRunning : State → Type 0

@@ -6,10 +6,13 @@ use Rattle.fact_model.specs.declared.fact.Fact.{Fact}
 use Rattle.attr_dict.specs.Book.{names_at, no_names, shown_names}
 use Rattle.forest_root.specs.declared.forest.Forest.{Forest}
 use Rattle.forest_root.specs.declared.forest.Store.{Store}
-use Rattle.forest_store.specs.Held.{IsLive, KeepsFacts}
+use Rattle.cube_schema.specs.declared.schema.Schema.{Schema}
+use Rattle.forest_store.specs.Held.{AreAccepted, IsLive, KeepsFacts}
 use Rattle.forest_refresh.specs.declared.stop.BeginFault.{BeginFault}
+use Rattle.forest_refresh.specs.declared.stop.BeginStop.TheVariants as begins
 use Rattle.forest_refresh.specs.Back.{IsBack, IsCut}
 use Rattle.forest_refresh.specs.Begun.{Begun, IsRefreshOf}
+use Rattle.forest_refresh.specs.Limits.{TellsLimit}
 
 -- while its facts stay live, it adds the same batch to them
 pub live_again : (r : Begun) (facts batch : List Fact) (old new : Files) → IsRefreshOf r facts batch old → IsLive r.store.forest.schema r.store.forest.body facts new → IsRefreshOf r facts batch new
@@ -46,3 +49,9 @@ cut_back store prepared (Err fault) forest shown front cut = record {
   kinds = cut.kinds ∙ prepared.kinds ∙ ap (λ (f : Forest). (no_names f.schema).kinds) forest ∙ sym store.kinds;
   names = λ a. cut.names a ∙ front a;
 }
+
+-- a file failed, and the limits are kept
+pub fits_then : (schema : Schema) (all : List Fact) (result : Result Begun BeginFault) → AreAccepted schema all → IfErr result (λ fault. fault.why ≡ begins.Disk)
+    → IfErr result (λ fault. TellsLimit schema all fault.why)
+fits_then schema all (Ok x) fine why = tt
+fits_then schema all (Err fault) fine why = subst (TellsLimit schema all) (sym why) fine

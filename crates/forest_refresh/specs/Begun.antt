@@ -1,5 +1,5 @@
 -- A refresh that has begun, and what it is of accepted facts and of a batch.
-use Rattle.std.specs.Prelude.{◌≡◌, ℕ, ◌+◌, ◌-◌, ◌*◌, ◌<◌, ◌≤◌, List, ◌++◌, length, slice_index, take}
+use Rattle.std.specs.Prelude.{◌≡◌, ℕ, ◌+◌, ◌-◌, ◌*◌, ◌%◌, ◌<◌, ◌≤◌, List, ◌++◌, length, slice_index, take}
 use Rattle.site_core.specs.Disk.{Files, Disk}
 use Rattle.fact_model.specs.declared.fact.Fact.{Fact}
 use Rattle.cube_point.specs.declared.point.Entry.{Entry}
@@ -92,8 +92,12 @@ pub record IsReady (r : Begun) (disk : Disk) : Type 0 where
   pub shut : IsShut (slot_of r.next) (disk.files 0)
   pub moved : HasMoved r disk.files
 
+-- the side of the generation behind that of this body
+abbrev pub next_side : Body → ℕ
+next_side live = 2 + (live.generation + 1) % 2
+
 -- so many moves are made of those that the batch takes: the new side begins with a page for each write among them, as the forest over all
 -- facts does
 pub record StandsAt (r : Begun) (facts batch : List Fact) (files : Files) : Type 0 where
   pub within : r.progress.taken ≤ length (forest_moves r.store.forest.schema facts batch)
-  pub pages : take (4096 * written r.progress.taken (forest_moves r.store.forest.schema facts batch)) (files (2 + slot_of r.next)) ≡ bytes_after r.store.forest.schema facts batch r.progress.taken
+  pub pages : take (4096 * written r.progress.taken (forest_moves r.store.forest.schema facts batch)) (files (next_side r.store.forest.body)) ≡ bytes_after r.store.forest.schema facts batch r.progress.taken

@@ -1,12 +1,11 @@
 //! The new trees are written on the other side, tree after tree and move by move: each is the old one merged with the points of a batch.
-ghost use Rattle.std.specs.Prelude.{◌≡◌, ◌≢◌, ◌<◌, ◌≤◌, ◌+◌, ◌*◌, ◌^◌, ◌++◌, ℕ, IsTrue, IfOk, IfErr, OnOk, List, [], get_or, length, take, vec_capacity};
+ghost use Rattle.std.specs.Prelude.{◌≡◌, ◌≢◌, ◌<◌, ◌≤◌, ◌+◌, ◌*◌, ℕ, IsTrue, IfOk, IfErr, OnOk, List, [], get_or, length, take, vec_capacity};
 ghost use Rattle.site_core.specs.Calls.{Changes};
 ghost use Rattle.site_core.specs.Disk.{DiffersPast, Files};
 ghost use Rattle.site_core.specs.Causes.{HasCauseWhere};
 ghost use Rattle.site_core.specs.Frames.{Calls};
 ghost use Rattle.fact_model.specs.declared.fact.Fact as facts;
 ghost use Rattle.packing.specs.Moves.{KeepsTo};
-ghost use Rattle.merge_pack.specs.Building.{IsBuilt, IsCounted};
 ghost use Rattle.merge_pack.specs.Standing.{HasEnded, moves_tried};
 ghost use Rattle.forest_root.specs.Body.{max_facts};
 ghost use Rattle.forest_root.specs.Forest.{place_of};

@@ -1,7 +1,10 @@
-use Rattle.std.proofs.Common.{subst}
+use Rattle.std.proofs.Common.{◌≡◌, subst}
+use Rattle.cube_state.specs.Moves.{moves_made}
+use Rattle.cube_batches.specs.declared.taking.Taken.{Taken}
+use Rattle.cube_batches.proofs.Costs.{begun_spends, load_asks, moved_as, none_made, taken_idle}
 use Rattle.plain_machine.specs.Machine.{committed, load}
 use Rattle.plain_machine.specs.World.{begun_with}
-use Rattle.cube_batches.specs.Taking.{IsTaken, Takes, Touches}
+use Rattle.cube_batches.specs.Taking.{IsTaken, Takes, Touches, state_of}
 use Rattle.cube_batches.proofs.Gives.{load_gives}
 use Rattle.cube_batches.proofs.Takings.{between_then, load_moments}
 use Rattle.cube_batches.proofs.Told.{load_tells}
@@ -21,7 +24,7 @@ returns-in-Begun-clause-any_moment g c = λ t world stands.
     let new = g.T.Site.disk c.finish.new.site in
     let is = subst (IsTaken mid world c.args.source) c.in-Begun.is (c.in_ok-done.ensures.taken t world stands) in
     between_then old mid new world (load world c.args.source).0 (c.take_in.ensures.quiet.told t) (c.take_in.ensures.any_moment t world (load world c.args.source).0 stands)
-    (load_moments mid new world c.args.source c.in-Begun.state is (c.finish.ensures.any_moment t (begun_with is.warehouse is.batch) is.stands))
+    (load_moments mid new world c.args.source c.in-Begun.state is (c.finish.ensures.any_moment t (begun_with is.fitting.warehouse is.fitting.batch) is.stands))
 
 pub returns-in-Begun-clause-damage : goal.returns-in-Begun-clause-damage
 returns-in-Begun-clause-damage g c = λ t.
@@ -34,3 +37,26 @@ returns-in-Begun-clause-answered g c = λ t.
     load_gives g.T.Site c.args.site.now c.take_in.new.site t c.args.state c.args.source c.in-Begun.state c.finish.result
     (subst (Takes c.args.state c.args.source) c.in-Begun.is c.in_ok-done.ensures.takes)
     (subst (Touches g.T.Site c.args.site.now c.take_in.new.site) c.in-Begun.is c.in_ok-done.ensures.touches) (c.finish.ensures.answered t)
+
+pub returns-in_err-done-clause-any_moment : goal.returns-in_err-done-clause-any_moment
+returns-in_err-done-clause-any_moment g c = λ t world stands. c.take_in.ensures.any_moment t world (load world c.args.source).0 stands
+
+-- ---- what is spent and moved
+
+pub returns-in_err-done-clause-cost : goal.returns-in_err-done-clause-cost
+returns-in_err-done-clause-cost g c = λ t world stands. load_asks g.T.Site c.args.site.now c.take_in.new.site world c.args.source (c.take_in.ensures.asks t world stands)
+
+pub returns-in-Refused-clause-cost : goal.returns-in-Refused-clause-cost
+returns-in-Refused-clause-cost g c = λ t world stands. load_asks g.T.Site c.args.site.now c.take_in.new.site world c.args.source (c.take_in.ensures.asks t world stands)
+
+pub returns-in-Begun-clause-cost : goal.returns-in-Begun-clause-cost
+returns-in-Begun-clause-cost g c = λ t world stands.
+    let is = subst (IsTaken (g.T.Site.disk c.take_in.new.site) world c.args.source) c.in-Begun.is (c.in_ok-done.ensures.taken t world stands) in
+    begun_spends g.T.Site c.args.site.now c.take_in.new.site c.finish.new.site world c.args.source c.in-Begun.state is (c.take_in.ensures.asks t world stands)
+    (none_made c.args.state c.args.source c.in-Begun.state (subst (Takes c.args.state c.args.source) c.in-Begun.is c.in_ok-done.ensures.takes)
+    (subst (λ (taken : Taken). moves_made (state_of taken) ≡ moves_made c.args.state) c.in-Begun.is c.in_ok-done.ensures.moved))
+    (c.finish.ensures.cost t (begun_with is.fitting.warehouse is.fitting.batch) is.stands) (c.finish.ensures.pages t (begun_with is.fitting.warehouse is.fitting.batch) is.stands)
+
+pub returns-in-Begun-clause-moved : goal.returns-in-Begun-clause-moved
+returns-in-Begun-clause-moved g c =
+    moved_as c.finish.result c.finish.ensures.moved (taken_idle c.args.state c.args.source c.in-Begun.state (subst (Takes c.args.state c.args.source) c.in-Begun.is c.in_ok-done.ensures.takes))

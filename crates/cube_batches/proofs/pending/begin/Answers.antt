@@ -2,6 +2,7 @@ use Rattle.std.proofs.Common.{subst}
 use Rattle.plain_machine.specs.Machine.{begin, begun}
 use Rattle.plain_machine.specs.declared.batch_source.BatchSource.TheVariants.{Rows}
 use Rattle.cube_batches.specs.Taking.{IsTaken}
+use Rattle.cube_batches.proofs.Costs.{begin_asks}
 use Rattle.cube_batches.proofs.pending.begin.Goals as goal
 
 pub returns-in-Refused-clause-answer : goal.returns-in-Refused-clause-answer
@@ -13,3 +14,17 @@ returns-in-Refused-clause-any_moment g c = λ t world stands. c.take_in.ensures.
 
 pub returns-in-Begun-clause-any_moment : goal.returns-in-Begun-clause-any_moment
 returns-in-Begun-clause-any_moment g c = λ t world stands. c.take_in.ensures.any_moment t world (begin world c.args.block).0 stands
+
+pub returns-in_err-done-clause-any_moment : goal.returns-in_err-done-clause-any_moment
+returns-in_err-done-clause-any_moment g c = λ t world stands. c.take_in.ensures.any_moment t world (begin world c.args.block).0 stands
+
+-- ---- what is spent
+
+pub returns-in_err-done-clause-cost : goal.returns-in_err-done-clause-cost
+returns-in_err-done-clause-cost g c = λ t world stands. begin_asks g.T.Site c.args.site.now c.take_in.new.site world c.args.block (c.take_in.ensures.asks t world stands)
+
+pub returns-in-Refused-clause-cost : goal.returns-in-Refused-clause-cost
+returns-in-Refused-clause-cost g c = λ t world stands. begin_asks g.T.Site c.args.site.now c.take_in.new.site world c.args.block (c.take_in.ensures.asks t world stands)
+
+pub returns-in-Begun-clause-cost : goal.returns-in-Begun-clause-cost
+returns-in-Begun-clause-cost g c = λ t world stands. begin_asks g.T.Site c.args.site.now c.take_in.new.site world c.args.block (c.take_in.ensures.asks t world stands)

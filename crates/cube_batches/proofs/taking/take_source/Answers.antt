@@ -1,4 +1,4 @@
-use Rattle.std.proofs.Common.{◌≡◌, ◌<◌, length, ap, refl, subst, arith}
+use Rattle.std.proofs.Common.{◌≡◌, ◌<◌, inr, length, ap, refl, subst, arith}
 use Rattle.std.proofs.lemmas.Bool.Decides.{nat_tests}
 use Rattle.plain_machine.specs.Machine.{batch_from}
 use Rattle.plain_machine.specs.World.{idle}
@@ -8,7 +8,8 @@ use Rattle.plain_machine.proofs.Acts.{nothing_added}
 use Rattle.cube_batches.specs.Reading.{IsOfSchema}
 use Rattle.cube_batches.proofs.BatchReads.{batch_known}
 use Rattle.cube_batches.proofs.Gives.{begun_takes, read_takes, refused_takes}
-use Rattle.cube_batches.proofs.Takings.{begin_attends, begin_moments, begun_pending, empty_pending, refused_runs, refused_taken}
+use Rattle.cube_batches.proofs.Costs.{refused_asks}
+use Rattle.cube_batches.proofs.Takings.{begin_attends, begin_moments, begun_fits, begun_pending, empty_pending, refused_runs, refused_taken}
 use Rattle.cube_batches.proofs.taking.take_source.Goals as goal
 
 pub returns-then-is_empty-clause-taken : goal.returns-then-is_empty-clause-taken
@@ -30,7 +31,7 @@ returns-in-Ok-clause-taken g c = λ t warehouse is.
     let some : 0 < length batch = grind (arith, nat_tests) in
     begun_pending c.in-Ok.refresh new warehouse c.args.source batch
     (begin_attends c.args.store old new warehouse batch is c.in-Ok.refresh c.in-Ok.ensures.forest
-    (c.in-Ok.ensures.begun t warehouse.facts is.stored.read) (c.in-Ok.ensures.stable t) some (c.in-Ok.ensures.ready t))
+    (c.in-Ok.ensures.begun t warehouse.facts is.stored.read) (c.in-Ok.ensures.stable t) some (c.in-Ok.ensures.ready t) c.in-Ok.ensures.goes.1)
     (batch_known c.args.store old warehouse c.args.source c.in_ok-batch.field-0 batch is c.in_ok-batch.ensures.read c.in-Batch.is)
 
 pub returns-in-Ok-clause-any_moment : goal.returns-in-Ok-clause-any_moment
@@ -73,3 +74,38 @@ pub returns-in_ok-refuse-in-Err-clause-runs : goal.returns-in_ok-refuse-in-Err-c
 returns-in_ok-refuse-in-Err-clause-runs g c =
     refused_runs g.T.Site c.args.site.now c.begin.new.site c.args.store c.in-Err.fault.store c.in-Err.fault.why c.in_ok-refuse-in-Err.field-0 c.requires.whole c.requires.fit
     c.in-Err.ensures.back (λ apart. c.in-Err.ensures.untouched apart) c.in_ok-refuse-in-Err.ensures.state c.in_ok-refuse-in-Err.ensures.reply
+
+-- ---- what is asked for
+
+pub returns-in-Ok-clause-asks : goal.returns-in-Ok-clause-asks
+returns-in-Ok-clause-asks g c = λ t warehouse is.
+    let old = g.T.Site.disk c.args.site.now in
+    let new = g.T.Site.disk c.begin.new.site in
+    let batch = c.in-Batch.batch in
+    let some : 0 < length batch = grind (arith, nat_tests) in
+    inr (
+      begun_fits c.in-Ok.refresh new warehouse c.args.source batch
+          (begin_attends c.args.store old new warehouse batch is c.in-Ok.refresh c.in-Ok.ensures.forest
+          (c.in-Ok.ensures.begun t warehouse.facts is.stored.read) (c.in-Ok.ensures.stable t) some (c.in-Ok.ensures.ready t) c.in-Ok.ensures.goes.1)
+          (batch_known c.args.store old warehouse c.args.source c.in_ok-batch.field-0 batch is c.in_ok-batch.ensures.read c.in-Batch.is),
+      some,
+      record { reads = c.begin.ensures.calls.reads; writes = c.begin.ensures.calls.writes },
+    )
+
+pub returns-in_ok-refuse-in-Err-clause-asks : goal.returns-in_ok-refuse-in-Err-clause-asks
+returns-in_ok-refuse-in-Err-clause-asks g c = λ t warehouse is.
+    let batch = c.in-Batch.batch in
+    let some : 0 < length batch = grind (arith, nat_tests) in
+    refused_asks g.T.Site c.args.site.now c.begin.new.site c.args.store warehouse batch c.in-Err.fault.why c.args.source is
+    (c.in-Err.ensures.limit warehouse.facts (g.T.Site.disk c.args.site.now).files is.stored.read) (λ apart. c.in-Err.ensures.untouched apart)
+    (record { reads = c.begin.ensures.calls.reads; writes = c.begin.ensures.calls.writes }) some
+    (batch_known c.args.store (g.T.Site.disk c.args.site.now) warehouse c.args.source c.in_ok-batch.field-0 batch is c.in_ok-batch.ensures.read c.in-Batch.is)
+
+pub returns-in_err-refuse-in-Err-clause-asks : goal.returns-in_err-refuse-in-Err-clause-asks
+returns-in_err-refuse-in-Err-clause-asks g c = λ t warehouse is.
+    let batch = c.in-Batch.batch in
+    let some : 0 < length batch = grind (arith, nat_tests) in
+    refused_asks g.T.Site c.args.site.now c.begin.new.site c.args.store warehouse batch c.in-Err.fault.why c.args.source is
+    (c.in-Err.ensures.limit warehouse.facts (g.T.Site.disk c.args.site.now).files is.stored.read) (λ apart. c.in-Err.ensures.untouched apart)
+    (record { reads = c.begin.ensures.calls.reads; writes = c.begin.ensures.calls.writes }) some
+    (batch_known c.args.store (g.T.Site.disk c.args.site.now) warehouse c.args.source c.in_ok-batch.field-0 batch is c.in_ok-batch.ensures.read c.in-Batch.is)

@@ -1,15 +1,19 @@
-use Rattle.std.proofs.Common.{◌≤◌, ◌+◌, ◌∙◌, ℕ, List, IfErr, IfOk, OnOk, sym, ap, subst}
+use Rattle.std.proofs.Common.{◌≡◌, ◌∙◌, ℕ, List, IfErr, IfOk, refl, sym, ap, subst, arith}
 use Rattle.script_lang.specs.declared.command.Command.{Command}
 use Rattle.plain_machine.specs.Machine.{Answer, abandon, act, slice}
 use Rattle.plain_machine.proofs.Acts.{act_abandon, act_begin, act_finish, act_generate, act_load, act_long_line, act_open_block, act_schema, act_slice, act_status, act_step, act_unknown}
-use Rattle.cube_state.specs.Session.{abandon_text, state_text, step_text}
-use Rattle.cube_state.proofs.Answering.{answers_as, between_as, no_more, quiet, stood}
+use Rattle.cube_state.specs.Moves.{made_behind, moves_made}
+use Rattle.cube_state.specs.Session.{abandon_text, state_text}
+use Rattle.cube_state.proofs.Answering.{answers_as, between_as, quiet, stood}
+use Rattle.cube_state.proofs.Costs.{spends_none}
+use Rattle.cube_slices.specs.Costs.{Costs as ReadsFor}
 use Rattle.cube_slices.specs.Gives.{SliceGives}
 use Rattle.cube_slices.specs.Sliced.{SliceTells}
 use Rattle.cube_batches.specs.Costs.{begins}
+use Rattle.cube_session.specs.Costs.{Costs, IsNoStep}
 use Rattle.cube_session.specs.Gives.{Gives}
 use Rattle.cube_session.specs.Told.{TellsDamage}
-use Rattle.cube_session.proofs.Known.{abandon_known, status_known, step_known, told_only}
+use Rattle.cube_session.proofs.Known.{abandon_known, costs_as, same_moves, status_known, told_only}
 use Rattle.cube_session.proofs.Told.{memory_tells}
 use Rattle.cube_session.proofs.machine.act.Goals as goal
 
@@ -21,12 +25,8 @@ pub returns-in-Schema-clause-any_moment : goal.returns-in-Schema-clause-any_mome
 returns-in-Schema-clause-any_moment g c = λ t world is.
     between_as _ _ world _ _ (sym (ap (act world) c.in-Schema.is ∙ act_schema world _)) (c.declare.ensures.any_moment t world is)
 
-pub returns-in-Schema-clause-unwritten : goal.returns-in-Schema-clause-unwritten
-returns-in-Schema-clause-unwritten g c = λ t world is stays.
-    no_more c.declare.result _ _ _ (c.declare.ensures.unwritten t world is (sym (ap (λ (a : Answer). a.0.kept) (ap (act world) c.in-Schema.is ∙ act_schema world _)) ∙ stays))
-
 pub returns-in-Schema-clause-silent : goal.returns-in-Schema-clause-silent
-returns-in-Schema-clause-silent g c = λ t world is stays none.
+returns-in-Schema-clause-silent g c = λ t world is stays none no_step.
     c.declare.ensures.unwritten t world is (sym (ap (λ (a : Answer). a.0.kept) (ap (act world) c.in-Schema.is ∙ act_schema world _)) ∙ stays)
 
 pub returns-in-Load-clause-answer : goal.returns-in-Load-clause-answer
@@ -37,12 +37,8 @@ pub returns-in-Load-clause-any_moment : goal.returns-in-Load-clause-any_moment
 returns-in-Load-clause-any_moment g c = λ t world is.
     between_as _ _ world _ _ (sym (ap (act world) c.in-Load.is ∙ act_load world _)) (c.load.ensures.any_moment t world is)
 
-pub returns-in-Load-clause-unwritten : goal.returns-in-Load-clause-unwritten
-returns-in-Load-clause-unwritten g c = λ t world is stays.
-    no_more c.load.result _ _ _ (c.load.ensures.unwritten t world is (sym (ap (λ (a : Answer). a.0.kept) (ap (act world) c.in-Load.is ∙ act_load world _)) ∙ stays))
-
 pub returns-in-Load-clause-silent : goal.returns-in-Load-clause-silent
-returns-in-Load-clause-silent g c = λ t world is stays none.
+returns-in-Load-clause-silent g c = λ t world is stays none no_step.
     c.load.ensures.unwritten t world is (sym (ap (λ (a : Answer). a.0.kept) (ap (act world) c.in-Load.is ∙ act_load world _)) ∙ stays)
 
 pub returns-in-Slice-clause-answer : goal.returns-in-Slice-clause-answer
@@ -93,12 +89,8 @@ pub returns-in-Generate-clause-any_moment : goal.returns-in-Generate-clause-any_
 returns-in-Generate-clause-any_moment g c = λ t world is.
     between_as _ _ world _ _ (sym (ap (act world) c.in-Generate.is ∙ act_generate world _ _)) (c.load-in-Generate.ensures.any_moment t world is)
 
-pub returns-in-Generate-clause-unwritten : goal.returns-in-Generate-clause-unwritten
-returns-in-Generate-clause-unwritten g c = λ t world is stays.
-    no_more c.load-in-Generate.result _ _ _ (c.load-in-Generate.ensures.unwritten t world is (sym (ap (λ (a : Answer). a.0.kept) (ap (act world) c.in-Generate.is ∙ act_generate world _ _)) ∙ stays))
-
 pub returns-in-Generate-clause-silent : goal.returns-in-Generate-clause-silent
-returns-in-Generate-clause-silent g c = λ t world is stays none.
+returns-in-Generate-clause-silent g c = λ t world is stays none no_step.
     c.load-in-Generate.ensures.unwritten t world is (sym (ap (λ (a : Answer). a.0.kept) (ap (act world) c.in-Generate.is ∙ act_generate world _ _)) ∙ stays)
 
 pub returns-in-Schema-clause-damage : goal.returns-in-Schema-clause-damage
@@ -136,13 +128,8 @@ pub returns-in-Begin-clause-any_moment : goal.returns-in-Begin-clause-any_moment
 returns-in-Begin-clause-any_moment g c = λ t world is.
     between_as _ _ world _ _ (sym (ap (act world) c.in-Begin.is ∙ act_begin world _)) (c.begin.ensures.any_moment t world is)
 
-pub returns-in-Begin-clause-unwritten : goal.returns-in-Begin-clause-unwritten
-returns-in-Begin-clause-unwritten g c = λ t world is stays.
-    subst (λ (a : Answer). OnOk c.begin.result (g.T.Site.writes c.begin.new.site ≤ g.T.Site.writes c.args.site.now + begins world a.0))
-    (sym (ap (act world) c.in-Begin.is ∙ act_begin world _)) (c.begin.ensures.unwritten t world is)
-
 pub returns-in-Begin-clause-silent : goal.returns-in-Begin-clause-silent
-returns-in-Begin-clause-silent g c = λ t world is stays none.
+returns-in-Begin-clause-silent g c = λ t world is stays none no_step.
     c.begin.ensures.silent t world is (sym (ap (λ (a : Answer). begins world a.0) (ap (act world) c.in-Begin.is ∙ act_begin world _)) ∙ none)
 
 pub returns-in-Begin-clause-damage : goal.returns-in-Begin-clause-damage
@@ -150,16 +137,19 @@ returns-in-Begin-clause-damage g c = λ t.
     subst (λ (k : Command). IfErr c.begin.result (TellsDamage c.args.state (g.T.Site.disk c.args.site.now).files k)) (sym c.in-Begin.is) c.begin.ensures.damage
 
 pub returns-in-Step-clause-answer : goal.returns-in-Step-clause-answer
-returns-in-Step-clause-answer g c = λ t world stands.
-    told_only c.step.result c.args.state (step_text c.args.state) (g.T.Site.disk c.args.site.now) world c.args.command c.step.ensures.state c.step.ensures.reply stands
-    (ap (act world) c.in-Step.is ∙ (act_step world _ ∙ step_known c.args.state (g.T.Site.disk c.args.site.now) world stands))
+returns-in-Step-clause-answer g c = λ t world is.
+    answers_as c.step.result _ _ _ (sym (ap (act world) c.in-Step.is ∙ act_step world _)) (c.step.ensures.answer t world is)
 
 pub returns-in-Step-clause-any_moment : goal.returns-in-Step-clause-any_moment
-returns-in-Step-clause-any_moment g c = λ t world stands.
-    quiet c.args.state (g.T.Site.disk c.args.site.now) world (act world c.args.command).0 stands (λ told files. g.met.T.Site.only_now c.args.site.now told files t)
+returns-in-Step-clause-any_moment g c = λ t world is.
+    between_as _ _ world _ _ (sym (ap (act world) c.in-Step.is ∙ act_step world _)) (c.step.ensures.any_moment t world is)
+
+pub returns-in-Step-clause-silent : goal.returns-in-Step-clause-silent
+returns-in-Step-clause-silent g c = λ t world is stays none no_step. absurd (subst IsNoStep c.in-Step.is no_step)
 
 pub returns-in-Step-clause-damage : goal.returns-in-Step-clause-damage
-returns-in-Step-clause-damage g c = λ t. memory_tells c.step.result c.args.state (g.T.Site.disk c.args.site.now).files c.args.command c.step.ensures.memory
+returns-in-Step-clause-damage g c = λ t.
+    subst (λ (k : Command). IfErr c.step.result (TellsDamage c.args.state (g.T.Site.disk c.args.site.now).files k)) (sym c.in-Step.is) (c.step.ensures.damage t)
 
 pub returns-in-Finish-clause-answer : goal.returns-in-Finish-clause-answer
 returns-in-Finish-clause-answer g c = λ t world is.
@@ -169,12 +159,8 @@ pub returns-in-Finish-clause-any_moment : goal.returns-in-Finish-clause-any_mome
 returns-in-Finish-clause-any_moment g c = λ t world is.
     between_as _ _ world _ _ (sym (ap (act world) c.in-Finish.is ∙ act_finish world)) (c.finish.ensures.any_moment t world is)
 
-pub returns-in-Finish-clause-unwritten : goal.returns-in-Finish-clause-unwritten
-returns-in-Finish-clause-unwritten g c = λ t world is stays.
-    no_more c.finish.result _ _ _ (c.finish.ensures.unwritten t world is (sym (ap (λ (a : Answer). a.0.kept) (ap (act world) c.in-Finish.is ∙ act_finish world)) ∙ stays))
-
 pub returns-in-Finish-clause-silent : goal.returns-in-Finish-clause-silent
-returns-in-Finish-clause-silent g c = λ t world is stays none.
+returns-in-Finish-clause-silent g c = λ t world is stays none no_step.
     c.finish.ensures.unwritten t world is (sym (ap (λ (a : Answer). a.0.kept) (ap (act world) c.in-Finish.is ∙ act_finish world)) ∙ stays)
 
 pub returns-in-Finish-clause-damage : goal.returns-in-Finish-clause-damage
@@ -219,7 +205,7 @@ returns-in-Begin-clause-answered g c = λ t.
 
 pub returns-in-Step-clause-answered : goal.returns-in-Step-clause-answered
 returns-in-Step-clause-answered g c = λ t.
-    subst (λ (k : Command). IfOk c.step.result (λ done. Gives c.args.state (g.T.Site.disk c.args.site.now).files k done.reply.items)) (sym c.in-Step.is) c.step.ensures.reply
+    subst (λ (k : Command). IfOk c.step.result (λ done. Gives c.args.state (g.T.Site.disk c.args.site.now).files k done.reply.items)) (sym c.in-Step.is) c.step.ensures.answered
 
 pub returns-in-Finish-clause-answered : goal.returns-in-Finish-clause-answered
 returns-in-Finish-clause-answered g c = λ t.
@@ -246,3 +232,112 @@ returns-in-Slice-clause-answered g c = λ t.
     let files = (g.T.Site.disk c.args.site.now).files in
     subst (λ (k : Command). IfOk c.slice.result (λ done. Gives c.args.state files k done.reply.items)) (sym c.in-Slice.is)
     (subst (λ (text : List ℕ). IfOk c.slice.result (λ done. SliceGives c.args.state files text done.reply.items)) c.as_bytes.ensures (c.slice.ensures.answered t))
+
+-- ---- what is moved and spent
+
+pub returns-in-Schema-clause-moved : goal.returns-in-Schema-clause-moved
+returns-in-Schema-clause-moved g c = λ t world is.
+    subst (λ (k : Command). IfOk c.declare.result (λ done. moves_made done.state ≡ made_behind world (moves_made c.args.state) k)) (sym c.in-Schema.is)
+    c.declare.ensures.moved
+
+pub returns-in-Schema-clause-cost : goal.returns-in-Schema-clause-cost
+returns-in-Schema-clause-cost g c = λ t world cost is costs.
+    costs_as g.T.Site c.args.site.now c.declare.new.site (sym (subst (λ (k : Command). Costs world (moves_made c.args.state) k cost) c.in-Schema.is costs)) (c.declare.ensures.cost t world is)
+
+pub returns-in-Load-clause-moved : goal.returns-in-Load-clause-moved
+returns-in-Load-clause-moved g c = λ t world is.
+    subst (λ (k : Command). IfOk c.load.result (λ done. moves_made done.state ≡ made_behind world (moves_made c.args.state) k)) (sym c.in-Load.is)
+    c.load.ensures.moved
+
+pub returns-in-Load-clause-cost : goal.returns-in-Load-clause-cost
+returns-in-Load-clause-cost g c = λ t world cost is costs.
+    costs_as g.T.Site c.args.site.now c.load.new.site (sym (subst (λ (k : Command). Costs world (moves_made c.args.state) k cost) c.in-Load.is costs)) (c.load.ensures.cost t world is)
+
+pub returns-in-Generate-clause-moved : goal.returns-in-Generate-clause-moved
+returns-in-Generate-clause-moved g c = λ t world is.
+    subst (λ (k : Command). IfOk c.load-in-Generate.result (λ done. moves_made done.state ≡ made_behind world (moves_made c.args.state) k)) (sym c.in-Generate.is)
+    c.load-in-Generate.ensures.moved
+
+pub returns-in-Generate-clause-cost : goal.returns-in-Generate-clause-cost
+returns-in-Generate-clause-cost g c = λ t world cost is costs.
+    costs_as g.T.Site c.args.site.now c.load-in-Generate.new.site (sym (subst (λ (k : Command). Costs world (moves_made c.args.state) k cost) c.in-Generate.is costs)) (c.load-in-Generate.ensures.cost t world is)
+
+pub returns-in-Begin-clause-moved : goal.returns-in-Begin-clause-moved
+returns-in-Begin-clause-moved g c = λ t world is.
+    subst (λ (k : Command). IfOk c.begin.result (λ done. moves_made done.state ≡ made_behind world (moves_made c.args.state) k)) (sym c.in-Begin.is)
+    c.begin.ensures.moved
+
+pub returns-in-Begin-clause-cost : goal.returns-in-Begin-clause-cost
+returns-in-Begin-clause-cost g c = λ t world cost is costs.
+    costs_as g.T.Site c.args.site.now c.begin.new.site (sym (subst (λ (k : Command). Costs world (moves_made c.args.state) k cost) c.in-Begin.is costs)) (c.begin.ensures.cost t world is)
+
+pub returns-in-Step-clause-moved : goal.returns-in-Step-clause-moved
+returns-in-Step-clause-moved g c = λ t world is.
+    subst (λ (k : Command). IfOk c.step.result (λ done. moves_made done.state ≡ made_behind world (moves_made c.args.state) k)) (sym c.in-Step.is)
+    (c.step.ensures.moved t world is)
+
+pub returns-in-Step-clause-cost : goal.returns-in-Step-clause-cost
+returns-in-Step-clause-cost g c = λ t world cost is costs.
+    costs_as g.T.Site c.args.site.now c.step.new.site (sym (subst (λ (k : Command). Costs world (moves_made c.args.state) k cost) c.in-Step.is costs)) (c.step.ensures.cost t world is)
+
+pub returns-in-Finish-clause-moved : goal.returns-in-Finish-clause-moved
+returns-in-Finish-clause-moved g c = λ t world is.
+    subst (λ (k : Command). IfOk c.finish.result (λ done. moves_made done.state ≡ made_behind world (moves_made c.args.state) k)) (sym c.in-Finish.is)
+    c.finish.ensures.moved
+
+pub returns-in-Finish-clause-cost : goal.returns-in-Finish-clause-cost
+returns-in-Finish-clause-cost g c = λ t world cost is costs.
+    costs_as g.T.Site c.args.site.now c.finish.new.site (sym (subst (λ (k : Command). Costs world (moves_made c.args.state) k cost) c.in-Finish.is costs)) (c.finish.ensures.cost t world is)
+
+pub returns-in-Abandon-clause-moved : goal.returns-in-Abandon-clause-moved
+returns-in-Abandon-clause-moved g c = λ t world is.
+    subst (λ (k : Command). IfOk c.abandon.result (λ done. moves_made done.state ≡ made_behind world (moves_made c.args.state) k)) (sym c.in-Abandon.is)
+    c.abandon.ensures.moved
+
+pub returns-in-Abandon-clause-cost : goal.returns-in-Abandon-clause-cost
+returns-in-Abandon-clause-cost g c = λ t world cost is costs. spends_none g.T.Site cost c.args.site.now c.args.site.now refl
+
+pub returns-in-Status-clause-moved : goal.returns-in-Status-clause-moved
+returns-in-Status-clause-moved g c = λ t world is.
+    subst (λ (k : Command). IfOk c.status.result (λ done. moves_made done.state ≡ made_behind world (moves_made c.args.state) k)) (sym c.in-Status.is)
+    (same_moves c.status.result c.args.state c.status.ensures.state)
+
+pub returns-in-Status-clause-cost : goal.returns-in-Status-clause-cost
+returns-in-Status-clause-cost g c = λ t world cost is costs. spends_none g.T.Site cost c.args.site.now c.args.site.now refl
+
+pub returns-in-LongLine-clause-moved : goal.returns-in-LongLine-clause-moved
+returns-in-LongLine-clause-moved g c = λ t world is.
+    subst (λ (k : Command). IfOk c.plain.result (λ done. moves_made done.state ≡ made_behind world (moves_made c.args.state) k)) (sym c.in-LongLine.is)
+    (same_moves c.plain.result c.args.state c.plain.ensures.state)
+
+pub returns-in-LongLine-clause-cost : goal.returns-in-LongLine-clause-cost
+returns-in-LongLine-clause-cost g c = λ t world cost is costs. spends_none g.T.Site cost c.args.site.now c.args.site.now refl
+
+pub returns-in-OpenBlock-clause-moved : goal.returns-in-OpenBlock-clause-moved
+returns-in-OpenBlock-clause-moved g c = λ t world is.
+    subst (λ (k : Command). IfOk c.plain-in-OpenBlock.result (λ done. moves_made done.state ≡ made_behind world (moves_made c.args.state) k)) (sym c.in-OpenBlock.is)
+    (same_moves c.plain-in-OpenBlock.result c.args.state c.plain-in-OpenBlock.ensures.state)
+
+pub returns-in-OpenBlock-clause-cost : goal.returns-in-OpenBlock-clause-cost
+returns-in-OpenBlock-clause-cost g c = λ t world cost is costs. spends_none g.T.Site cost c.args.site.now c.args.site.now refl
+
+pub returns-in-Unknown-clause-moved : goal.returns-in-Unknown-clause-moved
+returns-in-Unknown-clause-moved g c = λ t world is.
+    subst (λ (k : Command). IfOk c.plain-in-Unknown.result (λ done. moves_made done.state ≡ made_behind world (moves_made c.args.state) k)) (sym c.in-Unknown.is)
+    (same_moves c.plain-in-Unknown.result c.args.state c.plain-in-Unknown.ensures.state)
+
+pub returns-in-Unknown-clause-cost : goal.returns-in-Unknown-clause-cost
+returns-in-Unknown-clause-cost g c = λ t world cost is costs. spends_none g.T.Site cost c.args.site.now c.args.site.now refl
+
+pub returns-in-Slice-clause-moved : goal.returns-in-Slice-clause-moved
+returns-in-Slice-clause-moved g c = λ t world is.
+    subst (λ (k : Command). IfOk c.slice.result (λ done. moves_made done.state ≡ made_behind world (moves_made c.args.state) k)) (sym c.in-Slice.is)
+    (same_moves c.slice.result c.args.state c.slice.ensures.state)
+
+pub returns-in-Slice-clause-cost : goal.returns-in-Slice-clause-cost
+returns-in-Slice-clause-cost g c = λ t world cost is costs.
+    let own = subst (λ (k : Command). Costs world (moves_made c.args.state) k cost) c.in-Slice.is costs in
+    record {
+      reads = c.slice.ensures.cost t world cost.reads is (subst (λ (text : List ℕ). ReadsFor world text cost.reads) (sym c.as_bytes.ensures) own.0);
+      writes = omega (arith, c.slice.ensures.looks.writes);
+    }

@@ -15,10 +15,10 @@ invariant-loop-command g l = record {
   over : l.lines.over ≡ l.fn.lines.over;
   nothing : ready l.fn.lines ≡ [] → ready l.lines ≡ [];
   onward : IsTrue g.T.Site.tells → (world : World) (more : List ℕ) → StandsFor l.fn.session.state (g.T.Site.disk l.fn.site) world
-      → Onward l.session.state (g.T.Site.disk l.site) world (to_come l.fn.lines more) (g.T.Site.disk l.fn.site).told (to_come l.lines more);
+      → Onward g.T.Site l.fn.site l.site l.fn.session.state l.session.state world (to_come l.fn.lines more) (to_come l.lines more);
   whole : IsTrue g.T.Site.tells → l.fn.lines.over ≡ false → (world : World) (more : List ℕ)
       → StandsFor l.fn.session.state (g.T.Site.disk l.fn.site) world
-      → Onward l.session.state (g.T.Site.disk l.site) world (whole_with l.fn.lines more) (g.T.Site.disk l.fn.site).told (whole_with l.lines more);
+      → Onward g.T.Site l.fn.site l.site l.fn.session.state l.session.state world (whole_with l.fn.lines more) (whole_with l.lines more);
   replied : IsTrue g.T.Site.tells → (more : List ℕ)
       → AreLeft (to_come l.fn.lines more) (g.T.Site.disk l.fn.site).told (to_come l.lines more) (g.T.Site.disk l.site).told;
   any_moment : IsTrue g.T.Site.tells → (world : World) (more : List ℕ) → StandsFor l.fn.session.state (g.T.Site.disk l.fn.site) world

@@ -2,10 +2,11 @@ use Rattle.std.proofs.Common.{◌∙◌, ◌++◌, ℕ, List, take, refl, sym, a
 use Rattle.script_lang.specs.Script.{commands, whole}
 use Rattle.script_lang.proofs.Feeding.{none_whole}
 use Rattle.script_lang.specs.Reading.{Reading, to_come, whole_with}
+use Rattle.cube_session.specs.Session.{moves_for}
 use Rattle.cube_shell.specs.Headline.{Finished}
 use Rattle.cube_shell.specs.Replied.{AreLeft}
 use Rattle.cube_shell.specs.Onward.{Onward}
-use Rattle.cube_shell.proofs.Going.{all_done, started_moments, started_onward, then_moments, then_onward}
+use Rattle.cube_shell.proofs.Going.{all_done, so_far_spends, started_moments, started_onward, then_finished, then_moments, then_onward, then_spends}
 use Rattle.cube_shell.proofs.Pieces.{given_more, piece_left, piece_taken, piece_to_come, end_to_come}
 use Rattle.cube_shell.proofs.Replied.{last_replied, more_replied, none_replied}
 use Rattle.cube_shell.proofs.Statuses.{input_only, not_input, not_too_long, undamaged_as}
@@ -24,15 +25,15 @@ loop-lines-init g c =
       given = λ s. omega arith;
       stands = λ t world stands. (world, stands);
       onward = λ s t world stands.
-          subst (λ (r : Reading). Onward c.args.session.now.state disk world (commands left) disk.told (to_come r left))
-          (sym c.new-lines.ensures) (started_onward c.args.session.now.state disk world (commands left) stands);
+          subst (λ (r : Reading). Onward g.T.Site c.args.site.now c.args.site.now c.args.session.now.state c.args.session.now.state world (commands left) (to_come r left))
+          (sym c.new-lines.ensures) (started_onward g.T.Site c.args.site.now c.args.session.now.state world (commands left) stands);
       replied = λ s t.
           subst (λ (r : Reading). AreLeft (commands left) disk.told (to_come r left) disk.told) (sym c.new-lines.ensures)
           (none_replied (commands left) disk.told);
       left = λ s. refl;
       whole = λ s t world more stands.
-          subst (λ (r : Reading). Onward c.args.session.now.state disk world (whole more) disk.told (whole_with r more))
-          (sym c.new-lines.ensures) (started_onward c.args.session.now.state disk world (whole more) stands);
+          subst (λ (r : Reading). Onward g.T.Site c.args.site.now c.args.site.now c.args.session.now.state c.args.session.now.state world (whole more) (whole_with r more))
+          (sym c.new-lines.ensures) (started_onward g.T.Site c.args.site.now c.args.session.now.state world (whole more) stands);
       none = ap (λ (r : Reading). whole_with r []) c.new-lines.ensures;
       any_moment = λ s t world stands. started_moments c.args.session.now.state disk world (commands left) stands
           (λ told files. g.met.T.Site.only_now c.args.site.now told files t);
@@ -45,14 +46,14 @@ loop-lines-init g c =
 pub returns-in_err-take_end-clause-any_moment : goal.returns-in_err-take_end-clause-any_moment
 returns-in_err-take_end-clause-any_moment g c = λ s t world stands.
     let o = c.loop-lines.invariant.onward s t world stands in
-    then_moments (g.T.Site.disk c.args.site.now) (g.T.Site.disk c.loop-lines.site) (g.T.Site.disk c.take_end.new.site) _ world _ _ _ []
+    then_moments g.T.Site c.args.site.now c.loop-lines.site c.take_end.new.site _ _ world _ _ _ []
     o (end_to_come _ _ _ _ (c.in_ok-count.ensures.bytes s) c.loop-lines.lines c.give_back.new.self c.give_back.ensures c.if-count-eq0.true)
     (c.loop-lines.invariant.any_moment s t world stands) (c.take_end.ensures.any_moment t o.now o.stands)
 
 pub returns-then-count-eq0-clause-any_moment : goal.returns-then-count-eq0-clause-any_moment
 returns-then-count-eq0-clause-any_moment g c = λ s t world stands.
     let o = c.loop-lines.invariant.onward s t world stands in
-    then_moments (g.T.Site.disk c.args.site.now) (g.T.Site.disk c.loop-lines.site) (g.T.Site.disk c.take_end.new.site) _ world _ _ _ []
+    then_moments g.T.Site c.args.site.now c.loop-lines.site c.take_end.new.site _ _ world _ _ _ []
     o (end_to_come _ _ _ _ (c.in_ok-count.ensures.bytes s) c.loop-lines.lines c.give_back.new.self c.give_back.ensures c.if-count-eq0.true)
     (c.loop-lines.invariant.any_moment s t world stands) (c.take_end.ensures.any_moment t o.now o.stands)
 
@@ -70,7 +71,7 @@ loop-lines-preserved g c = record {
       let o = c.in_ok-take_piece.ensures.onward t now.0 [] now.1 in (o.now, o.stands);
   onward = λ s t world stands.
       let o = c.loop-lines.invariant.onward s t world stands in
-      then_onward (g.T.Site.disk c.args.site.now) (g.T.Site.disk c.loop-lines.site) (g.T.Site.disk c.take_piece.new.site) _ world _ _ _ _
+      then_onward g.T.Site c.args.site.now c.loop-lines.site c.take_piece.new.site _ _ world _ _ _ _
       o (piece_to_come _ _ _ _ (c.in_ok-count.ensures.bytes s) c.loop-lines.lines c.give_back.new.self c.give_back.ensures)
       c.take_piece.new.session.state (c.in_ok-take_piece.ensures.onward t o.now (g.S.Source.left c.pull.new.source) o.stands);
   replied = λ s t.
@@ -82,17 +83,17 @@ loop-lines-preserved g c = record {
   whole = λ s t world more stands.
       let piece = take c.in_ok-count.count c.pull.new.into.items in
       let o = c.loop-lines.invariant.whole s t world (piece ++ more) stands in
-      subst (λ (bytes : List ℕ). Onward c.take_piece.new.session.state (g.T.Site.disk c.take_piece.new.site) world (whole bytes)
-      (g.T.Site.disk c.args.site.now).told (whole_with c.take_piece.new.lines more))
+      subst (λ (bytes : List ℕ). Onward g.T.Site c.args.site.now c.take_piece.new.site c.args.session.now.state c.take_piece.new.session.state world (whole bytes)
+      (whole_with c.take_piece.new.lines more))
       (piece_taken _ _ _ c.in_ok-count.count (c.in_ok-count.ensures.bytes s) (g.S.Source.left c.args.source.now) c.loop-lines.taken
       (omega (arith, c.in_ok-count.ensures.bound)) (c.loop-lines.invariant.left s) (c.loop-lines.invariant.given s) more)
-      (then_onward (g.T.Site.disk c.args.site.now) (g.T.Site.disk c.loop-lines.site) (g.T.Site.disk c.take_piece.new.site) _ world _ _ _ _
+      (then_onward g.T.Site c.args.site.now c.loop-lines.site c.take_piece.new.site _ _ world _ _ _ _
       o (ap (λ (r : Reading). whole_with r (piece ++ more)) (sym c.give_back.ensures)) c.take_piece.new.session.state
       (c.in_ok-take_piece.ensures.whole t o.now more o.stands));
   none = none_whole c.take_piece.new.lines c.take_piece.ensures.goes_on c.in_ok-take_piece.ensures.ready;
   any_moment = λ s t world stands.
       let o = c.loop-lines.invariant.onward s t world stands in
-      then_moments (g.T.Site.disk c.args.site.now) (g.T.Site.disk c.loop-lines.site) (g.T.Site.disk c.take_piece.new.site) _ world _ _ _ []
+      then_moments g.T.Site c.args.site.now c.loop-lines.site c.take_piece.new.site _ _ world _ _ _ []
       o (piece_to_come _ _ _ _ (c.in_ok-count.ensures.bytes s) c.loop-lines.lines c.give_back.new.self c.give_back.ensures)
       (c.loop-lines.invariant.any_moment s t world stands)
       (c.take_piece.ensures.any_moment t o.now (g.S.Source.left c.pull.new.source) o.stands);
@@ -105,7 +106,7 @@ loop-lines-preserved g c = record {
 pub returns-in_err-take_piece-clause-any_moment : goal.returns-in_err-take_piece-clause-any_moment
 returns-in_err-take_piece-clause-any_moment g c = λ s t world stands.
     let o = c.loop-lines.invariant.onward s t world stands in
-    then_moments (g.T.Site.disk c.args.site.now) (g.T.Site.disk c.loop-lines.site) (g.T.Site.disk c.take_piece.new.site) _ world _ _ _ []
+    then_moments g.T.Site c.args.site.now c.loop-lines.site c.take_piece.new.site _ _ world _ _ _ []
     o (piece_to_come _ _ _ _ (c.in_ok-count.ensures.bytes s) c.loop-lines.lines c.give_back.new.self c.give_back.ensures)
     (c.loop-lines.invariant.any_moment s t world stands)
     (c.take_piece.ensures.any_moment t o.now (g.S.Source.left c.pull.new.source) o.stands)
@@ -132,8 +133,8 @@ returns-then-taken-limit-clause-short g c = λ s t world stands.
         looked_at = c.loop-lines.taken;
         within = c.loop-lines.invariant.taken;
         last_pull = omega (arith, c.if-taken-limit.true, c.in_ok-count.ensures.bound, c.pull.ensures.room, c.in_ok-buffer.ensures.piece);
-        finished = subst (λ (bytes : List ℕ). Finished (g.T.Site.disk c.loop-lines.site) world (whole bytes) (g.T.Site.disk c.args.site.now).told)
-            (append-nil seen) (all_done _ (g.T.Site.disk c.loop-lines.site) world (whole (seen ++ [])) _ _ o c.loop-lines.invariant.none);
+        finished = subst (λ (bytes : List ℕ). Finished (g.T.Site.disk c.loop-lines.site) world (moves_for c.args.session.now.state) (whole bytes) (g.T.Site.disk c.args.site.now).told)
+            (append-nil seen) (all_done g.T.Site c.args.site.now c.loop-lines.site _ _ world (whole (seen ++ [])) _ o c.loop-lines.invariant.none);
       };
       cut_off = λ is. cc;
     }
@@ -173,8 +174,8 @@ returns-in_err-count-clause-short g c = λ s t world stands.
       cut_off = λ is. record {
         given = seen;
         cut = c.loop-lines.invariant.left s ∙ ap (λ (l : List ℕ). seen ++ l) (sym (c.in_err-count.ensures.failed s));
-        finished = subst (λ (bytes : List ℕ). Finished (g.T.Site.disk c.loop-lines.site) world (whole bytes) (g.T.Site.disk c.args.site.now).told)
-            (append-nil seen) (all_done _ (g.T.Site.disk c.loop-lines.site) world (whole (seen ++ [])) _ _ o c.loop-lines.invariant.none);
+        finished = subst (λ (bytes : List ℕ). Finished (g.T.Site.disk c.loop-lines.site) world (moves_for c.args.session.now.state) (whole bytes) (g.T.Site.disk c.args.site.now).told)
+            (append-nil seen) (all_done g.T.Site c.args.site.now c.loop-lines.site _ _ world (whole (seen ++ [])) _ o c.loop-lines.invariant.none);
       };
     }
 
@@ -183,3 +184,45 @@ returns-then-count-eq0-clause-replied g c = λ s t.
     last_replied _ _ _ _ _ _ (c.loop-lines.invariant.replied s t)
     (end_to_come _ _ _ _ (c.in_ok-count.ensures.bytes s) c.loop-lines.lines c.give_back.new.self c.give_back.ensures c.if-count-eq0.true)
     (c.in_ok-take_end.ensures.replied t)
+
+pub returns-then-count-eq0-clause-finished : goal.returns-then-count-eq0-clause-finished
+returns-then-count-eq0-clause-finished g c = λ s t world stands.
+    let o = c.loop-lines.invariant.onward s t world stands in
+    then_finished g.T.Site c.args.site.now c.loop-lines.site c.take_end.new.site _ _ world _ _ _ []
+    o (end_to_come _ _ _ _ (c.in_ok-count.ensures.bytes s) c.loop-lines.lines c.give_back.new.self c.give_back.ensures c.if-count-eq0.true)
+    (c.in_ok-take_end.ensures.finished t o.now o.stands)
+
+-- ---- what is spent
+
+pub returns-in_err-take_end-clause-cost : goal.returns-in_err-take_end-clause-cost
+returns-in_err-take_end-clause-cost g c = λ s t world cost stands costs.
+    let o = c.loop-lines.invariant.onward s t world stands in
+    then_spends g.T.Site c.args.site.now c.loop-lines.site c.take_end.new.site _ _ world _ _ _ []
+    o (end_to_come _ _ _ _ (c.in_ok-count.ensures.bytes s) c.loop-lines.lines c.give_back.new.self c.give_back.ensures c.if-count-eq0.true)
+    (λ part own. c.take_end.ensures.cost t o.now part o.stands own) cost costs
+
+pub returns-then-count-eq0-clause-cost : goal.returns-then-count-eq0-clause-cost
+returns-then-count-eq0-clause-cost g c = λ s t world cost stands costs.
+    let o = c.loop-lines.invariant.onward s t world stands in
+    then_spends g.T.Site c.args.site.now c.loop-lines.site c.take_end.new.site _ _ world _ _ _ []
+    o (end_to_come _ _ _ _ (c.in_ok-count.ensures.bytes s) c.loop-lines.lines c.give_back.new.self c.give_back.ensures c.if-count-eq0.true)
+    (λ part own. c.take_end.ensures.cost t o.now part o.stands own) cost costs
+
+pub returns-in_err-take_piece-clause-cost : goal.returns-in_err-take_piece-clause-cost
+returns-in_err-take_piece-clause-cost g c = λ s t world cost stands costs.
+    let o = c.loop-lines.invariant.onward s t world stands in
+    then_spends g.T.Site c.args.site.now c.loop-lines.site c.take_piece.new.site _ _ world _ _ _ []
+    o (piece_to_come _ _ _ _ (c.in_ok-count.ensures.bytes s) c.loop-lines.lines c.give_back.new.self c.give_back.ensures)
+    (λ part own. c.take_piece.ensures.cost t o.now (g.S.Source.left c.pull.new.source) part o.stands own) cost costs
+
+pub returns-then-taken-limit-clause-cost : goal.returns-then-taken-limit-clause-cost
+returns-then-taken-limit-clause-cost g c = λ s t world cost stands costs.
+    so_far_spends g.T.Site c.args.site.now c.loop-lines.site _ _ world _ _ (c.loop-lines.invariant.onward s t world stands) cost costs
+
+pub returns-in_err-count-clause-cost : goal.returns-in_err-count-clause-cost
+returns-in_err-count-clause-cost g c = λ s t world cost stands costs.
+    so_far_spends g.T.Site c.args.site.now c.loop-lines.site _ _ world _ _ (c.loop-lines.invariant.onward s t world stands) cost costs
+
+pub returns-in_err-buffer-clause-cost : goal.returns-in_err-buffer-clause-cost
+returns-in_err-buffer-clause-cost g c = λ s t world cost stands costs.
+    so_far_spends g.T.Site c.args.site.now c.loop-lines.site _ _ world _ _ (c.loop-lines.invariant.onward s t world stands) cost costs

@@ -22,15 +22,15 @@ invariant-loop-lines g l = record {
       → (now : World) × StandsFor l.session.state (g.T.Site.disk l.site) now;
   onward : IsTrue g.S.Source.tells → IsTrue g.T.Site.tells → (world : World)
       → StandsFor l.fn.session.state (g.T.Site.disk l.fn.site) world
-      → Onward l.session.state (g.T.Site.disk l.site) world (commands (g.S.Source.left l.fn.source))
-      (g.T.Site.disk l.fn.site).told (to_come l.lines (g.S.Source.left l.source));
+      → Onward g.T.Site l.fn.site l.site l.fn.session.state l.session.state world (commands (g.S.Source.left l.fn.source))
+      (to_come l.lines (g.S.Source.left l.source));
   replied : IsTrue g.S.Source.tells → IsTrue g.T.Site.tells → AreLeft (commands (g.S.Source.left l.fn.source)) (g.T.Site.disk l.fn.site).told
       (to_come l.lines (g.S.Source.left l.source)) (g.T.Site.disk l.site).told;
   left : IsTrue g.S.Source.tells → g.S.Source.left l.fn.source ≡ take l.taken (g.S.Source.left l.fn.source) ++ g.S.Source.left l.source;
   whole : IsTrue g.S.Source.tells → IsTrue g.T.Site.tells → (world : World) (more : List ℕ)
       → StandsFor l.fn.session.state (g.T.Site.disk l.fn.site) world
-      → Onward l.session.state (g.T.Site.disk l.site) world (whole (take l.taken (g.S.Source.left l.fn.source) ++ more))
-      (g.T.Site.disk l.fn.site).told (whole_with l.lines more);
+      → Onward g.T.Site l.fn.site l.site l.fn.session.state l.session.state world (whole (take l.taken (g.S.Source.left l.fn.source) ++ more))
+      (whole_with l.lines more);
   none : whole_with l.lines [] ≡ [];
   any_moment : IsTrue g.S.Source.tells → IsTrue g.T.Site.tells → (world : World)
       → StandsFor l.fn.session.state (g.T.Site.disk l.fn.site) world

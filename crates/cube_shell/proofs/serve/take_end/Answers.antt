@@ -4,13 +4,15 @@ use Rattle.script_lang.specs.declared.command.Command.{Command}
 use Rattle.script_lang.specs.Reading.{Reading, ready}
 use Rattle.script_lang.proofs.Feeding.{ended, none_to_come}
 use Rattle.plain_machine.specs.Stages.{AfterStop}
+use Rattle.cube_session.specs.Costs.{CostTogether}
+use Rattle.cube_session.specs.Session.{moves_for}
 use Rattle.cube_shell.proofs.Going.{finished_at}
 use Rattle.cube_shell.proofs.Replied.{replied_at}
 use Rattle.cube_shell.proofs.serve.take_end.Goals as goal
 
 pub returns-clause-finished : goal.returns-clause-finished
 returns-clause-finished g c = λ t world stands.
-    finished_at _ _ _ world _ _ _ _ _ (c.carry_out.ensures.onward t world [] stands) c.carry_out.ensures.ready
+    finished_at g.T.Site _ c.args.site.now c.carry_out.new.site _ c.carry_out.new.session.state world _ _ _ _ (c.carry_out.ensures.onward t world [] stands) c.carry_out.ensures.ready
     (none_to_come c.carry_out.new.lines (c.carry_out.ensures.over ∙ ap (λ (r : Reading). r.over) c.end.ensures))
     (ended c.args.lines.now c.end.new.self c.requires.goes_on c.end.ensures)
 
@@ -29,3 +31,8 @@ returns-clause-replied g c = λ t.
     replied_at _ _ _ _ _ _ _ (c.carry_out.ensures.replied t []) c.carry_out.ensures.ready
     (none_to_come c.carry_out.new.lines (c.carry_out.ensures.over ∙ ap (λ (r : Reading). r.over) c.end.ensures))
     (ended c.args.lines.now c.end.new.self c.requires.goes_on c.end.ensures)
+
+pub returns-clause-cost : goal.returns-clause-cost
+returns-clause-cost g c = λ t world cost stands costs.
+    c.carry_out.ensures.cost t world [] cost stands
+    (subst (λ (cs : List Command). CostTogether world (moves_for c.args.session.now.state) cs cost) (ended c.args.lines.now c.end.new.self c.requires.goes_on c.end.ensures) costs)

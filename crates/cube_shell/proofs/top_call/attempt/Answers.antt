@@ -1,8 +1,12 @@
-use Rattle.std.proofs.Common.{◌≡◌, ℕ, List, OnOk, ap, refl, subst, Err}
+use Rattle.std.proofs.Common.{◌≡◌, ℕ, List, OnOk, ap, refl, subst, sym, Err}
 use Rattle.site_core.specs.Calls.{Stays}
 use Rattle.site_core.proofs.Run.{Settles-ok}
 use Rattle.script_lang.specs.Script.{commands}
 use Rattle.plain_machine.specs.World.{bare}
+use Rattle.cube_session.specs.Costs.{CostTogether, open_cost}
+use Rattle.cube_state.proofs.Costs.{spends_none, spends_then}
+use Rattle.cube_shell.specs.Costs.{opening_and}
+use Rattle.cube_shell.proofs.Costs.{opening_more, opening_spends}
 use Rattle.cube_shell.specs.Damage.{EndsAt, EndsForBreak}
 use Rattle.cube_shell.specs.Ends.{IsUndamaged, IsUsageOrMemory}
 use Rattle.cube_shell.specs.declared.exit.Status.TheVariants.{Usage}
@@ -92,3 +96,18 @@ returns-in_err-cache-clause-faulty g c = λ faulty. record {
   unread = refl;
   untouched = refl;
 }
+
+-- ---- what is spent
+
+pub returns-clause-cost : goal.returns-clause-cost
+returns-clause-cost g c = λ s t kept cost keeps costs.
+    spends_then g.T.Site (record { reads = open_cost kept; writes = 0 }) cost c.args.site.now c.start.new.site c.serve.new.site (opening_spends g.T.Site _ _ kept (c.start.ensures.cost t kept keeps) c.start.ensures.writes)
+    (c.serve.ensures.cost s t (bare kept) cost (c.in_ok-session.ensures.opened t kept keeps)
+    (subst (λ (m : ℕ). CostTogether (bare kept) m (commands (g.S.Source.left c.args.source.now)) cost) (sym c.in_ok-session.ensures.moved) costs))
+
+pub returns-in_err-session-clause-cost : goal.returns-in_err-session-clause-cost
+returns-in_err-session-clause-cost g c = λ s t kept cost keeps costs.
+    opening_more g.T.Site _ _ kept cost (opening_spends g.T.Site _ _ kept (c.start.ensures.cost t kept keeps) c.start.ensures.writes)
+
+pub returns-in_err-cache-clause-cost : goal.returns-in_err-cache-clause-cost
+returns-in_err-cache-clause-cost g c = λ s t kept cost keeps costs. spends_none g.T.Site (opening_and kept cost) c.args.site.now c.args.site.now refl

@@ -4,6 +4,7 @@ use Rattle.plain_machine.specs.World.{bare}
 use Rattle.cube_shell.specs.declared.exit.Status.{Status}
 use Rattle.cube_shell.specs.declared.exit.Status.TheVariants.{Done}
 use Rattle.cube_shell.specs.Ends.{Faults, EndCause}
+use Rattle.cube_shell.proofs.Costs.{costs_run}
 use Rattle.cube_shell.proofs.Going.{told_front}
 use Rattle.cube_shell.proofs.top_call.run_within.Goals as goal
 
@@ -53,3 +54,11 @@ returns-in-Err-clause-replied g c = λ s t is. absurd (not_done _ _ _ c.in-Err.e
 
 pub returns-in-Err-clause-read : goal.returns-in-Err-clause-read
 returns-in-Err-clause-read g c = λ s is. absurd (not_done _ _ _ c.in-Err.ensures.cause.0 is)
+
+pub returns-in-Ok-clause-cost : goal.returns-in-Ok-clause-cost
+returns-in-Ok-clause-cost g c = λ s t kept keeps.
+    costs_run g.T.Site kept (commands (g.S.Source.left c.args.source.now)) c.args.site.now c.attempt.new.site (λ cost costs. c.attempt.ensures.cost s t kept cost keeps costs)
+
+pub returns-in-Err-clause-cost : goal.returns-in-Err-clause-cost
+returns-in-Err-clause-cost g c = λ s t kept keeps.
+    costs_run g.T.Site kept (commands (g.S.Source.left c.args.source.now)) c.args.site.now c.attempt.new.site (λ cost costs. c.attempt.ensures.cost s t kept cost keeps costs)

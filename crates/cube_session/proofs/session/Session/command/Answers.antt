@@ -1,9 +1,11 @@
-use Rattle.std.proofs.Common.{◌∙◌, ◌++◌, ℕ, List, Option, IfSome, ap, rules, sym, subst}
+use Rattle.std.proofs.Common.{◌≡◌, ◌∙◌, ◌++◌, ℕ, List, Option, IfSome, ap, arith, rules, sym, subst}
 use Rattle.cube_state.specs.declared.state.State.{State}
 use Rattle.cube_state.specs.declared.stop.Stop.TheVariants as stops
 use Rattle.cube_state.proofs.Standing.{emits_left, stands_on}
 use Rattle.cube_session.specs.Gives.{RepliesTo}
-use Rattle.cube_session.specs.Session.{StandsFor}
+use Rattle.cube_state.specs.Moves.{made_behind, moves_made}
+use Rattle.cube_session.specs.Costs.{Costs}
+use Rattle.cube_session.specs.Session.{StandsFor, moves_for}
 use Rattle.cube_session.specs.Told.{TellsDamage}
 use Rattle.cube_session.proofs.Commanded.{untold, telling}
 use Rattle.cube_session.proofs.Told.{tells_none}
@@ -59,3 +61,31 @@ returns-in-Ok-clause-answered g c = λ t.
       right = c.in_ok-state.ensures.answered t;
     } in
     subst (λ (s : Option State). IfSome s (λ state. RepliesTo state files c.args.command old now)) (sym (sym c.take.ensures.value ∙ c.in-Some.is)) is
+
+-- ---- what is moved and spent
+
+pub returns-in-Ok-clause-moved : goal.returns-in-Ok-clause-moved
+returns-in-Ok-clause-moved g c = λ t world stands.
+    let same = sym c.take.ensures.value ∙ c.in-Some.is in
+    let is = subst (λ (s : Option State). StandsFor s (g.T.Site.disk c.args.site.now) world) same stands in
+    subst (λ (s : Option State). moves_made c.in_ok-state.field-0.state ≡ made_behind world (moves_for s) c.args.command) (sym same) (c.in_ok-state.ensures.moved t world is)
+
+pub returns-in_err-state-clause-cost : goal.returns-in_err-state-clause-cost
+returns-in_err-state-clause-cost g c = λ t world cost stands costs.
+    let same = sym c.take.ensures.value ∙ c.in-Some.is in
+    c.act.ensures.cost t world cost (subst (λ (s : Option State). StandsFor s (g.T.Site.disk c.args.site.now) world) same stands)
+    (subst (λ (s : Option State). Costs world (moves_for s) c.args.command cost) same costs)
+
+pub returns-in-Ok-clause-cost : goal.returns-in-Ok-clause-cost
+returns-in-Ok-clause-cost g c = λ t world cost stands costs.
+    let same = sym c.take.ensures.value ∙ c.in-Some.is in
+    let spent = c.act.ensures.cost t world cost (subst (λ (s : Option State). StandsFor s (g.T.Site.disk c.args.site.now) world) same stands)
+    (subst (λ (s : Option State). Costs world (moves_for s) c.args.command cost) same costs) in
+    record { reads = omega (arith, spent.reads, c.emit.ensures.reads); writes = omega (arith, spent.writes, c.emit.ensures.writes) }
+
+pub returns-in-Err-clause-cost : goal.returns-in-Err-clause-cost
+returns-in-Err-clause-cost g c = λ t world cost stands costs.
+    let same = sym c.take.ensures.value ∙ c.in-Some.is in
+    let spent = c.act.ensures.cost t world cost (subst (λ (s : Option State). StandsFor s (g.T.Site.disk c.args.site.now) world) same stands)
+    (subst (λ (s : Option State). Costs world (moves_for s) c.args.command cost) same costs) in
+    record { reads = omega (arith, spent.reads, c.emit.ensures.reads); writes = omega (arith, spent.writes, c.emit.ensures.writes) }

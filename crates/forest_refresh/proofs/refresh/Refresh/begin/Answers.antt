@@ -1,10 +1,11 @@
-use Rattle.std.proofs.Common.{◌≡◌}
+use Rattle.std.proofs.Common.{◌≡◌, ◌++◌, subst}
 use Rattle.site_core.proofs.Run.{holds_to, started}
 use Rattle.forest_store.proofs.Standing.{live_keeps}
-use Rattle.forest_store.specs.Held.{KeepsFacts}
+use Rattle.forest_root.specs.declared.forest.Forest.{Forest}
+use Rattle.forest_store.specs.Held.{AreAccepted, KeepsFacts}
 use Rattle.forest_store.specs.Stored.{IsStoreOf}
 use Rattle.forest_refresh.specs.Prepared.{begun_with}
-use Rattle.forest_refresh.proofs.Begins.{begun_on, cut_back, kept_by}
+use Rattle.forest_refresh.proofs.Begins.{begun_on, cut_back, fits_then, kept_by}
 use Rattle.forest_refresh.proofs.refresh.Refresh.begin.Goals as goal
 
 pub returns-in-Ok-clause-begun : goal.returns-in-Ok-clause-begun
@@ -29,3 +30,8 @@ returns-in-Err-clause-any_moment g c = λ t accepted is.
     (λ told files left.
     let now = g.met.T.Site.only_now c.args.site.now told files t left in
     (now.0, live_keeps forest.schema forest.body accepted files (is.left files now.1).live))
+
+pub returns-in-Ok-clause-limit : goal.returns-in-Ok-clause-limit
+returns-in-Ok-clause-limit g c = λ accepted files is.
+    fits_then c.args.store.forest.schema (accepted ++ c.args.facts) c.shut_gate.result
+    (subst (λ (f : Forest). AreAccepted f.schema (accepted ++ c.args.facts)) c.prepare.ensures.forest (c.in-Ok.ensures.adds accepted files is).all) c.shut_gate.ensures.why

@@ -1,4 +1,4 @@
-use Rattle.std.proofs.Common.{◌≡◌, ◌≢◌, ◌≤◌, ◌<◌, ◌+◌, ◌-◌, ◌*◌, ℕ, length, min, take, refl, sym, ap, ◌∙◌, subst, arith}
+use Rattle.std.proofs.Common.{◌≡◌, ◌≢◌, ◌≤◌, ◌<◌, ◌+◌, ◌-◌, ◌*◌, ◌%◌, ℕ, length, min, take, refl, sym, ap, ◌∙◌, subst, arith}
 use Rattle.site_core.specs.Moments.{HoldsNow, LeavesOnly}
 use Rattle.site_core.proofs.Run.{holds_to}
 use Rattle.forest_root.specs.declared.forest.Forest.{Forest}
@@ -73,7 +73,8 @@ returns-clause-stands g c = λ t accepted batch was.
     (λ less. all-taken forest new.files r.deltas accepted batch adds slot p has (omega (arith, limit.1 less))) in (
       record {
         within = within;
-        pages = subst (λ (s : ℕ). take (4096 * written p.taken (forest_moves forest.schema accepted batch)) (new.files (2 + s)) ≡ bytes_after forest.schema accepted batch p.taken) c.slot-side.ensures pages;
+        pages = subst (λ (f : ℕ). take (4096 * written p.taken (forest_moves forest.schema accepted batch)) (new.files f) ≡ bytes_after forest.schema accepted batch p.taken)
+            (ap (λ n. 2 + n) c.slot-side.ensures ∙ ap (λ n. 2 + n % 2) begun.next.generation) pages;
       },
       least ∙ ap (λ (b : Begun). min c.args.moves (length (forest_moves b.store.forest.schema accepted batch) - b.progress.taken)) view,
     ))
