@@ -1,4 +1,4 @@
-"""What load-csv and ask have in common: a run of the program in a folder, and the schema that a folder keeps."""
+"""What load-csv, ask and refresh-slowly have in common: a run of the program in a folder, and the schema that a folder keeps."""
 import csv
 import os
 import re
@@ -61,6 +61,16 @@ class Run:
         """The reply to a command whose reply is one line."""
         self.send(command)
         return self.reply()
+
+    def answer(self, text):
+        """The rows of the reply to a slice, and its last line: how many there are, or a refusal."""
+        self.send(b"slice " + text + b"\n")
+        rows = []
+        # A field of a row may have line feeds; that of a line with one field is no text.
+        for record in csv.reader(iter(lambda: self.reply() + "\n", None), strict=True):
+            if len(record) == 1 and record[0].startswith(("rows ", "refused ")):
+                return rows, record[0]
+            rows.append(record)
 
     def close(self):
         """The status with which it ends, its script being at an end."""
