@@ -19,7 +19,7 @@ ghost use Rattle.forest_moves.specs.Forest.{forest_moves};
 ghost use Rattle.packing.specs.Moves.{KeepsTo};
 ghost use Rattle.merge_pack.specs.Standing.{moves_tried};
 ghost use Rattle.forest_refresh.specs.Prepared.{begun_with};
-ghost use Rattle.forest_refresh.specs.Refreshed.{IsNoDamage, KeepsEither, NamesPageIn};
+ghost use Rattle.forest_refresh.specs.Refreshed.{IsNoDamage, KeepsEither, NamesPageIn, SparesLive};
 ghost use Rattle.forest_refresh.specs.Trees.{AreAllWhole, TellsFirstDamage, deltas_by};
 
 use crate::committing::commit;
@@ -150,8 +150,10 @@ impl Refresh {
             (T.reads site.old, T.writes site.old) (T.reads site.new, T.writes site.new) }
 
         // Whatever the files hold.
+        ensures limit { IfOk result (λ made. (made ≤ moves) × (made < moves → length self.new.progress.rows ≡ length self.old.store.forest.mapping.trees)) }
         ensures goes { OnOk result (IsGoing self.new) }
         ensures ready { IsTrue T.tells → OnOk result (IsReady self.new (T.disk site.new)) }
+        ensures disk { IsTrue T.tells → SparesLive self.old.store.forest.body (T.disk site.old) (T.disk site.new) }
         ensures damaged { IsTrue T.tells → IfErr result (TellsFirstDamage self.old.store.forest (T.disk site.old).files self.old.deltas) }
         ensures place { IfErr result (NamesPageIn self.old.store.forest.body self.old.store.forest.schema) }
         ensures told { IsTrue T.tells → (T.disk site.new).told ≡ (T.disk site.old).told }
@@ -193,6 +195,7 @@ impl Refresh {
 
         // Whatever the files hold.
         ensures joined { IsTrue T.tells → OnOk result (AreAllWhole self.store.forest (T.disk site.old).files self.deltas) }
+        ensures spared { IsTrue T.tells → IfErr result (λ stop. stop ≢ RefreshStop.Disk → SparesLive self.store.forest.body (T.disk site.old) (T.disk site.new)) }
         ensures damaged { IsTrue T.tells → IfErr result (TellsFirstDamage self.store.forest (T.disk site.old).files self.deltas) }
         ensures place { IfErr result (NamesPageIn self.store.forest.body self.store.forest.schema) }
         ensures opened { IsTrue T.tells → IfOk result (λ store. IsOpened store.forest.body (T.disk site.new)) }

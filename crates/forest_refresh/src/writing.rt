@@ -108,14 +108,13 @@ fn merge_on<T: Site>(
     ensures disk { IsTrue T.tells → Changes (DiffersPast room.old.merge.file 0) (T.disk site.old) (T.disk site.new) }
     ensures calls { Calls T.Site (HasCauseWhere RefreshStop.Disk) ((place_of forest.now tree).pages) site.old site.new result }
 {
-    let place = forest.place(tree);
     let delta = deltas.tree(tree as usize);
     match room.merge.run(&delta, limit, site) {
         Ok(made) => {
             room.taken += made;
             Ok(made)
         }
-        Err(stop) => Err(stop_at(&place, stop)),
+        Err(stop) => Err(stop_at(&forest.place(tree), stop)),
     }
 }
 

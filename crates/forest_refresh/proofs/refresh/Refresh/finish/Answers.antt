@@ -1,4 +1,6 @@
-use Rattle.std.proofs.Common.{rules, ◌≡◌, ◌≢◌, ◌<◌, ◌+◌, ◌++◌, ℕ, [], get_or, length, refl, sym, ap, ◌∙◌, subst, arith}
+use Rattle.std.proofs.Common.{rules, ◌≡◌, ◌≢◌, ◌<◌, ◌+◌, ◌%◌, ◌++◌, ℕ, [], get_or, length, refl, sym, ap, ◌∙◌, subst, arith}
+use Rattle.site_core.specs.Calls.{Changes}
+use Rattle.site_core.specs.Disk.{DiffersPast}
 use Rattle.site_core.specs.Moments.{HoldsNow}
 use Rattle.packing.specs.Moves.{KeepsTo}
 use Rattle.forest_root.specs.declared.forest.Forest.{Forest}
@@ -8,10 +10,10 @@ use Rattle.forest_store.proofs.Schemas.{few_views}
 use Rattle.forest_store.proofs.Storable.{storable}
 use Rattle.forest_moves.specs.Forest.{forest_moves}
 use Rattle.forest_refresh.specs.declared.refresh.Refresh.TheInside.{Inside}
-use Rattle.forest_refresh.specs.Begun.{Begun, IsGoing, IsRefreshOf, batch_size}
+use Rattle.forest_refresh.specs.Begun.{Begun, IsGoing, IsRefreshOf, batch_size, next_side}
 use Rattle.forest_refresh.specs.Next.{HasNumbers, counts_from}
 use Rattle.forest_refresh.specs.Progress.{GoesOn, progress_of}
-use Rattle.forest_refresh.specs.Refreshed.{IsNoDamage}
+use Rattle.forest_refresh.specs.Refreshed.{IsNoDamage, SparesLive}
 use Rattle.forest_refresh.specs.Trees.{AreAllWhole, TellsFirstDamage}
 use Rattle.forest_refresh.proofs.Advancing.{keeps-top, live-addition}
 use Rattle.forest_refresh.proofs.Committed.{other_slot}
@@ -66,6 +68,13 @@ returns-in_err-advance-clause-cost g c = λ t accepted batch was.
     subst (λ (b : Begun). KeepsTo (forest_moves b.store.forest.schema accepted batch) b.progress.taken (length (forest_moves b.store.forest.schema accepted batch)) (g.T.Site.reads c.args.site.now, g.T.Site.writes c.args.site.now + 3) (g.T.Site.reads c.advance.new.site, g.T.Site.writes c.advance.new.site)) c.self.view_is
     (keeps-top (forest_moves forest.schema accepted batch) r.progress.taken _ (g.T.Site.reads c.args.site.now) (g.T.Site.writes c.args.site.now) (g.T.Site.reads c.advance.new.site) (g.T.Site.writes c.advance.new.site)
     (c.advance.ensures.cost t accepted batch (addition_of r accepted batch old.files is)) (g.T.Site.reads c.advance.new.site, g.T.Site.writes c.advance.new.site) (omega arith) (omega arith))
+
+pub returns-in_err-advance-clause-spared : goal.returns-in_err-advance-clause-spared
+returns-in_err-advance-clause-spared g c = λ t.
+    err_then c.from_residual.result _ (λ stop. stop ≢ stops.Disk → SparesLive c.args.self.store.forest.body (g.T.Site.disk c.args.site.now) (g.T.Site.disk c.advance.new.site)) (err_if c.from_residual.result _ c.from_residual.ensures.1)
+    (λ stop same apart. subst (λ (f : ℕ). Changes (DiffersPast f 0) (g.T.Site.disk c.args.site.now) (g.T.Site.disk c.advance.new.site))
+    (ap (λ n. 2 + n) c.slot.ensures ∙ ap (λ n. 2 + n % 2) c.self.invariant.begun.next.generation ∙ ap (λ (b : Begun). next_side b.store.forest.body) c.self.view_is)
+    (c.advance.ensures.disk t))
 
 pub returns-in_err-advance-clause-damaged : goal.returns-in_err-advance-clause-damaged
 returns-in_err-advance-clause-damaged g c = λ t.

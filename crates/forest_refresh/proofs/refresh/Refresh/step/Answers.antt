@@ -1,11 +1,13 @@
-use Rattle.std.proofs.Common.{◌≡◌, ◌≢◌, ◌≤◌, ◌<◌, ◌+◌, ◌-◌, ◌*◌, ◌%◌, ℕ, length, min, take, refl, sym, ap, ◌∙◌, subst, arith}
+use Rattle.std.proofs.Common.{◌≡◌, ◌≢◌, ◌≤◌, ◌<◌, ◌+◌, ◌-◌, ◌*◌, ◌%◌, ℕ, IfOk, length, min, take, refl, sym, ap, ◌∙◌, subst, arith}
+use Rattle.site_core.specs.Calls.{Changes}
+use Rattle.site_core.specs.Disk.{DiffersPast}
 use Rattle.site_core.specs.Moments.{HoldsNow, LeavesOnly}
 use Rattle.site_core.proofs.Run.{holds_to}
 use Rattle.forest_root.specs.declared.forest.Forest.{Forest}
 use Rattle.forest_store.specs.Held.{KeepsFacts}
 use Rattle.forest_commit.specs.Commit.{slot_of}
 use Rattle.forest_refresh.specs.declared.refresh.Refresh.TheInside.{Inside}
-use Rattle.forest_refresh.specs.Begun.{Begun, IsGoing, IsRefreshOf, StandsAt, batch_size}
+use Rattle.forest_refresh.specs.Begun.{Begun, IsGoing, IsRefreshOf, StandsAt, batch_size, next_side}
 use Rattle.forest_refresh.specs.Progress.{GoesOn, HasWritten, progress_of}
 use Rattle.forest_refresh.specs.Refreshed.{IsNoDamage}
 use Rattle.forest_refresh.specs.Trees.{TellsFirstDamage}
@@ -20,6 +22,18 @@ use Rattle.forest_refresh.proofs.refresh.Refresh.step.Goals as goal
 
 abbrev seen : Inside → Begun
 seen r = record { store = r.store; deltas = r.deltas; entries = r.names; next = r.next; progress = progress_of r.room }
+
+pub returns-clause-disk : goal.returns-clause-disk
+returns-clause-disk g c = λ t.
+    let r = seen c.self.inside in
+    subst (λ (f : ℕ). Changes (DiffersPast f 0) (g.T.Site.disk c.args.site.now) (g.T.Site.disk c.advance.new.site))
+    (ap (λ n. 2 + n) c.slot-side.ensures ∙ ap (λ n. 2 + n % 2) c.self.invariant.begun.next.generation ∙ ap (λ (b : Begun). next_side b.store.forest.body) c.self.view_is)
+    (c.advance.ensures.disk t)
+
+pub returns-clause-limit : goal.returns-clause-limit
+returns-clause-limit g c =
+    subst (λ (b : Begun). IfOk c.advance.result (λ made. (made ≤ c.args.moves) × (made < c.args.moves → length (progress_of c.advance.new.room).rows ≡ length b.store.forest.mapping.trees)))
+    c.self.view_is c.advance.ensures.limit
 
 pub returns-clause-undamaged : goal.returns-clause-undamaged
 returns-clause-undamaged g c = λ t accepted batch was.
