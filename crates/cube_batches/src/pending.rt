@@ -1,5 +1,5 @@
 //! The commands `begin`, `step`, `finish` and `abandon`, over a batch that is pending.
-ghost use Rattle.std.specs.Prelude.{◌≡◌, ◌≤◌, ◌+◌, IsTrue, List, OnOk, IfOk, IfErr, codes};
+ghost use Rattle.std.specs.Prelude.{◌≡◌, ◌≤◌, ◌+◌, IsTrue, List, OnOk, IfOk, IfErr};
 ghost use Rattle.fact_model.specs.declared.fact.Fact as facts;
 ghost use Rattle.forest_refresh.specs.Begun.{IsGoing, IsReady};
 ghost use Rattle.forest_store.specs.Sides.{page_count};
@@ -84,44 +84,73 @@ pub fn step<T: Site>(
     ensures runs { IfOk result (λ done. RunsOn T.Site site.new done.state) }
     ensures quiet { IsQuiet T.Site site.old site.new result }
 {
+    let mut state = state;
+    move_on(&mut state, moves, site)?;
+    let text = step_line(&state);
+    plain(alloc, state, text)
+}
+
+/// The reply to a step, without its line feed.
+fn step_line(state: &State) -> &'static str
+    ensures { line result.now ≡ step_text state.now }
+{
     match state {
-        State::Empty => plain(alloc, State::Empty, "refused nothing pending"),
-        State::Idle(store) => plain(alloc, State::Idle(store), "refused nothing pending"),
-        State::Hollow(store) => plain(alloc, State::Hollow(store), "stepped"),
-        State::Pending(refresh) => go_on(alloc, refresh, moves, site),
+        State::Empty | State::Idle(_) => "refused nothing pending",
+        State::Hollow(_) | State::Pending(_) => "stepped",
+    }
+}
+
+/// Makes so many moves of what is pending, where it lies: a refresh is too large to be handed from call to call for each move.
+fn move_on<T: Site>(state: &mut State, moves: u64, site: &mut T) -> Result<(), Stop>
+    requires runs { RunsOn T.Site site.old state.old }
+
+    ensures stands { IsTrue T.tells → (world : World) → Stands state.old (T.disk site.old) world
+        → OnOk result (Stands state.new (T.disk site.new) world) }
+    ensures any_moment { IsTrue T.tells → (world : World) → Stands state.old (T.disk site.old) world
+        → Between (T.disk site.old) (T.disk site.new) world world }
+    ensures undamaged { IsTrue T.tells → (world : World) → Stands state.old (T.disk site.old) world
+        → IfErr result IsNoDamage }
+    ensures moved { IsTrue T.tells → (world : World) → Stands state.old (T.disk site.old) world
+        → OnOk result (moves_made state.new ≡ made_behind world (moves_made state.old) (says.Step moves)) }
+    ensures cost { IsTrue T.tells → (world : World) → Stands state.old (T.disk site.old) world
+        → Spends T.Site (step_cost world (moves_made state.old) moves) site.old site.new }
+
+    // Whatever the files hold.
+    ensures damage { IsTrue T.tells → IfErr result (FinishTells state.old (T.disk site.old).files) }
+    ensures same { OnOk result (step_text state.new ≡ step_text state.old) }
+    ensures runs { OnOk result (RunsOn T.Site site.new state.new) }
+    ensures quiet { IsQuiet T.Site site.old site.new result }
+{
+    match state {
+        State::Pending(refresh) => go_on(refresh, moves, site),
+        _ => Ok(()),
     }
 }
 
 /// Makes so many moves of a refresh, or all that are left.
-fn go_on<T: Site>(
-    alloc: Global,
-    refresh: Refresh,
-    moves: u64,
-    site: &mut T,
-) -> Result<Answered, Stop>
-    requires goes { IsGoing refresh }
-    requires fit { IsTrue T.tells → IsReady refresh (T.disk site.old) }
+fn go_on<T: Site>(refresh: &mut Refresh, moves: u64, site: &mut T) -> Result<(), Stop>
+    requires goes { IsGoing refresh.old }
+    requires fit { IsTrue T.tells → IsReady refresh.old (T.disk site.old) }
 
-    ensures stands { IsTrue T.tells → (warehouse : Warehouse) (batch : List facts.Fact) → Attends refresh (T.disk site.old) warehouse batch
-        → IfOk result (λ done. Stands done.state (T.disk site.new) (begun_with warehouse batch)) }
-    ensures any_moment { IsTrue T.tells → (warehouse : Warehouse) (batch : List facts.Fact) → Attends refresh (T.disk site.old) warehouse batch
+    ensures attends { IsTrue T.tells → (warehouse : Warehouse) (batch : List facts.Fact) → Attends refresh.old (T.disk site.old) warehouse batch
+        → OnOk result (Attends refresh.new (T.disk site.new) warehouse batch) }
+    ensures any_moment { IsTrue T.tells → (warehouse : Warehouse) (batch : List facts.Fact) → Attends refresh.old (T.disk site.old) warehouse batch
         → Between (T.disk site.old) (T.disk site.new) (begun_with warehouse batch) (begun_with warehouse batch) }
-    ensures undamaged { IsTrue T.tells → (warehouse : Warehouse) (batch : List facts.Fact) → Attends refresh (T.disk site.old) warehouse batch
+    ensures undamaged { IsTrue T.tells → (warehouse : Warehouse) (batch : List facts.Fact) → Attends refresh.old (T.disk site.old) warehouse batch
         → IfErr result IsNoDamage }
-    ensures moved { IsTrue T.tells → (warehouse : Warehouse) (batch : List facts.Fact) → Attends refresh (T.disk site.old) warehouse batch
-        → IfOk result (λ done. moves_made done.state ≡ made_behind (begun_with warehouse batch) refresh.progress.taken (says.Step moves)) }
-    ensures cost { IsTrue T.tells → (warehouse : Warehouse) (batch : List facts.Fact) → Attends refresh (T.disk site.old) warehouse batch
-        → Spends T.Site (step_cost (begun_with warehouse batch) refresh.progress.taken moves) site.old site.new }
+    ensures moved { IsTrue T.tells → (warehouse : Warehouse) (batch : List facts.Fact) → Attends refresh.old (T.disk site.old) warehouse batch
+        → OnOk result (refresh.new.progress.taken ≡ made_behind (begun_with warehouse batch) refresh.old.progress.taken (says.Step moves)) }
+    ensures cost { IsTrue T.tells → (warehouse : Warehouse) (batch : List facts.Fact) → Attends refresh.old (T.disk site.old) warehouse batch
+        → Spends T.Site (step_cost (begun_with warehouse batch) refresh.old.progress.taken moves) site.old site.new }
 
     // Whatever the files hold.
-    ensures damage { IsTrue T.tells → IfErr result (TellsRefreshDamage refresh (T.disk site.old).files) }
-    ensures answered { IfOk result (λ done. done.reply.items ≡ line (codes "stepped")) }
-    ensures runs { IfOk result (λ done. RunsOn T.Site site.new done.state) }
+    ensures damage { IsTrue T.tells → IfErr result (TellsRefreshDamage refresh.old (T.disk site.old).files) }
+    ensures goes { OnOk result (IsGoing refresh.new) }
+    ensures fit { IsTrue T.tells → OnOk result (IsReady refresh.new (T.disk site.new)) }
     ensures quiet { IsQuiet T.Site site.old site.new result }
 {
-    let mut refresh = refresh;
     match refresh.step(site, moves) {
-        Ok(_) => plain(alloc, State::Pending(refresh), "stepped"),
+        Ok(_) => Ok(()),
         Err(stop) => Err(Stop::from(stop)),
     }
 }
