@@ -19,6 +19,12 @@ begins_over None (Some (x ∷ xs)) = 1
 abbrev pub begins : World → World → ℕ
 begins world next = begins_over world.pending next.pending
 
+-- no batch is there, or an empty one
+abbrev pub HasNoFact : Option (List Fact) → Type 0
+HasNoFact None = Unit {0}
+HasNoFact (Some []) = Unit {0}
+HasNoFact (Some (x ∷ xs)) = ⊥
+
 -- where a batch begins the gate of the next generation is read and written
 abbrev pub begin_cost : World → World → Cost
 begin_cost world next = record { reads = begins world next; writes = begins world next }

@@ -12,7 +12,7 @@ ghost use Rattle.cube_state.specs.Frames.{IsQuiet, RunsOn};
 ghost use Rattle.cube_state.specs.Moves.{made_behind, moves_made};
 ghost use Rattle.cube_state.specs.Stops.{IsNoDamage};
 ghost use Rattle.cube_state.specs.Session.{Attends, Between, IsAnswer, Stands, abandon_text, step_text};
-ghost use Rattle.cube_batches.specs.Costs.{begin_cost, begins, finish_cost, pages_over, step_cost};
+ghost use Rattle.cube_batches.specs.Costs.{HasNoFact, begin_cost, begins, finish_cost, pages_over, step_cost};
 ghost use Rattle.cube_batches.specs.Gives.{BeginGives, FinishGives, IsFinished};
 ghost use Rattle.cube_batches.specs.Told.{FinishTells, TellsRefreshDamage};
 
@@ -77,6 +77,8 @@ pub fn step<T: Site>(
         → IfOk result (λ done. moves_made done.state ≡ made_behind world (moves_made state) (says.Step moves)) }
     ensures cost { IsTrue T.tells → (world : World) → Stands state (T.disk site.old) world
         → Spends T.Site (step_cost world (moves_made state) moves) site.old site.new }
+    ensures silent { IsTrue T.tells → (world : World) → Stands state (T.disk site.old) world → HasNoFact world.pending
+        → OnOk result (T.writes site.new ≡ T.writes site.old) }
 
     // Whatever the files hold.
     ensures damage { IsTrue T.tells → IfErr result (FinishTells state (T.disk site.old).files) }
@@ -114,6 +116,8 @@ fn move_on<T: Site>(state: &mut State, moves: u64, site: &mut T) -> Result<(), S
         → OnOk result (moves_made state.new ≡ made_behind world (moves_made state.old) (says.Step moves)) }
     ensures cost { IsTrue T.tells → (world : World) → Stands state.old (T.disk site.old) world
         → Spends T.Site (step_cost world (moves_made state.old) moves) site.old site.new }
+    ensures silent { IsTrue T.tells → (world : World) → Stands state.old (T.disk site.old) world → HasNoFact world.pending
+        → OnOk result (T.writes site.new ≡ T.writes site.old) }
 
     // Whatever the files hold.
     ensures damage { IsTrue T.tells → IfErr result (FinishTells state.old (T.disk site.old).files) }

@@ -10,7 +10,7 @@ use Rattle.plain_machine.specs.World.{Kept, World}
 use Rattle.cube_state.specs.Costs.{Cost, both, free}
 use Rattle.cube_state.specs.Moves.{made_behind}
 use Rattle.cube_slices.specs.Costs.{Costs as ReadsFor}
-use Rattle.cube_batches.specs.Costs.{begin_cost, finish_cost, grows, load_cost, step_cost}
+use Rattle.cube_batches.specs.Costs.{HasNoFact, begin_cost, finish_cost, grows, load_cost, step_cost}
 
 -- of files that keep this: the root file, and the pages of the names
 abbrev pub open_cost : Kept → ℕ
@@ -42,7 +42,7 @@ pub data CostTogether : World → ℕ → List Command → Cost → Type 0 where
   one_costs : {world : World} {made : ℕ} {command : Command} {rest : List Command} (one others : Cost) → Costs world made command one
       → CostTogether (act world command).0 (made_behind world made command) rest others → CostTogether world made (command ∷ rest) (both one others)
 
--- it asks for no move
-abbrev pub IsNoStep : Command → Type 0
-IsNoStep (says.Step n) = ⊥
-IsNoStep _ = Unit {0}
+-- it asks for no move of a batch: a step does, where one is pending that is not empty
+abbrev pub AsksNoMove : World → Command → Type 0
+AsksNoMove world (says.Step n) = HasNoFact world.pending
+AsksNoMove world _ = Unit {0}

@@ -8,7 +8,7 @@ ghost use Rattle.cube_state.specs.Moves.{made_behind, moves_made};
 ghost use Rattle.cube_state.specs.Stops.{IsNoDamage};
 ghost use Rattle.cube_state.specs.Session.{Between, IsAnswer, IsRunning, Stands, state_text};
 ghost use Rattle.cube_batches.specs.Costs.{begins};
-ghost use Rattle.cube_session.specs.Costs.{Costs, IsNoStep};
+ghost use Rattle.cube_session.specs.Costs.{AsksNoMove, Costs};
 ghost use Rattle.cube_session.specs.Gives.{Gives};
 ghost use Rattle.cube_session.specs.Told.{TellsDamage};
 
@@ -46,9 +46,9 @@ pub fn act<T: Site>(
     // Whatever the files hold.
     ensures damage { IsTrue T.tells → IfErr result (TellsDamage state (T.disk site.old).files command) }
     ensures answered { IsTrue T.tells → IfOk result (λ done. Gives state (T.disk site.old).files command done.reply.items) }
-    // Where no fact is accepted and no schema declared, no batch that is not empty begins and no move is asked for, nothing is written.
+    // Where no fact is accepted and no schema declared, no batch that is not empty begins and none is to be moved on, nothing is written.
     ensures silent { IsTrue T.tells → (world : World) → Stands state (T.disk site.old) world
-        → (act world command).0.kept ≡ world.kept → begins world (act world command).0 ≡ 0 → IsNoStep command
+        → (act world command).0.kept ≡ world.kept → begins world (act world command).0 ≡ 0 → AsksNoMove world command
         → OnOk result (T.writes site.new ≡ T.writes site.old) }
     ensures runs { IfOk result (λ done. RunsOn T.Site site.new done.state) }
     ensures cache { pages.new ≡ pages.old }

@@ -13,7 +13,7 @@ ghost use Rattle.cube_state.specs.Frames.{IsQuiet, StopsFor};
 ghost use Rattle.cube_state.specs.Moves.{made_behind};
 ghost use Rattle.cube_state.specs.Stops.{IsNoDamage};
 ghost use Rattle.cube_batches.specs.Costs.{begins};
-ghost use Rattle.cube_session.specs.Costs.{Costs, IsNoStep, open_cost};
+ghost use Rattle.cube_session.specs.Costs.{AsksNoMove, Costs, open_cost};
 ghost use Rattle.cube_session.specs.Damage.{StopsAt, TellsBreak};
 ghost use Rattle.cube_session.specs.Gives.{RepliesTo};
 ghost use Rattle.cube_session.specs.Session.{Runs, StandsFor, moves_for};
@@ -116,9 +116,9 @@ impl Session {
             TellsDamage state (T.disk site.old).files command stop)) }
         ensures answered { IsTrue T.tells → OnOk result (IfSome self.old.state (λ state.
             RepliesTo state (T.disk site.old).files command (T.disk site.old).told (T.disk site.new).told)) }
-        // Where no fact is accepted and no schema declared, no batch that is not empty begins and no move is asked for, nothing is written.
+        // Where no fact is accepted and no schema declared, no batch that is not empty begins and none is to be moved on, nothing is written.
         ensures silent { IsTrue T.tells → (world : World) → StandsFor self.old.state (T.disk site.old) world
-            → (act world command).0.kept ≡ world.kept → begins world (act world command).0 ≡ 0 → IsNoStep command
+            → (act world command).0.kept ≡ world.kept → begins world (act world command).0 ≡ 0 → AsksNoMove world command
             → OnOk result (T.writes site.new ≡ T.writes site.old) }
         ensures stopped { OnErr result (self.new.state ≡ None) }
         ensures runs { OnOk result (Runs T.Site site.new self.new.state) }

@@ -10,7 +10,7 @@ use Rattle.cube_slices.specs.Costs.{Costs as ReadsFor}
 use Rattle.cube_slices.specs.Gives.{SliceGives}
 use Rattle.cube_slices.specs.Sliced.{SliceTells}
 use Rattle.cube_batches.specs.Costs.{begins}
-use Rattle.cube_session.specs.Costs.{Costs, IsNoStep}
+use Rattle.cube_session.specs.Costs.{AsksNoMove, Costs}
 use Rattle.cube_session.specs.Gives.{Gives}
 use Rattle.cube_session.specs.Told.{TellsDamage}
 use Rattle.cube_session.proofs.Known.{abandon_known, costs_as, same_moves, status_known, told_only}
@@ -26,7 +26,7 @@ returns-in-Schema-clause-any_moment g c = λ t world is.
     between_as _ _ world _ _ (sym (ap (act world) c.in-Schema.is ∙ act_schema world _)) (c.declare.ensures.any_moment t world is)
 
 pub returns-in-Schema-clause-silent : goal.returns-in-Schema-clause-silent
-returns-in-Schema-clause-silent g c = λ t world is stays none no_step.
+returns-in-Schema-clause-silent g c = λ t world is stays none no_move.
     c.declare.ensures.unwritten t world is (sym (ap (λ (a : Answer). a.0.kept) (ap (act world) c.in-Schema.is ∙ act_schema world _)) ∙ stays)
 
 pub returns-in-Load-clause-answer : goal.returns-in-Load-clause-answer
@@ -38,7 +38,7 @@ returns-in-Load-clause-any_moment g c = λ t world is.
     between_as _ _ world _ _ (sym (ap (act world) c.in-Load.is ∙ act_load world _)) (c.load.ensures.any_moment t world is)
 
 pub returns-in-Load-clause-silent : goal.returns-in-Load-clause-silent
-returns-in-Load-clause-silent g c = λ t world is stays none no_step.
+returns-in-Load-clause-silent g c = λ t world is stays none no_move.
     c.load.ensures.unwritten t world is (sym (ap (λ (a : Answer). a.0.kept) (ap (act world) c.in-Load.is ∙ act_load world _)) ∙ stays)
 
 pub returns-in-Slice-clause-answer : goal.returns-in-Slice-clause-answer
@@ -90,7 +90,7 @@ returns-in-Generate-clause-any_moment g c = λ t world is.
     between_as _ _ world _ _ (sym (ap (act world) c.in-Generate.is ∙ act_generate world _ _)) (c.load-in-Generate.ensures.any_moment t world is)
 
 pub returns-in-Generate-clause-silent : goal.returns-in-Generate-clause-silent
-returns-in-Generate-clause-silent g c = λ t world is stays none no_step.
+returns-in-Generate-clause-silent g c = λ t world is stays none no_move.
     c.load-in-Generate.ensures.unwritten t world is (sym (ap (λ (a : Answer). a.0.kept) (ap (act world) c.in-Generate.is ∙ act_generate world _ _)) ∙ stays)
 
 pub returns-in-Schema-clause-damage : goal.returns-in-Schema-clause-damage
@@ -129,7 +129,7 @@ returns-in-Begin-clause-any_moment g c = λ t world is.
     between_as _ _ world _ _ (sym (ap (act world) c.in-Begin.is ∙ act_begin world _)) (c.begin.ensures.any_moment t world is)
 
 pub returns-in-Begin-clause-silent : goal.returns-in-Begin-clause-silent
-returns-in-Begin-clause-silent g c = λ t world is stays none no_step.
+returns-in-Begin-clause-silent g c = λ t world is stays none no_move.
     c.begin.ensures.silent t world is (sym (ap (λ (a : Answer). begins world a.0) (ap (act world) c.in-Begin.is ∙ act_begin world _)) ∙ none)
 
 pub returns-in-Begin-clause-damage : goal.returns-in-Begin-clause-damage
@@ -145,7 +145,8 @@ returns-in-Step-clause-any_moment g c = λ t world is.
     between_as _ _ world _ _ (sym (ap (act world) c.in-Step.is ∙ act_step world _)) (c.step.ensures.any_moment t world is)
 
 pub returns-in-Step-clause-silent : goal.returns-in-Step-clause-silent
-returns-in-Step-clause-silent g c = λ t world is stays none no_step. absurd (subst IsNoStep c.in-Step.is no_step)
+returns-in-Step-clause-silent g c = λ t world is stays none no_move.
+    c.step.ensures.silent t world is (subst (AsksNoMove world) c.in-Step.is no_move)
 
 pub returns-in-Step-clause-damage : goal.returns-in-Step-clause-damage
 returns-in-Step-clause-damage g c = λ t.
@@ -160,7 +161,7 @@ returns-in-Finish-clause-any_moment g c = λ t world is.
     between_as _ _ world _ _ (sym (ap (act world) c.in-Finish.is ∙ act_finish world)) (c.finish.ensures.any_moment t world is)
 
 pub returns-in-Finish-clause-silent : goal.returns-in-Finish-clause-silent
-returns-in-Finish-clause-silent g c = λ t world is stays none no_step.
+returns-in-Finish-clause-silent g c = λ t world is stays none no_move.
     c.finish.ensures.unwritten t world is (sym (ap (λ (a : Answer). a.0.kept) (ap (act world) c.in-Finish.is ∙ act_finish world)) ∙ stays)
 
 pub returns-in-Finish-clause-damage : goal.returns-in-Finish-clause-damage
