@@ -1,3 +1,4 @@
+pub mod CodeRanks
 pub mod CodedValues
 pub mod FactPoints
 pub mod FoldLaws
@@ -15,6 +16,10 @@ pub mod KeyRows
 pub mod KeyTurns
 pub mod Lent
 pub mod LightFolds
+pub mod RankKeys
+pub mod RankOrder
+pub mod RankSorts
+pub mod RankedPoints
 pub mod RegionEnds
 pub mod RegionPoints
 pub mod ViewKeys

@@ -9,6 +9,7 @@ ghost use Rattle.view_rows.specs.Grouped.{AllJoin, Joins, NeighboursJoin, by_key
 ghost use Rattle.view_rows.specs.declared.stop.RowsStop.TheVariants as stops;
 
 use crate::keys::compare_keys;
+use crate::ranked::sorted_by_ranks;
 use crate::stop::RowsStop;
 use attr_dict::Dicts;
 use cube_point::Entry;
@@ -47,9 +48,24 @@ fn sorted_by_key<'a>(
     ensures sorted { IfOk result (λ sorted. IsSortedBy (is_before names.now view.now group.now) (lent sorted.items)) }
     ensures stable { IfOk result (λ sorted. IsStableBy (is_before names.now view.now group.now) points.now (lent sorted.items)) }
 {
-    let mut sorted: Vec<&Entry> = points.iter().collect(alloc)?;
-    sorted.sort_by(|a, b| compare_keys(names, view, group, a, b))?;
-    Ok(sorted)
+    if are_sorted(names, view, group, points) {
+        let sorted = points.iter().collect(alloc)?;
+        return Ok(sorted);
+    }
+    sorted_by_ranks(alloc, names, view, group, points)
+}
+
+/// Whether the points come in the order of their keys.
+fn are_sorted(names: &Dicts, view: &[u32], group: &[u32], points: &[Entry]) -> bool
+    requires { All (λ a. a < length names.now.kinds) group.now }
+    ensures { IsTrue result → IsSortedBy (is_before names.now view.now group.now) points.now }
+{
+    for i in 1..points.len() {
+        if compare_keys(names, view, group, &points[i], &points[i - 1]).is_lt() {
+            return false;
+        }
+    }
+    true
 }
 
 /// The points with those of one key joined, where they come in the order of their keys: of each key the first point, with the joined

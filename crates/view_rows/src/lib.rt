@@ -8,6 +8,8 @@ mod indexing;
 mod joining;
 mod kept;
 mod keys;
+mod ranked;
+mod ranks;
 mod regions;
 mod rows;
 mod stop;

@@ -1,34 +1,24 @@
-use Rattle.std.proofs.Common.{rules, List, Bor, IsPermutation, subst}
-use Rattle.std.specs.List.Sorted.{IsStableBy}
-use Rattle.std.proofs.lemmas.Fn.{always_returns_same}
+use Rattle.std.proofs.Common.{List, IsPermutation, refl, sym, subst}
+use Rattle.std.specs.List.Sorted.{IsSortedBy, IsStableBy}
 use Rattle.std.proofs.lemmas.Iterator.{YieldsList-from_slice}
 use Rattle.std.proofs.lemmas.Iterator.Consumers.{map_from_collect}
-use Rattle.std.proofs.lemmas.List.Sorted.{IsPermutation-map, ranks_by}
+use Rattle.std.proofs.lemmas.List.Sorted.{IsPermutation-refl}
 use Rattle.std.proofs.lemmas.Result.{IfOk-at_ok}
 use Rattle.cube_point.specs.declared.point.Entry.{Entry}
-use Rattle.view_points.proofs.Orders.{key-total}
-use Rattle.view_rows.specs.Grouped.{is_before, key_of_entry, lent}
-use Rattle.view_rows.proofs.Lent.{lent_before, sorted-lent, stable-lent}
+use Rattle.view_rows.specs.Grouped.{is_before}
 use Rattle.view_rows.proofs.joining.sorted_by_key.Goals as goal
 
-pub returns-clause-moved : goal.returns-clause-moved
-returns-clause-moved c =
+pub returns-then-are_sorted-clause-moved : goal.returns-then-are_sorted-clause-moved
+returns-then-are_sorted-clause-moved c =
     let whole = IfOk-at_ok _ c.in_ok-sorted.was (map_from_collect _ c.collect.ensures.ran (YieldsList-from_slice c.args.points.now cc)) in
-    subst (λ (es : List Entry). IsPermutation es (lent c.sort_by.new.self.items)) whole
-    (IsPermutation-map (λ (e : Bor Entry). e.now) _ _ c.in_ok-sort_by.ensures.permutation)
+    subst (λ (es : List Entry). IsPermutation c.args.points.now es) (sym whole) (IsPermutation-refl c.args.points.now)
 
-pub returns-clause-sorted : goal.returns-clause-sorted
-returns-clause-sorted c =
-    let before = is_before c.args.names.now c.args.view.now c.args.group.now in
-    sorted-lent before c.sort_by.new.self.items
-    (c.in_ok-sort_by.ensures.sorted (lent_before before)
-    (ranks_by key-total (λ (e : Bor Entry). key_of_entry c.args.names.now c.args.view.now c.args.group.now e.now)) (always_returns_same _ _ _ (λ a r f g. search rules)))
-
-pub returns-clause-stable : goal.returns-clause-stable
-returns-clause-stable c =
-    let before = is_before c.args.names.now c.args.view.now c.args.group.now in
+pub returns-then-are_sorted-clause-sorted : goal.returns-then-are_sorted-clause-sorted
+returns-then-are_sorted-clause-sorted c =
     let whole = IfOk-at_ok _ c.in_ok-sorted.was (map_from_collect _ c.collect.ensures.ran (YieldsList-from_slice c.args.points.now cc)) in
-    subst (λ (es : List Entry). IsStableBy before es (lent c.sort_by.new.self.items)) whole
-    (stable-lent before c.in_ok-sorted.sorted.items c.sort_by.new.self.items
-    (c.in_ok-sort_by.ensures.stable (lent_before before)
-    (ranks_by key-total (λ (e : Bor Entry). key_of_entry c.args.names.now c.args.view.now c.args.group.now e.now)) (always_returns_same _ _ _ (λ a r f g. search rules))))
+    subst (IsSortedBy (is_before c.args.names.now c.args.view.now c.args.group.now)) (sym whole) (c.are_sorted.ensures c.if-are_sorted.true)
+
+pub returns-then-are_sorted-clause-stable : goal.returns-then-are_sorted-clause-stable
+returns-then-are_sorted-clause-stable c =
+    let whole = IfOk-at_ok _ c.in_ok-sorted.was (map_from_collect _ c.collect.ensures.ran (YieldsList-from_slice c.args.points.now cc)) in
+    subst (λ (es : List Entry). IsStableBy (is_before c.args.names.now c.args.view.now c.args.group.now) c.args.points.now es) (sym whole) (λ e. refl)
