@@ -1,13 +1,13 @@
 //! Rows as text.
-ghost use Rattle.std.specs.Prelude.{◌≡◌, ◌++◌, [], false, true, IfOk, OnOk, OnErr, map};
+ghost use Rattle.std.specs.Prelude.{◌≡◌, ◌++◌, [], false, true, IfOk, OnOk, OnErr, decimal};
 ghost use Rattle.std.specs.Fmt.{signed_decimal};
 ghost use Rattle.csv.specs.Records.{fields_of};
 ghost use Rattle.csv.specs.Writing.{default_writer, fields_written, has_written, row_text, with_flexible, writer_setup};
 ghost use Rattle.csv_text.specs.Between.{IsBetween, text_of};
-ghost use Rattle.csv_text.specs.Rows.{nothing_written, with_field, with_fields, with_end, with_rows, value_text, row_fields};
+ghost use Rattle.csv_text.specs.Rows.{nothing_written, with_field, with_end};
 
 use csv::{ByteRecord, Writer, WriterBuilder};
-use fact_model::{Memory, Row, Value};
+use fact_model::Memory;
 use itoa::Buffer;
 use std::alloc::Global;
 use std::marker::Model;
@@ -67,15 +67,12 @@ impl RowWriter {
         self.push_field(Buffer::new().format(number).as_bytes())
     }
 
-    /// Appends a value to the row: a text as it is, and a number in decimal.
-    pub fn push_value(&mut self, value: &Value) -> Result<(), Memory>
-        ensures pushed { OnOk result (self.new ≡ with_field self.old (value_text value.now)) }
+    /// Appends a natural number to the row, in decimal.
+    pub fn push_natural(&mut self, number: u64) -> Result<(), Memory>
+        ensures pushed { OnOk result (self.new ≡ with_field self.old (decimal number)) }
         ensures dropped { OnErr result (self.new ≡ nothing_written) }
     {
-        match value {
-            Value::Word(text) => self.push_field(text.as_bytes()),
-            Value::Number(number) => self.push_field(Buffer::new().format(*number).as_bytes()),
-        }
+        self.push_field(Buffer::new().format(number).as_bytes())
     }
 
     /// Ends the row. A row of no field, or of one that is empty, is written as two quotes.
@@ -90,48 +87,6 @@ impl RowWriter {
                 Err(Memory)
             }
         }
-    }
-
-    /// Writes the rows of an answer, where no row has begun.
-    pub fn push_rows(&mut self, rows: &[Row]) -> Result<(), Memory>
-        requires { self.old.fields ≡ [] }
-        ensures pushed { OnOk result (self.new ≡ with_rows self.old (map row_fields rows.now)) }
-        ensures dropped { OnErr result (self.new ≡ nothing_written) }
-    {
-        for row in rows {
-            self.push_row(row)?;
-        }
-        Ok(())
-    }
-
-    /// Appends the values and numbers of a row of an answer to the row, and ends it.
-    pub fn push_row(&mut self, row: &Row) -> Result<(), Memory>
-        ensures pushed { OnOk result (self.new ≡ with_end (with_fields self.old (row_fields row.now))) }
-        ensures dropped { OnErr result (self.new ≡ nothing_written) }
-    {
-        self.push_values(row.key.as_slice())?;
-        self.push_numbers(row.numbers.as_slice())?;
-        self.end_row()
-    }
-
-    fn push_values(&mut self, values: &[Value]) -> Result<(), Memory>
-        ensures pushed { OnOk result (self.new ≡ with_fields self.old (map value_text values.now)) }
-        ensures dropped { OnErr result (self.new ≡ nothing_written) }
-    {
-        for value in values {
-            self.push_value(value)?;
-        }
-        Ok(())
-    }
-
-    fn push_numbers(&mut self, numbers: &[i128]) -> Result<(), Memory>
-        ensures pushed { OnOk result (self.new ≡ with_fields self.old (map signed_decimal numbers.now)) }
-        ensures dropped { OnErr result (self.new ≡ nothing_written) }
-    {
-        for number in numbers {
-            self.push_number(*number)?;
-        }
-        Ok(())
     }
 
     /// The text of the rows that have ended.

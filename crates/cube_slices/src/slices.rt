@@ -15,7 +15,7 @@ ghost use Rattle.cube_slices.specs.Sliced.{AreRows, TellsSliceDamage};
 ghost use Rattle.cube_slices.specs.Sliced.{SliceTells};
 
 use cube_state::{Answered, State, Stop, plain};
-use fact_model::{Rows, Slice};
+use fact_model::Slice;
 use forest_root::Store;
 use page_cache::Pages;
 use reply_text::refused_slice;
@@ -23,6 +23,7 @@ use site_core::Site;
 use slice_exec::AnswerStop;
 use slice_lang::read_slice;
 use std::alloc::Global;
+use view_rows::SliceRows;
 
 /// Answers the text of a slice over the accepted facts, or refuses it by the first rule that it breaks. What the session has is handed back
 /// as it was, and nothing is written. An error ends the session: a file failed, a page is not sound, or memory ran out.
@@ -137,13 +138,13 @@ fn found_text<T: Site>(
 }
 
 /// The rows of a slice, if some view covers it.
-fn rows_of<T: Site>(
+fn rows_of<'a, T: Site>(
     alloc: Global,
     pages: &mut Pages,
-    store: &Store,
-    slice: &Slice,
+    store: &'a Store,
+    slice: &'a Slice,
     site: &mut T,
-) -> Result<Option<Rows>, Stop>
+) -> Result<Option<SliceRows<'a>>, Stop>
     requires agrees { SliceAgrees store.now.forest.schema slice.now }
 
     ensures rows { IsTrue T.tells → (accepted : List facts.Fact) → IsStoreOf store.now accepted (T.disk site.old).files

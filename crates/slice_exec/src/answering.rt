@@ -16,13 +16,13 @@ ghost use Rattle.slice_exec.specs.Costs.{visits_over};
 
 use crate::finding::find;
 use crate::stop::AnswerStop;
-use fact_model::{Rows, Slice};
+use fact_model::Slice;
 use forest_root::{Forest, Store};
 use page_cache::Pages;
 use site_core::{SIDES, Site};
 use std::alloc::Global;
 use view_route::route;
-use view_rows::{Groups, RowsStop};
+use view_rows::{Groups, RowsStop, SliceRows};
 
 /// The rows of a slice: one for each group of the accepted facts that meet its conditions, ascending by key. They are made from the
 /// points of a covering view with fewest points, and of its tree only those pages are read whose boxes meet the conditions. Nothing is
@@ -30,13 +30,13 @@ use view_rows::{Groups, RowsStop};
 ///
 /// `NotCovered` comes exactly where no view has all grouped and bound attributes. `Damaged` names a page of the live side, or its
 /// offset 0 where a point has a coordinate without a value or cells do not join.
-pub fn answer<T: Site>(
+pub fn answer<'a, T: Site>(
     alloc: Global,
     site: &mut T,
     pages: &mut Pages,
-    store: &Store,
-    slice: &Slice,
-) -> Result<Rows, AnswerStop>
+    store: &'a Store,
+    slice: &'a Slice,
+) -> Result<SliceRows<'a>, AnswerStop>
     requires agrees { SliceAgrees store.now.forest.schema slice.now }
 
     ensures rows { IsTrue T.tells → (accepted : List facts.Fact) → IsStoreOf store.now accepted (T.disk site.old).files
@@ -69,14 +69,14 @@ pub fn answer<T: Site>(
 }
 
 /// The rows of a slice, from the points of this view, which covers it.
-fn answer_from<T: Site>(
+fn answer_from<'a, T: Site>(
     alloc: Global,
     site: &mut T,
     pages: &mut Pages,
-    store: &Store,
-    slice: &Slice,
+    store: &'a Store,
+    slice: &'a Slice,
     view: u32,
-) -> Result<Rows, AnswerStop>
+) -> Result<SliceRows<'a>, AnswerStop>
     requires agrees { SliceAgrees store.now.forest.schema slice.now }
     requires covering { IsCovering store.now.forest.schema.views slice.now view }
 

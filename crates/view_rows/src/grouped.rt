@@ -8,23 +8,23 @@ ghost use Rattle.view_rows.specs.declared.stop.RowsStop.TheVariants as stops;
 
 use crate::joining::joined_points;
 use crate::keys::has_values;
-use crate::rows::rows_of;
+use crate::rows::SliceRows;
 use crate::stop::RowsStop;
 use attr_dict::Dicts;
 use cube_point::Entry;
-use fact_model::{ListOf, Rows, Slice};
+use fact_model::Slice;
 use std::alloc::Global;
 
 /// The rows of points: one for each key of values of the grouped attributes, ascending by key, with the columns over the joined cells of
 /// the points of that key. The view has all grouped attributes. `Damaged` comes exactly where a grouped coordinate stands for no value,
 /// or where the cells of some key, one after another, do not join, unless memory is wanting first.
-pub(crate) fn rows_by(
+pub(crate) fn rows_by<'a>(
     alloc: Global,
-    names: &Dicts,
-    view: &[u32],
-    slice: &Slice,
+    names: &'a Dicts,
+    view: &'a [u32],
+    slice: &'a Slice,
     points: &[Entry],
-) -> Result<Rows, RowsStop>
+) -> Result<SliceRows<'a>, RowsStop>
     requires declared { All (λ a. a < length names.now.kinds) view.now }
     requires group { All (λ a. among view.now a ≡ true) slice.now.group }
 
@@ -39,8 +39,7 @@ pub(crate) fn rows_by(
     }
     few_names(names);
     let joined = joined_points(alloc, names, view, group, points)?;
-    let rows = rows_of(alloc, names, view, slice, &joined)?;
-    Ok(ListOf::from_vec(rows))
+    Ok(SliceRows::new(names, view, slice, joined))
 }
 
 /// Whether the coordinates of the grouped attributes stand for values at all points.

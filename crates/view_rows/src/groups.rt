@@ -16,10 +16,11 @@ use crate::gathering::gather_next;
 use crate::grouped::{few_names, rows_by};
 use crate::indexing::{gather_any, index_of};
 use crate::kept::{grouped_dims, kept_place};
+use crate::rows::SliceRows;
 use crate::stop::RowsStop;
 use attr_dict::Dicts;
 use cube_point::Entry;
-use fact_model::{Memory, Rows, Slice};
+use fact_model::{Memory, Slice};
 use indexmap::IndexSet;
 use point_taker::Taker;
 use std::alloc::Global;
@@ -60,13 +61,13 @@ impl Groups {
     /// view has all grouped attributes, and `names` are those of the facts. `Damaged` comes exactly where the points of some place did
     /// not join, a grouped coordinate stands for no value, or the cells of some key do not join, unless memory is wanting first; so never
     /// where the points are those of facts.
-    pub fn rows(
+    pub fn rows<'a>(
         &self,
         alloc: Global,
-        names: &Dicts,
-        view: &[u32],
-        slice: &Slice,
-    ) -> Result<Rows, RowsStop>
+        names: &'a Dicts,
+        view: &'a [u32],
+        slice: &'a Slice,
+    ) -> Result<SliceRows<'a>, RowsStop>
         requires declared { All (λ a. a < length names.now.kinds) view.now }
         requires group { All (λ a. among view.now a ≡ true) slice.now.group }
 

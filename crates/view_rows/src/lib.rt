@@ -16,4 +16,5 @@ mod stop;
 
 pub use groups::Groups;
 pub use regions::region;
+pub use rows::SliceRows;
 pub use stop::RowsStop;

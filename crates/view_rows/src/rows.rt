@@ -1,78 +1,156 @@
-//! The rows of points of different keys.
-ghost use Rattle.std.specs.Prelude.{◌≡◌, ◌<◌, All, IfOk, [], get_or, length, map};
+//! The rows of a slice, which are made when they are written.
+ghost use Rattle.std.specs.Prelude.{◌≡◌, ◌<◌, [], All, OnErr, OnOk, get_or, length, map};
+ghost use Rattle.std.specs.Fmt.{signed_decimal};
+ghost use Rattle.csv_text.specs.Rows.{nothing_written, row_fields, value_text, with_end, with_field, with_fields, with_rows};
 ghost use Rattle.fact_model.specs.Cell.{part_of};
 ghost use Rattle.view_points.specs.Answer.{column_of, row_from};
 ghost use Rattle.view_rows.specs.Grouped.{key_of_entry, keyed, value_at_code};
 
 use crate::keys::coordinate;
 use attr_dict::{Dicts, ValueRef};
+use csv_text::RowWriter;
 use cube_point::Entry;
-use fact_model::{
-    Cell, Column, ListOf, Memory, NumberList, Part, Row, Slice, Text, Value, ValueList,
-};
-use std::alloc::Global;
+use fact_model::{Cell, Column, Memory, Part, Slice};
+use std::marker::Model;
 
-/// The row of each point, in the order of the points.
-pub(crate) fn rows_of(
-    alloc: Global,
+/// The rows of a slice, which contracts see as the list of the rows. Of each there is the point that it is of; its values and numbers are
+/// made when it is written.
+#[derive(Drop)]
+pub struct SliceRows<'a> {
+    names: &'a Dicts,
+    view: &'a [u32],
+    slice: &'a Slice,
+    points: Vec<Entry>,
+}
+
+impl<'a> Model for SliceRows<'a> {
+    ghost use Rattle.std.specs.Prelude.{◌<◌, List, All, length, map};
+    ghost use Rattle.fact_model.specs.declared.slice.Row.{Row};
+    ghost use Rattle.view_points.specs.Answer.{row_from};
+    ghost use Rattle.view_rows.specs.Grouped.{keyed};
+
+    ghost Value = { List Row };
+
+    ghost view = { λ r. map (row_from r.slice.now.columns) (map (keyed r.names.now r.view.now r.slice.now.group) r.points.items) };
+
+    ghost invariant = { λ r. All (λ a. a < length r.names.now.kinds) r.slice.now.group };
+}
+
+impl<'a> SliceRows<'a> {
+    /// The row of each point, in the order of the points.
+    pub(crate) fn new(
+        names: &'a Dicts,
+        view: &'a [u32],
+        slice: &'a Slice,
+        points: Vec<Entry>,
+    ) -> SliceRows<'a>
+        requires { All (λ a. a < length names.now.kinds) slice.now.group }
+        ensures { result ≡ map (row_from slice.now.columns) (map (keyed names.now view.now slice.now.group) points.items) }
+    {
+        SliceRows {
+            names,
+            view,
+            slice,
+            points,
+        }
+    }
+
+    /// How many rows there are.
+    pub fn len(&self) -> usize
+        ensures { result ≡ length self.now }
+    {
+        self.points.len()
+    }
+
+    /// Writes the rows, where no row has begun. It takes no memory but the writer's.
+    pub fn push_to(&self, writer: &mut RowWriter) -> Result<(), Memory>
+        requires { writer.old.fields ≡ [] }
+        ensures pushed { OnOk result (writer.new ≡ with_rows writer.old (map row_fields self.now)) }
+        ensures dropped { OnErr result (writer.new ≡ nothing_written) }
+    {
+        push_rows(self.names, self.view, self.slice, &self.points, writer)
+    }
+}
+
+/// Writes the row of each point.
+fn push_rows(
     names: &Dicts,
     view: &[u32],
     slice: &Slice,
     points: &[Entry],
-) -> Result<Vec<Row>, Memory>
-    requires { All (λ a. a < length names.now.kinds) slice.now.group }
-    ensures { IfOk result (λ rows. rows.items ≡ map (row_from slice.now.columns) (map (keyed names.now view.now slice.now.group) points.now)) }
+    writer: &mut RowWriter,
+) -> Result<(), Memory>
+    requires group { All (λ a. a < length names.now.kinds) slice.now.group }
+    requires between { writer.old.fields ≡ [] }
+    ensures pushed { OnOk result (writer.new
+        ≡ with_rows writer.old (map row_fields (map (row_from slice.now.columns) (map (keyed names.now view.now slice.now.group) points.now)))) }
+    ensures dropped { OnErr result (writer.new ≡ nothing_written) }
 {
-    let mut rows = Vec::with_capacity(alloc, points.len())?;
     for entry in points {
-        rows.push(Row {
-            key: key_of(alloc, names, view, slice.group.as_slice(), entry)?,
-            numbers: numbers_of(alloc, slice.columns.as_slice(), &entry.cell)?,
-        })?;
+        push_row(names, view, slice, entry, writer)?;
     }
-    Ok(rows)
+    Ok(())
 }
 
-/// The values of the grouped attributes at a point, with texts copied.
-fn key_of(
-    alloc: Global,
+/// Appends the values and numbers of a point to the row, and ends it.
+fn push_row(
+    names: &Dicts,
+    view: &[u32],
+    slice: &Slice,
+    entry: &Entry,
+    writer: &mut RowWriter,
+) -> Result<(), Memory>
+    requires { All (λ a. a < length names.now.kinds) slice.now.group }
+    ensures pushed { OnOk result (writer.new
+        ≡ with_end (with_fields writer.old (row_fields (row_from slice.now.columns (keyed names.now view.now slice.now.group entry.now))))) }
+    ensures dropped { OnErr result (writer.new ≡ nothing_written) }
+{
+    push_key(names, view, slice.group.as_slice(), entry, writer)?;
+    push_numbers(slice.columns.as_slice(), &entry.cell, writer)?;
+    writer.end_row()
+}
+
+/// Appends the values of the grouped attributes at a point to the row.
+fn push_key(
     names: &Dicts,
     view: &[u32],
     group: &[u32],
     entry: &Entry,
-) -> Result<ValueList, Memory>
+    writer: &mut RowWriter,
+) -> Result<(), Memory>
     requires { All (λ a. a < length names.now.kinds) group.now }
-    ensures { IfOk result (λ key. key ≡ key_of_entry names.now view.now group.now entry.now) }
+    ensures pushed { OnOk result (writer.new ≡ with_fields writer.old (map value_text (key_of_entry names.now view.now group.now entry.now))) }
+    ensures dropped { OnErr result (writer.new ≡ nothing_written) }
 {
-    let mut key = Vec::with_capacity(alloc, group.len())?;
     for attr in group {
         let code = coordinate(view, &entry.point.at, *attr);
-        key.push(value_of(alloc, names, *attr, code)?)?;
+        push_value(names, *attr, code, writer)?;
     }
-    Ok(ListOf::from_vec(key))
+    Ok(())
 }
 
-/// The value that a coordinate of an attribute stands for, with a text copied; the number 0 where there is none.
-fn value_of(alloc: Global, names: &Dicts, attr: u32, code: u64) -> Result<Value, Memory>
+/// Appends the value that a coordinate of an attribute stands for to the row; the number 0 where there is none.
+fn push_value(names: &Dicts, attr: u32, code: u64, writer: &mut RowWriter) -> Result<(), Memory>
     requires { attr < length names.now.kinds }
-    ensures { IfOk result (λ value. value ≡ value_at_code names.now attr code) }
+    ensures pushed { OnOk result (writer.new ≡ with_field writer.old (value_text (value_at_code names.now attr code))) }
+    ensures dropped { OnErr result (writer.new ≡ nothing_written) }
 {
     match names.value_of(attr, code) {
-        Some(ValueRef::Word(text)) => Ok(Value::Word(Text::from_bytes(alloc, text.as_bytes())?)),
-        Some(ValueRef::Number(number)) => Ok(Value::Number(number)),
-        None => Ok(Value::Number(0)),
+        Some(ValueRef::Word(text)) => writer.push_field(text.as_bytes()),
+        Some(ValueRef::Number(number)) => writer.push_natural(number),
+        None => writer.push_natural(0),
     }
 }
 
-/// The columns of a cell.
-fn numbers_of(alloc: Global, columns: &[Column], cell: &Cell) -> Result<NumberList, Memory>
-    ensures { IfOk result (λ numbers. numbers ≡ map (column_of cell.now) columns.now) }
+/// Appends the columns of a cell to the row.
+fn push_numbers(columns: &[Column], cell: &Cell, writer: &mut RowWriter) -> Result<(), Memory>
+    ensures pushed { OnOk result (writer.new ≡ with_fields writer.old (map signed_decimal (map (column_of cell.now) columns.now))) }
+    ensures dropped { OnErr result (writer.new ≡ nothing_written) }
 {
-    let mut numbers = Vec::with_capacity(alloc, columns.len())?;
     for column in columns {
-        numbers.push(column_of(cell, *column))?;
+        writer.push_number(column_of(cell, *column))?;
     }
-    Ok(ListOf::from_vec(numbers))
+    Ok(())
 }
 
 /// A column of a cell, which is 0 for a measure that a cell does not have.

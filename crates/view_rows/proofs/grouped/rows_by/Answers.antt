@@ -8,8 +8,8 @@ use Rattle.view_rows.specs.Grouped.{AllJoin, HasForm, by_key, cells_of, has_valu
 use Rattle.view_rows.proofs.KeyRows.{declared, formed}
 use Rattle.view_rows.proofs.grouped.rows_by.Goals as goal
 
-pub rows_of-requires : goal.rows_of-requires
-rows_of-requires c = declared (length c.args.names.now.kinds) c.args.view.now c.args.slice.now.group c.requires.declared c.requires.group
+pub new-requires : goal.new-requires
+new-requires c = declared (length c.args.names.now.kinds) c.args.view.now c.args.slice.now.group c.requires.declared c.requires.group
 
 pub all_known-requires : goal.all_known-requires
 all_known-requires c = subst (λ (group : List ℕ). All (λ a. a < length c.args.names.now.kinds) group) (sym c.as_slice-group.ensures)
@@ -49,8 +49,7 @@ returns-clause-grouped c =
     let s = c.args.slice.now in
     let joined = c.in_ok-joined.joined.items in
     let groups = subst (λ (g : List ℕ). map (keyed b view g) joined ≡ by_key b view g c.args.points.now) c.as_slice-group.ensures c.in_ok-joined.ensures.joined in
-    c.from_vec.ensures ∙ (c.in_ok-rows.ensures
-    ∙ (ap (λ es. map (row_from s.columns) (map (keyed b view s.group) es)) c.deref.ensures.value ∙ ap (map (row_from s.columns)) groups))
+    c.new.ensures ∙ ap (map (row_from s.columns)) groups
 
 pub returns-clause-sound : goal.returns-clause-sound
 returns-clause-sound c =
