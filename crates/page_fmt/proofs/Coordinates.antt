@@ -1,5 +1,5 @@
 -- A point where its bytes lie: its coordinates, and the walk from the last one down.
-use Rattle.std.proofs.Common.{◌≡◌, ◌≢◌, ◌≤◌, ◌<◌, ◌+◌, ◌-◌, ◌*◌, ℕ, zero, suc, Bool, List, ◌++◌, length, take, drop, get_or, inl, inr, refl, sym, ap, ◌∙◌, arith}
+use Rattle.std.proofs.Common.{◌≡◌, ◌≢◌, ◌≤◌, ◌<◌, ◌+◌, ◌-◌, ◌*◌, ℕ, zero, suc, Bool, List, [], ◌∷◌, ◌++◌, length, take, drop, get_or, inl, inr, refl, sym, ap, ◌∙◌, arith}
 use Rattle.std.specs.Prelude.{nat_lt, slice_index}
 use Rattle.std.specs.List.{list_all}
 use Rattle.std.specs.Cmp.{ranks, tied_itself, nat_cmp_total}
@@ -31,6 +31,20 @@ used-at arity k at b lt =
 
 pub unused-at : (arity k : ℕ) (b : List ℕ) → arity ≤ k → slice_index (coordinates arity b) k ≡ 0
 unused-at arity k b le = tail-zero arity (8 - arity) (coordinates arity b) (drop_at (many (number 4) 4 arity b) (zeros (8 - arity)) arity (many-long (number 4) 4 arity b)) k le
+
+-- they are eight, one by one
+pub one-by-one : (l : List ℕ) → length l ≡ 8
+    → l ≡ slice_index l 0 ∷ slice_index l 1 ∷ slice_index l 2 ∷ slice_index l 3 ∷ slice_index l 4 ∷ slice_index l 5 ∷ slice_index l 6 ∷ slice_index l 7 ∷ []
+one-by-one [] long = absurd (omega (arith, long))
+one-by-one (_ ∷ []) long = absurd (omega (arith, long))
+one-by-one (_ ∷ _ ∷ []) long = absurd (omega (arith, long))
+one-by-one (_ ∷ _ ∷ _ ∷ []) long = absurd (omega (arith, long))
+one-by-one (_ ∷ _ ∷ _ ∷ _ ∷ []) long = absurd (omega (arith, long))
+one-by-one (_ ∷ _ ∷ _ ∷ _ ∷ _ ∷ []) long = absurd (omega (arith, long))
+one-by-one (_ ∷ _ ∷ _ ∷ _ ∷ _ ∷ _ ∷ []) long = absurd (omega (arith, long))
+one-by-one (_ ∷ _ ∷ _ ∷ _ ∷ _ ∷ _ ∷ _ ∷ []) long = absurd (omega (arith, long))
+one-by-one (_ ∷ _ ∷ _ ∷ _ ∷ _ ∷ _ ∷ _ ∷ _ ∷ []) long = refl
+one-by-one (_ ∷ _ ∷ _ ∷ _ ∷ _ ∷ _ ∷ _ ∷ _ ∷ _ ∷ l) long = absurd (omega (arith, long))
 
 -- the used ones alone
 pub used-all : (arity : ℕ) (b : List ℕ) (p : ℕ → Bool) → list_all p (take arity (coordinates arity b)) ≡ list_all p (many (number 4) 4 arity b)

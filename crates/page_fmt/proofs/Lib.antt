@@ -1,4 +1,5 @@
 pub mod Again
+pub mod CellParts
 pub mod Children
 pub mod Coordinates
 pub mod Entries

@@ -1,20 +1,23 @@
 //! An entry of a leaf where it lies.
 
-ghost use Rattle.std.specs.Prelude.{◌≡◌, ◌≤◌, ◌<◌, ◌+◌, ◌++◌, take, get_or, length};
+ghost use Rattle.std.specs.Prelude.{◌≡◌, ◌↔◌, ◌≤◌, ◌<◌, ◌+◌, ◌++◌, IsTrue, false, take, get_or, length};
 ghost use Rattle.byte_formats.specs.Formats.{IsBytes};
 ghost use Rattle.page_fmt.specs.declared.page.TheConstants.{PAGE};
 ghost use Rattle.cube_point.specs.declared.point.Entry.{Entry};
 ghost use Rattle.cube_point.specs.Points.{point_cmp};
+ghost use Rattle.fact_model.specs.Cell.{FitCells, join};
 ghost use Rattle.page_fmt.specs.Pages.{entry_bytes, entry_size};
 ghost use Rattle.page_fmt.specs.Taking.{entries, entry_of, page_count};
 ghost use Rattle.page_fmt.specs.Lawful.{HasEntries};
 
+use crate::cell::join_cell;
 use crate::order::compare_with;
-use crate::page::HEADER;
+use crate::page::{COORDINATE, HEADER};
 use crate::put::put_bytes;
 use crate::read::{entry_at, point_at};
 use crate::size::size_of_entry;
 use cube_point::{Entry, Point, Shape};
+use fact_model::Cell;
 use std::cmp::Ordering;
 use std::marker::Model;
 
@@ -70,6 +73,26 @@ impl<'a> Coded<'a> {
         ensures { result ≡ point_cmp self.now.point.at point.now.at }
     {
         compare_with(self.bytes, self.arity, point)
+    }
+
+    /// Its cell, decoded.
+    pub fn cell(&self) -> Cell
+        ensures { result ≡ self.now.cell }
+    {
+        self.entry().cell
+    }
+
+    /// Joins its cell to another, where both have as many measures and add up within their types. False, where they do not join: then the
+    /// other is left as it was. No more parts are read than there are measures.
+    pub fn join_to(&self, cell: &mut Cell) -> bool
+        ensures joins { IsTrue result ↔ (cell.old.measures ≡ self.now.cell.measures) × FitCells cell.old self.now.cell }
+        ensures joined { IsTrue result → cell.new ≡ join cell.old self.now.cell }
+        ensures same { result ≡ false → cell.new ≡ cell.old }
+    {
+        if cell.measures != self.shape.measures {
+            return false;
+        }
+        join_cell(self.bytes, self.arity as usize * COORDINATE, cell)
     }
 
     /// The entry, decoded.

@@ -2,6 +2,7 @@
 #![tactic(auto)]
 
 mod broken;
+mod cell;
 mod coded;
 mod inner;
 mod lawful;

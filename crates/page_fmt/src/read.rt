@@ -1,6 +1,6 @@
 //! Reading the entries and children of a page.
 
-ghost use Rattle.std.specs.Prelude.{◌≡◌, ◌≤◌, ◌<◌, ◌+◌, ◌*◌, ◌-◌, ◌++◌, drop, replicate, get_or, true, length, ℕ, List};
+ghost use Rattle.std.specs.Prelude.{◌≡◌, ◌≤◌, ◌<◌, ◌+◌, ◌*◌, ◌-◌, ◌++◌, drop, replicate, get_or, slice_index, true, length, ℕ, List};
 ghost use Rattle.page_fmt.specs.declared.page.TheConstants.{COORDINATE, PAGE, PART};
 ghost use Rattle.cube_point.specs.declared.point.Entry.{Entry};
 ghost use Rattle.byte_formats.specs.Formats.{many};
@@ -16,16 +16,34 @@ use byte_formats::{take_i128, take_u32, take_u64};
 use cube_point::{Bounds, Entry, Point, Shape};
 use fact_model::{Cell, Part};
 
+/// The coordinate of a dimension; past the arity it is zero, and not read.
+fn coordinate_in(bytes: &[u8], arity: u8, at: usize, dimension: usize) -> u64
+    requires arity { arity ≤ 8 }
+    requires place { at + arity * COORDINATE ≤ length bytes.now }
+    ensures { result ≡ slice_index (many (number COORDINATE) COORDINATE arity (drop at bytes.now) ++ zeros (8 - arity)) dimension }
+{
+    if dimension < arity as usize {
+        return u64::from(take_u32(bytes, at + dimension * COORDINATE));
+    }
+    0
+}
+
+/// The coordinates of the point that begins at a place, one by one, so that they need not lie in memory.
 fn coordinates_at(bytes: &[u8], arity: u8, at: usize) -> [u64; 8]
     requires arity { arity ≤ 8 }
     requires place { at + arity * COORDINATE ≤ length bytes.now }
     ensures { result ≡ many (number COORDINATE) COORDINATE arity (drop at bytes.now) ++ zeros (8 - arity) }
 {
-    let mut all = [0; 8];
-    for i in 0..arity as usize {
-        all[i] = u64::from(take_u32(bytes, at + i * COORDINATE));
-    }
-    all
+    [
+        coordinate_in(bytes, arity, at, 0),
+        coordinate_in(bytes, arity, at, 1),
+        coordinate_in(bytes, arity, at, 2),
+        coordinate_in(bytes, arity, at, 3),
+        coordinate_in(bytes, arity, at, 4),
+        coordinate_in(bytes, arity, at, 5),
+        coordinate_in(bytes, arity, at, 6),
+        coordinate_in(bytes, arity, at, 7),
+    ]
 }
 
 pub(crate) fn part_at(bytes: &[u8], at: usize) -> Part

@@ -1,0 +1,49 @@
+-- The parts of a cell in its bytes, one by one, and those of two cells joined.
+use Rattle.std.proofs.Common.{◌≡◌, ◌≤◌, ◌<◌, ◌+◌, ◌-◌, ◌*◌, ℕ, suc, List, [], ◌∷◌, inl, inr, length, drop, get_or, refl, sym, ap, ◌∙◌, arith}
+use Rattle.std.specs.Prelude.{replicate}
+use Rattle.std.proofs.lemmas.Bool.{cases_lt}
+use Rattle.std.proofs.lemmas.List.{drop-drop, get_or-replicate, get_or_past, get_or_append_left, get_or-append_right, length-append, length-replicate}
+use Rattle.byte_formats.specs.Formats.{many}
+use Rattle.fact_model.specs.Cell.{each_joined, join_parts}
+use Rattle.fact_model.specs.declared.cell.Part.{Part}
+use Rattle.page_fmt.specs.Cells.{cell_of}
+use Rattle.page_fmt.specs.Taking.{no_part, part_of}
+use Rattle.page_fmt.proofs.Loops.{many-at, many-long}
+
+-- the parts of the cell in front of the bytes
+abbrev pub parts : ℕ → List ℕ → List Part
+parts measures b = (cell_of measures b).parts
+
+pub four : (measures : ℕ) (b : List ℕ) → measures ≤ 4 → length (parts measures b) ≡ 4
+four measures b le = omega (arith, le, length-append (many part_of 48 measures (drop 8 b)) (replicate (4 - measures) no_part), many-long part_of 48 measures (drop 8 b), length-replicate {A = Part} (4 - measures) no_part)
+
+-- one of a measure is read at its place
+pub part-read : (measures m at : ℕ) (b : List ℕ) → m < measures → part_of (drop (at + 8 + m * 48) b) ≡ get_or (parts measures (drop at b)) m no_part
+part-read measures m at b lt =
+    let there : m < length (many part_of 48 measures (drop 8 (drop at b))) = omega (arith, lt, many-long part_of 48 measures (drop 8 (drop at b))) in
+    let place : drop (m * 48) (drop 8 (drop at b)) ≡ drop (at + 8 + m * 48) b = ap (drop (m * 48)) (drop-drop 8 at b) ∙ drop-drop (m * 48) (at + 8) b in
+    ap part_of (sym place)
+    ∙ (sym (many-at part_of 48 measures m (drop 8 (drop at b)) no_part lt)
+    ∙ sym (get_or_append_left (many part_of 48 measures (drop 8 (drop at b))) (replicate (4 - measures) no_part) no_part m there))
+
+-- the others are zero
+pub part-none : (measures m : ℕ) (b : List ℕ) → measures ≤ m → get_or (parts measures b) m no_part ≡ no_part
+part-none measures m b le =
+    get_or-append_right (many part_of 48 measures (drop 8 b)) (replicate (4 - measures) no_part) measures m no_part (many-long part_of 48 measures (drop 8 b)) le
+    ∙ none (4 - measures) (m - measures)
+  where
+    none : (n i : ℕ) → get_or (replicate n no_part) i no_part ≡ no_part
+    none n i = elim (cases_lt i n) [
+      | inl lt ↦ get_or-replicate n i no_part no_part lt
+      | inr past ↦ get_or_past (replicate n no_part) i no_part (omega (arith, past, length-replicate {A = Part} n no_part))
+    ]
+
+-- parts that are each as joined are those joined
+pub each-is : (ps qs rs : List Part) → length qs ≡ length ps → length rs ≡ length ps
+    → ((m : ℕ) → m < length ps → get_or rs m no_part ≡ join_parts (get_or ps m no_part) (get_or qs m no_part)) → rs ≡ each_joined ps qs
+each-is [] qs [] long too each = refl
+each-is [] qs (r ∷ rs) long too each = absurd (omega (arith, too))
+each-is (p ∷ ps) [] rs long too each = absurd (omega (arith, long))
+each-is (p ∷ ps) (q ∷ qs) [] long too each = absurd (omega (arith, too))
+each-is (p ∷ ps) (q ∷ qs) (r ∷ rs) long too each =
+    λ i. each 0 (omega arith) i ∷ each-is ps qs rs (omega (arith, long)) (omega (arith, too)) (λ m low. each (suc m) (omega (arith, low))) i

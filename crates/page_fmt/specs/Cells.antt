@@ -1,0 +1,15 @@
+-- A cell in its bytes.
+use Rattle.std.specs.Prelude.{ℕ, ◌-◌, List, ◌++◌, drop, replicate}
+use Rattle.byte_formats.specs.Formats.{many}
+use Rattle.byte_formats.specs.Numbers.{number}
+use Rattle.fact_model.specs.declared.cell.Cell.{Cell}
+use Rattle.page_fmt.specs.declared.page.TheConstants.{COUNT, PART}
+use Rattle.page_fmt.specs.Taking.{part_of, no_part}
+
+-- the cell in front of the bytes; unused parts are zero
+abbrev pub cell_of : ℕ → List ℕ → Cell
+cell_of measures bytes = record {
+  count = number COUNT bytes;
+  measures = measures;
+  parts = many part_of PART measures (drop COUNT bytes) ++ replicate (4 - measures) no_part;
+}
