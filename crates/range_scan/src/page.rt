@@ -16,7 +16,8 @@ use fact_model::Memory;
 use page_fmt::{PAGE, inner_entry, lent_entry};
 use point_taker::Taker;
 
-/// Gives the points of a leaf that lie in the region to the taker.
+/// Gives the points of a leaf that lie in the region to the taker. It stands apart, so that its loop has all registers.
+#[inline(never)]
 pub(crate) fn take_points<G: Taker>(
     page: &[u8; PAGE],
     query: &Query<'_>,
@@ -33,7 +34,7 @@ pub(crate) fn take_points<G: Taker>(
     for index in 0..count as usize {
         let entry = lent_entry(page, &query.tree.shape, index);
         if inside(&entry.point(), query.region) {
-            taker.take(entry.entry())?;
+            taker.take(&entry)?;
         }
     }
     Ok(())

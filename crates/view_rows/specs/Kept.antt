@@ -1,6 +1,7 @@
 -- Points with the coordinates of the grouped attributes alone, those of one place joined as they come.
 use Rattle.std.specs.Prelude.{◌≡◌, ℕ, Bool, ◌&&◌, ◌==◌, true, false, cond, List, [], ◌∷◌, map}
 use Rattle.cube_point.specs.declared.point.Entry.{Entry}
+use Rattle.cube_point.specs.declared.point.Point.{Point}
 use Rattle.view_points.specs.Agree.{among}
 use Rattle.view_points.specs.Entries.{pair_of}
 use Rattle.view_points.specs.Points.{PlacedCell, View}
@@ -39,6 +40,10 @@ module _ (dims : List Bool) where
 -- where a point stands
 abbrev pub place_of : Entry → List ℕ
 place_of e = e.point.at
+
+-- an entry at another point
+abbrev pub at_point : Point → Entry → Entry
+at_point p e = record { point = p; cell = e.cell }
 
 -- a point was joined to the one of its place, or put behind the others where there was none
 pub record TookIn (old new : List Entry) (e : Entry) : Type 0 where

@@ -1,56 +1,86 @@
 //! A point taken in among points of other places, where these ascend.
 ghost use Rattle.std.specs.Prelude.{◌≡◌, ◌<◌, ◌++◌, ◌∷◌, [], IfErr, IfOk, OnErr, OnOk, get_or, map, true, false};
 ghost use Rattle.std.specs.Vec.{vec_len};
+ghost use Rattle.cube_point.specs.declared.point.Point as points;
 ghost use Rattle.cube_point.specs.Points.{point_cmp};
 ghost use Rattle.view_points.specs.Ascends.{Ascends};
-ghost use Rattle.view_points.specs.Entries.{pair_of};
+ghost use Rattle.view_points.specs.Entries.{both, pair_of};
 ghost use Rattle.view_rows.specs.Folded.{AllApart, NoneAt};
-ghost use Rattle.view_rows.specs.Kept.{StaysApart, TookIn, place_of, same_place};
+ghost use Rattle.view_rows.specs.Grouped.{Joins};
+ghost use Rattle.view_rows.specs.Kept.{StaysApart, TookIn, at_point, place_of, same_place};
 ghost use Rattle.view_rows.specs.declared.stop.RowsStop.TheVariants as stops;
 
-use crate::joining::take_in;
 use crate::stop::RowsStop;
-use cube_point::{Entry, compare};
+use cube_point::{Entry, Point, compare};
 use fact_model::Memory;
+use page_fmt::Coded;
 use std::cmp::Ordering;
 
-/// Joins the point to the one of its place, where they join.
-pub(crate) fn join_at(groups: &mut Vec<Entry>, at: usize, entry: &Entry) -> Result<(), RowsStop>
+/// Joins the cell of the next point to that of the last one, where they join.
+fn join_next(last: &mut Entry, next: &Coded<'_>) -> Result<(), RowsStop>
+    ensures joined { OnOk result (last.new ≡ both last.old next.now) }
+    ensures joins { OnOk result (Joins last.old.cell next.now.cell) }
+    ensures stop { IfErr result (λ stop. stop ≡ stops.Damaged) }
+    ensures apart { OnErr result (Joins last.old.cell next.now.cell → ⊥) }
+{
+    if !next.join_to(&mut last.cell) {
+        return Err(RowsStop::Damaged);
+    }
+    Ok(())
+}
+
+/// Joins the point to the one of its place, where they join. Its place is any that it is told by.
+pub(crate) fn join_at(groups: &mut Vec<Entry>, at: usize, entry: &Coded<'_>) -> Result<(), RowsStop>
     requires within { at < vec_len groups.old }
 
-    ensures took { same_place (get_or groups.old.items at entry.now).point.at entry.now.point.at ≡ true → AllApart same_place (map pair_of groups.old.items)
-        → OnOk result (TookIn groups.old.items groups.new.items entry.now) }
-    ensures apart { same_place (get_or groups.old.items at entry.now).point.at entry.now.point.at ≡ true → OnErr result (StaysApart groups.old.items entry.now) }
+    ensures took { (p : points.Point) → same_place (get_or groups.old.items at (at_point p entry.now)).point.at p.at ≡ true → AllApart same_place (map pair_of groups.old.items)
+        → OnOk result (TookIn groups.old.items groups.new.items (at_point p entry.now)) }
+    ensures apart { (p : points.Point) → same_place (get_or groups.old.items at (at_point p entry.now)).point.at p.at ≡ true
+        → OnErr result (StaysApart groups.old.items (at_point p entry.now)) }
     ensures places { OnOk result (map place_of groups.new.items ≡ map place_of groups.old.items) }
     ensures stop { IfErr result (λ stop. stop ≡ stops.Damaged) }
 {
-    take_in(&mut groups[at], entry)
+    join_next(&mut groups[at], entry)
 }
 
 /// Puts the point of a new place behind the others.
-pub(crate) fn append(groups: &mut Vec<Entry>, entry: &Entry) -> Result<(), Memory>
-    ensures took { NoneAt same_place entry.now.point.at (map pair_of groups.old.items) → OnOk result (TookIn groups.old.items groups.new.items entry.now) }
-    ensures places { OnOk result (map place_of groups.new.items ≡ map place_of groups.old.items ++ entry.now.point.at ∷ []) }
+pub(crate) fn append(
+    groups: &mut Vec<Entry>,
+    point: &Point,
+    entry: &Coded<'_>,
+) -> Result<(), Memory>
+    ensures took { NoneAt same_place point.now.at (map pair_of groups.old.items)
+        → OnOk result (TookIn groups.old.items groups.new.items (at_point point.now entry.now)) }
+    ensures places { OnOk result (map place_of groups.new.items ≡ map place_of groups.old.items ++ point.now.at ∷ []) }
 {
-    groups.push(*entry)?;
+    groups.push(Entry {
+        point: *point,
+        cell: entry.cell(),
+    })?;
     Ok(())
 }
 
 /// Takes in a point that does not come before the last one. False, where it comes before it: then nothing is changed.
-pub(crate) fn gather_next(groups: &mut Vec<Entry>, entry: &Entry) -> Result<bool, RowsStop>
-    ensures took { Ascends point_cmp (map pair_of groups.old.items) → IfOk result (λ is. is ≡ true → TookIn groups.old.items groups.new.items entry.now) }
+pub(crate) fn gather_next(
+    groups: &mut Vec<Entry>,
+    point: &Point,
+    entry: &Coded<'_>,
+) -> Result<bool, RowsStop>
+    ensures took { Ascends point_cmp (map pair_of groups.old.items)
+        → IfOk result (λ is. is ≡ true → TookIn groups.old.items groups.new.items (at_point point.now entry.now)) }
     ensures ascends { Ascends point_cmp (map pair_of groups.old.items) → OnOk result (Ascends point_cmp (map pair_of groups.new.items)) }
     ensures same { IfOk result (λ is. is ≡ false → groups.new ≡ groups.old) }
-    ensures damaged { Ascends point_cmp (map pair_of groups.old.items) → IfErr result (λ stop. stop ≡ stops.Damaged → StaysApart groups.old.items entry.now) }
+    ensures damaged { Ascends point_cmp (map pair_of groups.old.items) → IfErr result (λ stop. stop ≡ stops.Damaged
+        → StaysApart groups.old.items (at_point point.now entry.now)) }
 {
     let count = groups.len();
     if count == 0 {
-        append(groups, entry)?;
+        append(groups, point, entry)?;
         return Ok(true);
     }
-    match compare(&groups[count - 1].point, &entry.point) {
+    match compare(&groups[count - 1].point, point) {
         Ordering::Less => {
-            append(groups, entry)?;
+            append(groups, point, entry)?;
             Ok(true)
         }
         Ordering::Equal => {

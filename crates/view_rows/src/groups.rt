@@ -7,21 +7,23 @@ ghost use Rattle.view_points.specs.Agree.{among};
 ghost use Rattle.view_points.specs.Light.{KeepMasses};
 ghost use Rattle.view_rows.specs.Grouped.{Answers, HasForm, points_inside, rows_from};
 ghost use Rattle.view_rows.specs.Held.{AreOf, ArePlaced, WereGiven};
-ghost use Rattle.view_rows.specs.Kept.{StaysApart, TookIn};
+ghost use Rattle.view_rows.specs.Kept.{StaysApart, TookIn, at_point};
 ghost use Rattle.view_rows.specs.Sound.{GiveRows};
 ghost use Rattle.view_rows.specs.declared.groups.Groups as gatherers;
 ghost use Rattle.view_rows.specs.declared.stop.RowsStop.TheVariants as stops;
 
 use crate::gathering::gather_next;
 use crate::grouped::{few_names, rows_by};
+use crate::hints::Hints;
 use crate::indexing::{gather_any, index_of};
 use crate::kept::{grouped_dims, kept_place};
 use crate::rows::SliceRows;
 use crate::stop::RowsStop;
 use attr_dict::Dicts;
-use cube_point::Entry;
+use cube_point::{Entry, Point};
 use fact_model::{Memory, Slice};
 use indexmap::IndexSet;
+use page_fmt::Coded;
 use point_taker::Taker;
 use std::alloc::Global;
 
@@ -35,6 +37,7 @@ pub struct Groups {
     // While the places ascend there is no index of them.
     is_ascending: bool,
     index: IndexSet<[u64; 8]>,
+    hints: Hints,
     // Whether all points joined so far.
     is_sound: bool,
 }
@@ -52,6 +55,7 @@ impl Groups {
             items: Vec::new(alloc),
             is_ascending: true,
             index: IndexSet::new(alloc),
+            hints: Hints::none(alloc),
             is_sound: true,
         }
     }
@@ -96,37 +100,51 @@ impl Groups {
     }
 
     /// Takes in a point that has its grouped coordinates alone.
-    fn gather(&mut self, entry: &Entry) -> Result<(), RowsStop>
-        ensures took { ArePlaced self.old.is_ascending self.old.items.items self.old.index.keys → OnOk result (TookIn self.old.items.items self.new.items.items entry.now) }
+    fn gather(&mut self, point: &Point, entry: &Coded<'_>) -> Result<(), RowsStop>
+        ensures took { ArePlaced self.old.is_ascending self.old.items.items self.old.index.keys
+            → OnOk result (TookIn self.old.items.items self.new.items.items (at_point point.now entry.now)) }
         ensures placed { ArePlaced self.old.is_ascending self.old.items.items self.old.index.keys
             → OnOk result (ArePlaced self.new.is_ascending self.new.items.items self.new.index.keys) }
         ensures damaged { ArePlaced self.old.is_ascending self.old.items.items self.old.index.keys
-            → IfErr result (λ stop. stop ≡ stops.Damaged → StaysApart self.old.items.items entry.now) }
+            → IfErr result (λ stop. stop ≡ stops.Damaged → StaysApart self.old.items.items (at_point point.now entry.now)) }
         ensures dims { self.new.dims ≡ self.old.dims }
         ensures still { self.new.is_sound ≡ self.old.is_sound }
     {
         if !self.is_ascending {
-            return gather_any(&mut self.items, &mut self.index, entry);
+            return gather_any(
+                &mut self.items,
+                &mut self.index,
+                &mut self.hints,
+                point,
+                entry,
+            );
         }
-        if gather_next(&mut self.items, entry)? {
+        if gather_next(&mut self.items, point, entry)? {
             return Ok(());
         }
+        self.hints = Hints::with_room(self.alloc)?;
         self.index = index_of(self.alloc, &self.items)?;
         self.is_ascending = false;
-        gather_any(&mut self.items, &mut self.index, entry)
+        gather_any(
+            &mut self.items,
+            &mut self.index,
+            &mut self.hints,
+            point,
+            entry,
+        )
     }
 }
 
 impl Taker for Groups {
     ghost was_given = { WereGiven };
 
-    fn take(&mut self, entry: Entry) -> Result<(), Memory> {
+    fn take(&mut self, entry: &Coded<'_>) -> Result<(), Memory> {
         if !self.is_sound {
             return Ok(());
         }
-        let mut kept = entry;
-        kept.point.at = kept_place(&self.dims, &entry.point.at);
-        match self.gather(&kept) {
+        let mut point = entry.point();
+        point.at = kept_place(&self.dims, &point.at);
+        match self.gather(&point, entry) {
             Ok(()) => Ok(()),
             Err(RowsStop::Damaged) => {
                 // A page that is bad further on is told before points that do not join, so the search goes on.

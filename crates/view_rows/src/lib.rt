@@ -4,6 +4,7 @@
 mod gathering;
 mod grouped;
 mod groups;
+mod hints;
 mod indexing;
 mod joining;
 mod kept;

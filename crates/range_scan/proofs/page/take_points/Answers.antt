@@ -24,7 +24,7 @@ loop-index-preserved g c = λ start es given.
       | then-inside+in_ok-take w ↦
           subst (λ t. g.G.Taker.was_given start (es ++ filter (is_inside region) (take (i + 1) all)) t) (sym w.taker-is)
           (subst (λ l. g.G.Taker.was_given start l w.take.new.self) (keeps (is_inside region) all i e es now low c.lent_entry-entry.ensures (sym test ∙ w.if-inside.true) refl)
-          (subst (λ (x : Entry). g.G.Taker.was_given start (now ++ x ∷ []) w.take.new.self) w.entry.ensures (w.in_ok-take.ensures start now so_far)))
+          (w.in_ok-take.ensures start now so_far))
       | else-inside w ↦
           subst (λ t. g.G.Taker.was_given start (es ++ filter (is_inside region) (take (i + 1) all)) t) (sym w.taker-is)
           (subst (λ l. g.G.Taker.was_given start l c.loop-index.taker) (skips (is_inside region) all i e es now low c.lent_entry-entry.ensures (sym test ∙ w.if-inside.false) refl)

@@ -5,7 +5,7 @@ use Rattle.cube_point.specs.declared.point.Entry.{Entry}
 use Rattle.view_points.specs.Entries.{pair_of}
 use Rattle.view_rows.specs.Folded.{AllApart}
 use Rattle.view_rows.specs.Held.{IsIndexed}
-use Rattle.view_rows.specs.Kept.{StaysApart, TookIn, same_place}
+use Rattle.view_rows.specs.Kept.{StaysApart, TookIn, at_point, same_place}
 use Rattle.view_rows.specs.declared.stop.RowsStop.TheVariants as stops
 use Rattle.view_rows.proofs.GatheredPlaces.{all-apart}
 use Rattle.view_rows.proofs.groups.Groups.gather.Goals as goal
@@ -20,16 +20,16 @@ pub returns-clause-took : goal.returns-clause-took
 returns-clause-took c = λ was.
     let ascending : c.args.self.now.is_ascending ≡ true = search rules in
     let same = ap (λ (v : Vec Entry Global). v.items) (c.in_ok-gather_next.ensures.same c.if-branch.false) in
-    let indexed = now-indexed c.args.self.now.items.items c.gather_next.new.groups.items c.deref.result.now c.in_ok-self.field-0.keys same c.deref.ensures.value
-    (all-apart c.args.self.now.items.items (was.ascend ascending)) c.in_ok-self.ensures in
-    subst (λ (l : List Entry). OnOk c.gather_any-2.result (TookIn l c.gather_any-2.new.groups.items c.args.entry.now)) same (c.gather_any-2.ensures.took indexed)
+    let indexed = now-indexed c.args.self.now.items.items c.gather_next.new.groups.items c.deref.result.now c.in_ok-self-2.field-0.keys same c.deref.ensures.value
+    (all-apart c.args.self.now.items.items (was.ascend ascending)) c.in_ok-self-2.ensures in
+    subst (λ (l : List Entry). OnOk c.gather_any-2.result (TookIn l c.gather_any-2.new.groups.items (at_point c.args.point.now c.args.entry.now))) same (c.gather_any-2.ensures.took indexed)
 
 pub returns-clause-placed : goal.returns-clause-placed
 returns-clause-placed c = λ was.
     let ascending : c.args.self.now.is_ascending ≡ true = search rules in
     let same = ap (λ (v : Vec Entry Global). v.items) (c.in_ok-gather_next.ensures.same c.if-branch.false) in
-    let indexed = now-indexed c.args.self.now.items.items c.gather_next.new.groups.items c.deref.result.now c.in_ok-self.field-0.keys same c.deref.ensures.value
-    (all-apart c.args.self.now.items.items (was.ascend ascending)) c.in_ok-self.ensures in
+    let indexed = now-indexed c.args.self.now.items.items c.gather_next.new.groups.items c.deref.result.now c.in_ok-self-2.field-0.keys same c.deref.ensures.value
+    (all-apart c.args.self.now.items.items (was.ascend ascending)) c.in_ok-self-2.ensures in
     MatchResult-weaker c.gather_any-2.result (c.gather_any-2.ensures.index indexed)
     (λ u is. record { ascend = λ up. absurd (true≢false (sym up)); indexed = λ not. is })
     (λ stop u. u)
@@ -38,6 +38,6 @@ pub returns-clause-damaged : goal.returns-clause-damaged
 returns-clause-damaged c = λ was.
     let ascending : c.args.self.now.is_ascending ≡ true = search rules in
     let same = ap (λ (v : Vec Entry Global). v.items) (c.in_ok-gather_next.ensures.same c.if-branch.false) in
-    let indexed = now-indexed c.args.self.now.items.items c.gather_next.new.groups.items c.deref.result.now c.in_ok-self.field-0.keys same c.deref.ensures.value
-    (all-apart c.args.self.now.items.items (was.ascend ascending)) c.in_ok-self.ensures in
-    subst (λ (l : List Entry). IfErr c.gather_any-2.result (λ stop. stop ≡ stops.Damaged → StaysApart l c.args.entry.now)) same (c.gather_any-2.ensures.damaged indexed)
+    let indexed = now-indexed c.args.self.now.items.items c.gather_next.new.groups.items c.deref.result.now c.in_ok-self-2.field-0.keys same c.deref.ensures.value
+    (all-apart c.args.self.now.items.items (was.ascend ascending)) c.in_ok-self-2.ensures in
+    subst (λ (l : List Entry). IfErr c.gather_any-2.result (λ stop. stop ≡ stops.Damaged → StaysApart l (at_point c.args.point.now c.args.entry.now))) same (c.gather_any-2.ensures.damaged indexed)
