@@ -2,6 +2,7 @@
 ghost use Rattle.std.specs.Prelude.{◌≡◌, IsTrue, OnOk, IfOk, IfErr};
 ghost use Rattle.plain_machine.specs.Machine.{load};
 ghost use Rattle.plain_machine.specs.World.{World};
+ghost use Rattle.cube_state.specs.Cached.{Fits, kept_over, live_of};
 ghost use Rattle.cube_state.specs.Costs.{Spends};
 ghost use Rattle.cube_state.specs.Frames.{IsQuiet, RunsOn};
 ghost use Rattle.cube_state.specs.Moves.{moves_made};
@@ -30,6 +31,7 @@ pub fn load<T: Site>(
     site: &mut T,
 ) -> Result<Answered, Stop>
     requires runs { RunsOn T.Site site.old state }
+    requires fits { IsTrue T.tells → Fits state (T.disk site.old).files pages.old }
 
     ensures answer { IsTrue T.tells → (world : World) → Stands state (T.disk site.old) world
         → IfOk result (IsAnswer (T.disk site.new) (load world source)) }
@@ -46,7 +48,9 @@ pub fn load<T: Site>(
 
     ensures moved { IfOk result (λ done. moves_made done.state ≡ moves_made state) }
     ensures runs { IfOk result (λ done. RunsOn T.Site site.new done.state) }
-    ensures cache { pages.new ≡ pages.old }
+    ensures fits { IsTrue T.tells → IfOk result (λ done. Fits done.state (T.disk site.new).files pages.new) }
+    ensures cache { IfOk result (λ done. pages.new ≡ kept_over (live_of state) (live_of done.state) pages.old) }
+    ensures capacity { pages.new.capacity ≡ pages.old.capacity }
     ensures quiet { IsQuiet T.Site site.old site.new result }
 {
     match take_in(alloc, state, source, site)? {

@@ -1,5 +1,5 @@
 //! The commands `begin`, `step`, `finish` and `abandon`, over a batch that is pending.
-ghost use Rattle.std.specs.Prelude.{◌≡◌, ◌≤◌, ◌+◌, IsTrue, List, OnOk, IfOk, IfErr};
+ghost use Rattle.std.specs.Prelude.{◌≡◌, ◌≤◌, ◌+◌, IsTrue, List, OnOk, IfOk, IfErr, Some};
 ghost use Rattle.fact_model.specs.declared.fact.Fact as facts;
 ghost use Rattle.forest_refresh.specs.Begun.{IsGoing, IsReady};
 ghost use Rattle.forest_store.specs.Sides.{page_count};
@@ -7,6 +7,7 @@ ghost use Rattle.reply_text.specs.Replies.{committed_text, line};
 ghost use Rattle.script_lang.specs.declared.command.Command.TheVariants as says;
 ghost use Rattle.plain_machine.specs.Machine.{abandon, begin, committed, finish, step};
 ghost use Rattle.plain_machine.specs.World.{Warehouse, World, begun_with, idle};
+ghost use Rattle.cube_state.specs.Cached.{Fits, SideStays, emptied, generation, kept_over, live_of};
 ghost use Rattle.cube_state.specs.Costs.{Spends};
 ghost use Rattle.cube_state.specs.Frames.{IsQuiet, RunsOn};
 ghost use Rattle.cube_state.specs.Moves.{made_behind, moves_made};
@@ -47,6 +48,8 @@ pub fn begin<T: Site>(
     ensures moved { IfOk result (λ done. moves_made done.state ≡ moves_made state) }
     ensures silent { IsTrue T.tells → (world : World) → Stands state (T.disk site.old) world
         → begins world (begin world block).0 ≡ 0 → OnOk result (T.writes site.new ≡ T.writes site.old) }
+    ensures live { IfOk result (λ done. live_of done.state ≡ live_of state) }
+    ensures side { IsTrue T.tells → OnOk result (SideStays (live_of state) (T.disk site.old).files (T.disk site.new).files) }
     ensures runs { IfOk result (λ done. RunsOn T.Site site.new done.state) }
     ensures quiet { IsQuiet T.Site site.old site.new result }
 {
@@ -83,6 +86,8 @@ pub fn step<T: Site>(
     // Whatever the files hold.
     ensures damage { IsTrue T.tells → IfErr result (FinishTells state (T.disk site.old).files) }
     ensures answered { IfOk result (λ done. done.reply.items ≡ step_text state) }
+    ensures live { IfOk result (λ done. live_of done.state ≡ live_of state) }
+    ensures side { IsTrue T.tells → SideStays (live_of state) (T.disk site.old).files (T.disk site.new).files }
     ensures runs { IfOk result (λ done. RunsOn T.Site site.new done.state) }
     ensures quiet { IsQuiet T.Site site.old site.new result }
 {
@@ -122,6 +127,8 @@ fn move_on<T: Site>(state: &mut State, moves: u64, site: &mut T) -> Result<(), S
     // Whatever the files hold.
     ensures damage { IsTrue T.tells → IfErr result (FinishTells state.old (T.disk site.old).files) }
     ensures same { OnOk result (step_text state.new ≡ step_text state.old) }
+    ensures live { OnOk result (live_of state.new ≡ live_of state.old) }
+    ensures side { IsTrue T.tells → SideStays (live_of state.old) (T.disk site.old).files (T.disk site.new).files }
     ensures runs { OnOk result (RunsOn T.Site site.new state.new) }
     ensures quiet { IsQuiet T.Site site.old site.new result }
 {
@@ -149,6 +156,8 @@ fn go_on<T: Site>(refresh: &mut Refresh, moves: u64, site: &mut T) -> Result<(),
 
     // Whatever the files hold.
     ensures damage { IsTrue T.tells → IfErr result (TellsRefreshDamage refresh.old (T.disk site.old).files) }
+    ensures store { refresh.new.store ≡ refresh.old.store }
+    ensures side { IsTrue T.tells → SideStays (Some refresh.old.store.forest.body) (T.disk site.old).files (T.disk site.new).files }
     ensures goes { OnOk result (IsGoing refresh.new) }
     ensures fit { IsTrue T.tells → OnOk result (IsReady refresh.new (T.disk site.new)) }
     ensures quiet { IsQuiet T.Site site.old site.new result }
@@ -168,6 +177,7 @@ pub fn finish<T: Site>(
     site: &mut T,
 ) -> Result<Answered, Stop>
     requires runs { RunsOn T.Site site.old state }
+    requires fits { IsTrue T.tells → Fits state (T.disk site.old).files pages.old }
 
     ensures answer { IsTrue T.tells → (world : World) → Stands state (T.disk site.old) world
         → IfOk result (IsAnswer (T.disk site.new) (finish world)) }
@@ -186,7 +196,9 @@ pub fn finish<T: Site>(
 
     ensures moved { IfOk result (λ done. moves_made done.state ≡ 0) }
     ensures runs { IfOk result (λ done. RunsOn T.Site site.new done.state) }
-    ensures cache { pages.new ≡ pages.old }
+    ensures fits { IsTrue T.tells → IfOk result (λ done. Fits done.state (T.disk site.new).files pages.new) }
+    ensures cache { IfOk result (λ done. pages.new ≡ kept_over (live_of state) (live_of done.state) pages.old) }
+    ensures capacity { pages.new.capacity ≡ pages.old.capacity }
     ensures quiet { IsQuiet T.Site site.old site.new result }
 {
     match state {
@@ -222,7 +234,9 @@ fn commit<T: Site>(
 
     ensures moved { IfOk result (λ done. moves_made done.state ≡ 0) }
     ensures runs { IfOk result (λ done. RunsOn T.Site site.new done.state) }
-    ensures cache { pages.new ≡ pages.old }
+    ensures next { IfOk result (λ done. generation (live_of done.state) ≡ refresh.store.forest.body.generation + 1) }
+    ensures cache { OnOk result (pages.new ≡ emptied pages.old) }
+    ensures capacity { pages.new.capacity ≡ pages.old.capacity }
     ensures quiet { IsQuiet T.Site site.old site.new result }
 {
     match refresh.finish(site) {
@@ -256,6 +270,7 @@ pub fn abandon<T: Site>(alloc: Global, state: State, _site: &T) -> Result<Answer
         → IfOk result (λ done. Stands done.state (T.disk _site.now) (abandon world).0) }
     ensures reply { IfOk result (λ done. done.reply.items ≡ abandon_text state) }
     ensures moved { IfOk result (λ done. moves_made done.state ≡ 0) }
+    ensures live { IfOk result (λ done. live_of done.state ≡ live_of state) }
     ensures runs { IfOk result (λ done. RunsOn T.Site _site.now done.state) }
     ensures memory { IfErr result (λ stop. stop ≡ Stop.Memory) }
 {

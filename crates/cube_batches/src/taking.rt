@@ -4,6 +4,7 @@ ghost use Rattle.forest_store.specs.Opened.{IsOpened};
 ghost use Rattle.forest_store.specs.Stored.{IsWhole};
 ghost use Rattle.plain_machine.specs.Machine.{batch_from};
 ghost use Rattle.plain_machine.specs.World.{Warehouse, World, idle};
+ghost use Rattle.cube_state.specs.Cached.{live_of};
 ghost use Rattle.cube_state.specs.Frames.{IsQuiet, RunsOn};
 ghost use Rattle.cube_state.specs.Moves.{moves_made};
 ghost use Rattle.cube_state.specs.Stops.{IsNoDamage};
@@ -50,6 +51,7 @@ pub fn take_in<T: Site>(
     ensures takes { IfOk result (Takes state source) }
     ensures touches { IfOk result (Touches T.Site site.old site.new) }
     ensures moved { IfOk result (λ taken. moves_made (state_of taken) ≡ moves_made state) }
+    ensures live { IfOk result (λ taken. live_of (state_of taken) ≡ live_of state) }
     ensures damage { IfErr result IsNoDamage }
     ensures runs { IfOk result (λ taken. RunsOn T.Site site.new (state_of taken)) }
     ensures quiet { IsQuiet T.Site site.old site.new result }
@@ -84,6 +86,7 @@ fn take_source<T: Site>(
     ensures takes { IfOk result (TakesRead store (batch_from store.forest.schema source)) }
     ensures touches { IfOk result (Touches T.Site site.old site.new) }
     ensures moved { IfOk result (λ taken. moves_made (state_of taken) ≡ 0) }
+    ensures live { IfOk result (λ taken. live_of (state_of taken) ≡ Some store.forest.body) }
     ensures damage { IfErr result IsNoDamage }
     ensures runs { IfOk result (λ taken. RunsOn T.Site site.new (state_of taken)) }
     ensures quiet { IsQuiet T.Site site.old site.new result }

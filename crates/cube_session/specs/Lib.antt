@@ -3,3 +3,4 @@ pub mod Damage
 pub mod Gives
 pub mod Session
 pub mod Told
+pub mod Visits

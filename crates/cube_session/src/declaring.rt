@@ -4,6 +4,8 @@ ghost use Rattle.cube_schema.specs.Lawful.{IsSchema};
 ghost use Rattle.forest_store.specs.Opened.{IsEmpty};
 ghost use Rattle.plain_machine.specs.Machine.{declare, declared};
 ghost use Rattle.plain_machine.specs.World.{World, bare};
+ghost use Rattle.page_cache.specs.Giving.{Cache};
+ghost use Rattle.cube_state.specs.Cached.{Fits, generation, live_of};
 ghost use Rattle.cube_state.specs.Costs.{Spends};
 ghost use Rattle.cube_state.specs.Frames.{IsQuiet, RunsOn};
 ghost use Rattle.cube_state.specs.Moves.{moves_made};
@@ -39,6 +41,8 @@ pub fn declare<T: Site>(
         → (declare world block).0.kept ≡ world.kept → OnOk result (T.writes site.new ≡ T.writes site.old) }
 
     ensures moved { IfOk result (λ done. moves_made done.state ≡ moves_made state) }
+    ensures live { IfOk result (λ done. generation (live_of done.state) ≡ generation (live_of state)) }
+    ensures fits { IsTrue T.tells → (cache : Cache) → Fits state (T.disk site.old).files cache → IfOk result (λ done. Fits done.state (T.disk site.new).files cache) }
     ensures runs { IfOk result (λ done. RunsOn T.Site site.new done.state) }
     ensures quiet { IsQuiet T.Site site.old site.new result }
 {
@@ -61,6 +65,7 @@ fn declare_first<T: Site>(alloc: Global, block: Block, site: &mut T) -> Result<A
     ensures unwritten { (declare (bare None) block).0.kept ≡ None → OnOk result (T.writes site.new ≡ T.writes site.old) }
 
     ensures moved { IfOk result (λ done. moves_made done.state ≡ 0) }
+    ensures first { IfOk result (λ done. generation (live_of done.state) ≡ 0) }
     ensures runs { IfOk result (λ done. RunsOn T.Site site.new done.state) }
     ensures quiet { IsQuiet T.Site site.old site.new result }
 {
@@ -91,6 +96,7 @@ fn declare_schema<T: Site>(alloc: Global, schema: Schema, site: &mut T) -> Resul
     ensures unwritten { (declared (bare None) (Ok schema)).0.kept ≡ None → OnOk result (T.writes site.new ≡ T.writes site.old) }
 
     ensures moved { IfOk result (λ done. moves_made done.state ≡ 0) }
+    ensures first { IfOk result (λ done. generation (live_of done.state) ≡ 0) }
     ensures runs { IfOk result (λ done. RunsOn T.Site site.new done.state) }
     ensures quiet { IsQuiet T.Site site.old site.new result }
 {

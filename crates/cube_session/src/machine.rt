@@ -1,7 +1,8 @@
 //! Commands are carried out over the files, up to their replies, which are not told yet.
-ghost use Rattle.std.specs.Prelude.{◌≡◌, IsTrue, OnOk, IfOk, IfErr};
+ghost use Rattle.std.specs.Prelude.{◌≡◌, ℕ, List, IsTrue, OnOk, IfOk, IfErr, false};
 ghost use Rattle.plain_machine.specs.Machine.{act};
 ghost use Rattle.plain_machine.specs.World.{World};
+ghost use Rattle.cube_state.specs.Cached.{Fits, KeepsUp, Saves, kept_over, live_file, live_of};
 ghost use Rattle.cube_state.specs.Costs.{Cost, Spends};
 ghost use Rattle.cube_state.specs.Frames.{IsQuiet, RunsOn};
 ghost use Rattle.cube_state.specs.Moves.{made_behind, moves_made};
@@ -11,6 +12,7 @@ ghost use Rattle.cube_batches.specs.Costs.{begins};
 ghost use Rattle.cube_session.specs.Costs.{AsksNoMove, Costs};
 ghost use Rattle.cube_session.specs.Gives.{Gives};
 ghost use Rattle.cube_session.specs.Told.{TellsDamage};
+ghost use Rattle.cube_session.specs.Visits.{GoesTo, asks_pages};
 
 use crate::declaring::declare;
 use cube_batches::{abandon, begin, finish, load, step};
@@ -31,6 +33,7 @@ pub fn act<T: Site>(
     site: &mut T,
 ) -> Result<Answered, Stop>
     requires runs { RunsOn T.Site site.old state }
+    requires fits { IsTrue T.tells → Fits state (T.disk site.old).files pages.old }
 
     ensures answer { IsTrue T.tells → (world : World) → Stands state (T.disk site.old) world
         → IfOk result (IsAnswer (T.disk site.new) (act world command)) }
@@ -43,6 +46,15 @@ pub fn act<T: Site>(
     ensures cost { IsTrue T.tells → (world : World) (cost : Cost) → Stands state (T.disk site.old) world
         → Costs world (moves_made state) command cost → Spends T.Site cost site.old site.new }
 
+    // The kept pages.
+    ensures saves { IsTrue T.tells → (world : World) (numbers : List ℕ) → Stands state (T.disk site.old) world → GoesTo world command numbers
+        → Saves pages.old (live_file (live_of state)) numbers (T.reads site.old) (T.reads site.new) }
+    ensures keeps { IsTrue T.tells → (world : World) (numbers : List ℕ) → Stands state (T.disk site.old) world → GoesTo world command numbers
+        → OnOk result (KeepsUp pages.old pages.new (live_file (live_of state)) numbers) }
+    ensures fits { IsTrue T.tells → IfOk result (λ done. Fits done.state (T.disk site.new).files pages.new) }
+    ensures cache { asks_pages state command ≡ false → IfOk result (λ done. pages.new ≡ kept_over (live_of state) (live_of done.state) pages.old) }
+    ensures capacity { pages.new.capacity ≡ pages.old.capacity }
+
     // Whatever the files hold.
     ensures damage { IsTrue T.tells → IfErr result (TellsDamage state (T.disk site.old).files command) }
     ensures answered { IsTrue T.tells → IfOk result (λ done. Gives state (T.disk site.old).files command done.reply.items) }
@@ -51,7 +63,6 @@ pub fn act<T: Site>(
         → (act world command).0.kept ≡ world.kept → begins world (act world command).0 ≡ 0 → AsksNoMove world command
         → OnOk result (T.writes site.new ≡ T.writes site.old) }
     ensures runs { IfOk result (λ done. RunsOn T.Site site.new done.state) }
-    ensures cache { pages.new ≡ pages.old }
     ensures quiet { IsQuiet T.Site site.old site.new result }
 {
     match command {

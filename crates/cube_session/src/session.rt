@@ -1,5 +1,5 @@
 //! A session: the files are opened, and each command is carried out and its reply emitted.
-ghost use Rattle.std.specs.Prelude.{◌≡◌, ◌≤◌, ◌+◌, ◌++◌, ◌↔◌, IsTrue, IsErrOf, None, OnOk, OnErr, IfOk, IfErr, IfSome};
+ghost use Rattle.std.specs.Prelude.{◌≡◌, ◌≤◌, ◌+◌, ◌++◌, ◌↔◌, ℕ, List, [], IsTrue, IsErrOf, None, false, OnOk, OnErr, IfOk, IfErr, IfSome};
 ghost use Rattle.site_core.specs.Calls.{Settles, Stays};
 ghost use Rattle.site_core.specs.Moments.{LeavesOnly};
 ghost use Rattle.forest_open.specs.Breaks.{BreaksAt};
@@ -8,6 +8,7 @@ ghost use Rattle.plain_machine.specs.Stages.{Meanwhile};
 ghost use Rattle.plain_machine.specs.Keeps.{Keeps};
 ghost use Rattle.plain_machine.specs.Machine.{act};
 ghost use Rattle.plain_machine.specs.World.{Kept, World, bare};
+ghost use Rattle.cube_state.specs.Cached.{KeepsUp, Saves, kept_over, live_file};
 ghost use Rattle.cube_state.specs.Costs.{Cost, Spends};
 ghost use Rattle.cube_state.specs.Frames.{IsQuiet, StopsFor};
 ghost use Rattle.cube_state.specs.Moves.{made_behind};
@@ -18,6 +19,7 @@ ghost use Rattle.cube_session.specs.Damage.{StopsAt, TellsBreak};
 ghost use Rattle.cube_session.specs.Gives.{RepliesTo};
 ghost use Rattle.cube_session.specs.Session.{Runs, StandsFor, moves_for};
 ghost use Rattle.cube_session.specs.Told.{TellsDamage};
+ghost use Rattle.cube_session.specs.Visits.{GoesTo, asks_pages_for, live_for};
 
 use crate::machine::act;
 use cube_state::{Answered, State, Stop};
@@ -52,9 +54,10 @@ impl Session {
         ensures cost { IsTrue T.tells → (kept : Kept) → Keeps (T.disk site.old).files kept
             → T.reads site.new ≤ T.reads site.old + open_cost kept }
 
-        ensures runs { IfOk result (λ session. Runs T.Site site.new session.state) }
+        ensures runs { IfOk result (λ session. Runs T.Site site.new session.state session.pages) }
         ensures moved { IfOk result (λ session. moves_for session.state ≡ 0) }
         ensures cache { IfOk result (λ session. session.pages.capacity ≡ cache) }
+        ensures empty { IfOk result (λ session. session.pages.kept ≡ []) }
         ensures disk { IsTrue T.tells → Settles Stays (T.disk site.old) (T.disk site.new) result }
         ensures quiet { IsQuiet T.Site site.old site.new result }
         ensures no_output { IsErrOf result Stop.Output → ⊥ }
@@ -94,9 +97,9 @@ impl Session {
     }
 
     /// Carries out a command and emits its reply. After a stop the session has stopped. No rows are told of a page that is damaged, and no
-    /// batch is acknowledged over a tree that is.
+    /// batch is acknowledged over a tree that is. Pages that slices read are kept, up to the capacity, until a batch is committed.
     pub fn command<T: Site>(&mut self, site: &mut T, command: Command) -> Result<(), Stop>
-        requires { Runs T.Site site.old self.old.state }
+        requires { Runs T.Site site.old self.old.state self.old.pages }
 
         ensures stands { IsTrue T.tells → (world : World) → StandsFor self.old.state (T.disk site.old) world
             → OnOk result (StandsFor self.new.state (T.disk site.new) (act world command).0) }
@@ -111,6 +114,16 @@ impl Session {
         ensures cost { IsTrue T.tells → (world : World) (cost : Cost) → StandsFor self.old.state (T.disk site.old) world
             → Costs world (moves_for self.old.state) command cost → Spends T.Site cost site.old site.new }
 
+        // The kept pages: a slice reads those alone that are not kept, where there is room, and keeps them.
+        ensures saves { IsTrue T.tells → (world : World) (numbers : List ℕ) → StandsFor self.old.state (T.disk site.old) world → GoesTo world command numbers
+            → Saves self.old.pages (live_file (live_for self.old.state)) numbers (T.reads site.old) (T.reads site.new) }
+        ensures keeps { IsTrue T.tells → (world : World) (numbers : List ℕ) → StandsFor self.old.state (T.disk site.old) world → GoesTo world command numbers
+            → OnOk result (KeepsUp self.old.pages self.new.pages (live_file (live_for self.old.state)) numbers) }
+        // None is kept over a new generation. No other command but a slice changes them.
+        ensures cache { asks_pages_for self.old.state command ≡ false
+            → OnOk result (self.new.pages ≡ kept_over (live_for self.old.state) (live_for self.new.state) self.old.pages) }
+        ensures capacity { self.new.pages.capacity ≡ self.old.pages.capacity }
+
         // Whatever the files hold.
         ensures damage { IsTrue T.tells → IfErr result (λ stop. IfSome self.old.state (λ state.
             TellsDamage state (T.disk site.old).files command stop)) }
@@ -121,8 +134,7 @@ impl Session {
             → (act world command).0.kept ≡ world.kept → begins world (act world command).0 ≡ 0 → AsksNoMove world command
             → OnOk result (T.writes site.new ≡ T.writes site.old) }
         ensures stopped { OnErr result (self.new.state ≡ None) }
-        ensures runs { OnOk result (Runs T.Site site.new self.new.state) }
-        ensures cache { self.new.pages.capacity ≡ self.old.pages.capacity }
+        ensures runs { OnOk result (Runs T.Site site.new self.new.state self.new.pages) }
         ensures stops { StopsFor T.Site site.old site.new result }
     {
         let Some(state) = self.state.take() else {

@@ -3,6 +3,7 @@ use Rattle.std.proofs.Common.{◌≡◌, ℕ, List, [], ◌∷◌, ◌++◌, Opt
 use Rattle.site_core.specs.Disk.{Files}
 use Rattle.site_core.specs.declared.site.Site.{Ghosts}
 use Rattle.script_lang.specs.declared.command.Command.{Command}
+use Rattle.page_cache.specs.Giving.{Cache}
 use Rattle.cube_state.specs.declared.state.State.{State}
 use Rattle.cube_session.specs.Gives.{RepliesTo}
 use Rattle.cube_session.specs.Session.{Runs}
@@ -28,16 +29,16 @@ none_replied cs told = record { front = []; cut = refl; replied = record { repli
 
 -- one command more
 pub one_replied : (cs : List Command) (before : List ℕ) (all : List Command) (mid : List ℕ) (c : Command) (rest : List Command) (now : List ℕ)
-    {S : Type 0} (T : Ghosts S) (site : S) (state : Option State) (files : Files) → AreLeft cs before all mid → all ≡ c ∷ rest → Runs T site state
+    {S : Type 0} (T : Ghosts S) (site : S) (state : Option State) (cache : Cache) (files : Files) → AreLeft cs before all mid → all ≡ c ∷ rest → Runs T site state cache
     → IfSome state (λ s. RepliesTo s files c mid now) → AreLeft cs before rest now
-one_replied cs before all mid c rest now T site None files so_far first runs is = absurd runs
-one_replied cs before all mid c rest now T site (Some state) files so_far first runs is = record {
+one_replied cs before all mid c rest now T site None cache files so_far first runs is = absurd runs
+one_replied cs before all mid c rest now T site (Some state) cache files so_far first runs is = record {
   front = so_far.front ++ (c ∷ []);
   cut = so_far.cut ∙ ap (λ (l : List Command). so_far.front ++ l) first ∙ sym (append_assoc so_far.front (c ∷ []) rest);
   replied = then_replied so_far.front (c ∷ []) before mid now so_far.replied (record {
     replies = is.reply;
     told = is.told;
-    each = (is.reply, [], sym (append-nil is.reply), gives_some state files c is.reply runs.running is.right, refl);
+    each = (is.reply, [], sym (append-nil is.reply), gives_some state files c is.reply runs.runs.running is.right, refl);
   });
 }
 

@@ -34,7 +34,7 @@ pub fn serve<S: Source, T: Site>(
     limit: u64,
 ) -> Result<(), Status>
     requires limit { limit ≤ 2 ^ 30 }
-    requires runs { Runs T.Site site.old session.old.state }
+    requires runs { Runs T.Site site.old session.old.state session.old.pages }
 
     ensures finished { IsTrue S.tells → IsTrue T.tells → (world : World) → StandsFor session.old.state (T.disk site.old) world
         → OnOk result (Finished (T.disk site.new) world (moves_for session.old.state) (commands (S.left source.old)) (T.disk site.old).told) }
@@ -80,7 +80,7 @@ fn take_piece<T: Site>(
     buffer: Vec<u8>,
     count: usize,
 ) -> Result<(), Stop>
-    requires runs { Runs T.Site site.old session.old.state }
+    requires runs { Runs T.Site site.old session.old.state session.old.pages }
     requires goes_on { lines.old.over ≡ false }
     requires read { lines.old.rest ≡ [] }
     requires within { count ≤ vec_len buffer }
@@ -105,7 +105,7 @@ fn take_piece<T: Site>(
         → IfErr result IsNoDamage }
     ensures goes_on { lines.new.over ≡ false }
 
-    ensures runs { OnOk result (Runs T.Site site.new session.new.state) }
+    ensures runs { OnOk result (Runs T.Site site.new session.new.state session.new.pages) }
     ensures stops { StopsFor T.Site site.old site.new result }
 {
     lines.take_over(buffer, count);
@@ -114,7 +114,7 @@ fn take_piece<T: Site>(
 
 /// Carries out the commands that are left at the end of the script.
 fn take_end<T: Site>(session: &mut Session, lines: &mut Lines, site: &mut T) -> Result<(), Stop>
-    requires runs { Runs T.Site site.old session.old.state }
+    requires runs { Runs T.Site site.old session.old.state session.old.pages }
     requires goes_on { lines.old.over ≡ false }
 
     ensures finished { IsTrue T.tells → (world : World) → StandsFor session.old.state (T.disk site.old) world
@@ -136,7 +136,7 @@ fn take_end<T: Site>(session: &mut Session, lines: &mut Lines, site: &mut T) -> 
 
 /// Carries out the commands that are whole by now, and emits the reply to each.
 fn carry_out<T: Site>(session: &mut Session, lines: &mut Lines, site: &mut T) -> Result<(), Stop>
-    requires runs { Runs T.Site site.old session.old.state }
+    requires runs { Runs T.Site site.old session.old.state session.old.pages }
 
     ensures onward { IsTrue T.tells → (world : World) (more : List ℕ) → StandsFor session.old.state (T.disk site.old) world
         → OnOk result (Onward T.Site site.old site.new session.old.state session.new.state world (to_come lines.old more)
@@ -157,7 +157,7 @@ fn carry_out<T: Site>(session: &mut Session, lines: &mut Lines, site: &mut T) ->
     ensures read { OnOk result (lines.new.rest ≡ []) }
     ensures over { lines.new.over ≡ lines.old.over }
 
-    ensures runs { OnOk result (Runs T.Site site.new session.new.state) }
+    ensures runs { OnOk result (Runs T.Site site.new session.new.state session.new.pages) }
     ensures stops { StopsFor T.Site site.old site.new result }
 {
     while let Some(command) = lines.next_command()? {

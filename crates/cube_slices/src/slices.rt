@@ -1,11 +1,13 @@
 //! The command `slice`.
-ghost use Rattle.std.specs.Prelude.{◌≡◌, ◌≤◌, ◌+◌, ℕ, IsTrue, List, Ok, IfOk, IfErr};
+ghost use Rattle.std.specs.Prelude.{◌≡◌, ◌≤◌, ◌+◌, ℕ, IsTrue, List, Ok, IfOk, IfErr, OnOk, false};
 ghost use Rattle.fact_model.specs.declared.fact.Fact as facts;
+ghost use Rattle.forest_store.specs.Sides.{side_of};
 ghost use Rattle.forest_store.specs.Stored.{IsStoreOf};
 ghost use Rattle.slice_lang.specs.Agreeing.{SliceAgrees};
 ghost use Rattle.slice_lang.specs.Reading.{slice_of};
-ghost use Rattle.plain_machine.specs.Machine.{rows_reply, slice, slice_reply};
+ghost use Rattle.plain_machine.specs.Machine.{is_covered, rows_reply, slice, slice_reply};
 ghost use Rattle.plain_machine.specs.World.{World};
+ghost use Rattle.cube_state.specs.Cached.{AreLive, Fits, KeepsUp, Saves, live_file, live_of};
 ghost use Rattle.cube_state.specs.Frames.{OnlyLooks, RunsOn};
 ghost use Rattle.cube_state.specs.Stops.{IsNoDamage};
 ghost use Rattle.cube_state.specs.Session.{Between, IsAnswer, Stands};
@@ -13,6 +15,7 @@ ghost use Rattle.cube_slices.specs.Costs.{Costs, MayRead};
 ghost use Rattle.cube_slices.specs.Gives.{Finds, GivesFound, GivesRead, SliceGives};
 ghost use Rattle.cube_slices.specs.Sliced.{AreRows, TellsSliceDamage};
 ghost use Rattle.cube_slices.specs.Sliced.{SliceTells};
+ghost use Rattle.cube_slices.specs.Visits.{GoesTo, Visits, is_answered, is_found};
 
 use cube_state::{Answered, State, Stop, plain};
 use fact_model::Slice;
@@ -35,6 +38,7 @@ pub fn slice<T: Site>(
     site: &mut T,
 ) -> Result<Answered, Stop>
     requires runs { RunsOn T.Site site.old state }
+    requires fits { IsTrue T.tells → Fits state (T.disk site.old).files pages.old }
 
     ensures answer { IsTrue T.tells → (world : World) → Stands state (T.disk site.old) world
         → IfOk result (IsAnswer (T.disk site.new) (slice world text.now)) }
@@ -45,12 +49,20 @@ pub fn slice<T: Site>(
     ensures cost { IsTrue T.tells → (world : World) (most : ℕ) → Stands state (T.disk site.old) world → Costs world text.now most
         → T.reads site.new ≤ T.reads site.old + most }
 
+    // The kept pages.
+    ensures saves { IsTrue T.tells → (world : World) (numbers : List ℕ) → Stands state (T.disk site.old) world → Visits world text.now numbers
+        → Saves pages.old (live_file (live_of state)) numbers (T.reads site.old) (T.reads site.new) }
+    ensures keeps { IsTrue T.tells → (world : World) (numbers : List ℕ) → Stands state (T.disk site.old) world → Visits world text.now numbers
+        → OnOk result (KeepsUp pages.old pages.new (live_file (live_of state)) numbers) }
+
     // Whatever the files hold.
     ensures damage { IsTrue T.tells → IfErr result (SliceTells state (T.disk site.old).files text.now) }
     ensures state { IfOk result (λ done. done.state ≡ state) }
     ensures answered { IsTrue T.tells → IfOk result (λ done. SliceGives state (T.disk site.old).files text.now done.reply.items) }
     ensures runs { IfOk result (λ done. RunsOn T.Site site.new done.state) }
-    ensures cache { pages.new ≡ pages.old }
+    ensures fits { IsTrue T.tells → Fits state (T.disk site.new).files pages.new }
+    ensures unasked { is_answered state text.now ≡ false → pages.new ≡ pages.old }
+    ensures capacity { pages.new.capacity ≡ pages.old.capacity }
     ensures looks { OnlyLooks T.Site site.old site.new result }
 {
     match state {
@@ -87,6 +99,8 @@ fn reply_to<T: Site>(
     text: &[u8],
     site: &mut T,
 ) -> Result<Vec<u8>, Stop>
+    requires fits { IsTrue T.tells → AreLive store.now.forest.body (T.disk site.old).files pages.old }
+
     ensures reply { IsTrue T.tells → (accepted : List facts.Fact) → IsStoreOf store.now accepted (T.disk site.old).files
         → IfOk result (λ reply. reply.items ≡ slice_reply store.now.forest.schema accepted (slice_of store.now.forest.schema text.now)) }
     ensures undamaged { IsTrue T.tells → (accepted : List facts.Fact) → IsStoreOf store.now accepted (T.disk site.old).files
@@ -95,11 +109,21 @@ fn reply_to<T: Site>(
         → MayRead store.now.forest.schema accepted (slice_of store.now.forest.schema text.now) most
         → T.reads site.new ≤ T.reads site.old + most }
 
+    // The kept pages.
+    ensures saves { IsTrue T.tells → (accepted : List facts.Fact) (numbers : List ℕ) → IsStoreOf store.now accepted (T.disk site.old).files
+        → GoesTo store.now.forest.schema accepted (slice_of store.now.forest.schema text.now) numbers
+        → Saves pages.old (side_of store.now.forest.body) numbers (T.reads site.old) (T.reads site.new) }
+    ensures keeps { IsTrue T.tells → (accepted : List facts.Fact) (numbers : List ℕ) → IsStoreOf store.now accepted (T.disk site.old).files
+        → GoesTo store.now.forest.schema accepted (slice_of store.now.forest.schema text.now) numbers
+        → OnOk result (KeepsUp pages.old pages.new (side_of store.now.forest.body) numbers) }
+
     // Whatever the files hold.
     ensures damage { IsTrue T.tells → IfErr result (TellsSliceDamage store.now (T.disk site.old).files (slice_of store.now.forest.schema text.now)) }
     ensures answered { IsTrue T.tells
         → IfOk result (λ reply. GivesRead store.now (T.disk site.old).files (slice_of store.now.forest.schema text.now) reply.items) }
-    ensures cache { pages.new ≡ pages.old }
+    ensures fits { IsTrue T.tells → AreLive store.now.forest.body (T.disk site.new).files pages.new }
+    ensures unasked { is_found store.now.forest.schema (slice_of store.now.forest.schema text.now) ≡ false → pages.new ≡ pages.old }
+    ensures capacity { pages.new.capacity ≡ pages.old.capacity }
     ensures looks { OnlyLooks T.Site site.old site.new result }
 {
     match read_slice(alloc, &store.forest.schema, text) {
@@ -117,6 +141,7 @@ fn found_text<T: Site>(
     site: &mut T,
 ) -> Result<Vec<u8>, Stop>
     requires agrees { SliceAgrees store.now.forest.schema slice.now }
+    requires fits { IsTrue T.tells → AreLive store.now.forest.body (T.disk site.old).files pages.old }
 
     ensures reply { IsTrue T.tells → (accepted : List facts.Fact) → IsStoreOf store.now accepted (T.disk site.old).files
         → IfOk result (λ reply. reply.items ≡ rows_reply store.now.forest.schema accepted slice.now) }
@@ -125,10 +150,20 @@ fn found_text<T: Site>(
     ensures cost { IsTrue T.tells → (accepted : List facts.Fact) (most : ℕ) → IsStoreOf store.now accepted (T.disk site.old).files
         → MayRead store.now.forest.schema accepted (Ok slice.now) most → T.reads site.new ≤ T.reads site.old + most }
 
+    // The kept pages.
+    ensures saves { IsTrue T.tells → (accepted : List facts.Fact) (numbers : List ℕ) → IsStoreOf store.now accepted (T.disk site.old).files
+        → GoesTo store.now.forest.schema accepted (Ok slice.now) numbers
+        → Saves pages.old (side_of store.now.forest.body) numbers (T.reads site.old) (T.reads site.new) }
+    ensures keeps { IsTrue T.tells → (accepted : List facts.Fact) (numbers : List ℕ) → IsStoreOf store.now accepted (T.disk site.old).files
+        → GoesTo store.now.forest.schema accepted (Ok slice.now) numbers
+        → OnOk result (KeepsUp pages.old pages.new (side_of store.now.forest.body) numbers) }
+
     // Whatever the files hold.
     ensures damage { IsTrue T.tells → IfErr result (TellsSliceDamage store.now (T.disk site.old).files (Ok slice.now)) }
     ensures answered { IsTrue T.tells → IfOk result (λ reply. GivesFound store.now (T.disk site.old).files slice.now reply.items) }
-    ensures cache { pages.new ≡ pages.old }
+    ensures fits { IsTrue T.tells → AreLive store.now.forest.body (T.disk site.new).files pages.new }
+    ensures unasked { is_covered store.now.forest.schema slice.now ≡ false → pages.new ≡ pages.old }
+    ensures capacity { pages.new.capacity ≡ pages.old.capacity }
     ensures looks { OnlyLooks T.Site site.old site.new result }
 {
     match rows_of(alloc, pages, store, slice, site)? {
@@ -146,6 +181,7 @@ fn rows_of<'a, T: Site>(
     site: &mut T,
 ) -> Result<Option<SliceRows<'a>>, Stop>
     requires agrees { SliceAgrees store.now.forest.schema slice.now }
+    requires fits { IsTrue T.tells → AreLive store.now.forest.body (T.disk site.old).files pages.old }
 
     ensures rows { IsTrue T.tells → (accepted : List facts.Fact) → IsStoreOf store.now accepted (T.disk site.old).files
         → IfOk result (AreRows store.now.forest.schema accepted slice.now) }
@@ -154,10 +190,20 @@ fn rows_of<'a, T: Site>(
     ensures cost { IsTrue T.tells → (accepted : List facts.Fact) (most : ℕ) → IsStoreOf store.now accepted (T.disk site.old).files
         → MayRead store.now.forest.schema accepted (Ok slice.now) most → T.reads site.new ≤ T.reads site.old + most }
 
+    // The kept pages.
+    ensures saves { IsTrue T.tells → (accepted : List facts.Fact) (numbers : List ℕ) → IsStoreOf store.now accepted (T.disk site.old).files
+        → GoesTo store.now.forest.schema accepted (Ok slice.now) numbers
+        → Saves pages.old (side_of store.now.forest.body) numbers (T.reads site.old) (T.reads site.new) }
+    ensures keeps { IsTrue T.tells → (accepted : List facts.Fact) (numbers : List ℕ) → IsStoreOf store.now accepted (T.disk site.old).files
+        → GoesTo store.now.forest.schema accepted (Ok slice.now) numbers
+        → OnOk result (KeepsUp pages.old pages.new (side_of store.now.forest.body) numbers) }
+
     // Whatever the files hold.
     ensures damage { IsTrue T.tells → IfErr result (TellsSliceDamage store.now (T.disk site.old).files (Ok slice.now)) }
     ensures answered { IsTrue T.tells → IfOk result (Finds store.now (T.disk site.old).files slice.now) }
-    ensures cache { pages.new ≡ pages.old }
+    ensures fits { IsTrue T.tells → AreLive store.now.forest.body (T.disk site.new).files pages.new }
+    ensures unasked { is_covered store.now.forest.schema slice.now ≡ false → pages.new ≡ pages.old }
+    ensures capacity { pages.new.capacity ≡ pages.old.capacity }
     ensures looks { OnlyLooks T.Site site.old site.new result }
 {
     match slice_exec::answer(alloc, site, pages, store, slice) {

@@ -1,3 +1,4 @@
+pub mod Cached
 pub mod Costs
 pub mod Frames
 pub mod Moves

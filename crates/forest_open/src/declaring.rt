@@ -34,6 +34,7 @@ pub fn init<T: Site>(alloc: Global, site: &mut T, schema: Schema) -> Result<Stor
     ensures untouched { IfErr result (λ stop. stop ≢ InitStop.Disk → site.new ≡ site.old) }
 
     ensures schema { IfOk result (λ store. store.forest.schema ≡ schema) }
+    ensures first { IfOk result (λ store. store.forest.body.generation ≡ 0) }
     ensures whole { IfOk result IsWhole }
     ensures opened { IsTrue T.tells → IfOk result (λ store. IsOpened store.forest.body (T.disk site.new)) }
     ensures stable { IsTrue T.tells → OnOk result (IsStable (T.disk site.new)) }

@@ -1,21 +1,9 @@
--- What a cache of pages gives.
-use Rattle.std.specs.Prelude.{◌≡◌, ◌==◌, ◌&&◌, ℕ, ◌+◌, ◌*◌, ◌<◌, ◌≤◌, Bool, List, length, IsSome, Some}
-use Rattle.std.specs.Map.{lookup}
-use Rattle.lru.specs.LruCache.{LruCache}
+-- What a cache of pages keeps and gives.
+use Rattle.std.specs.Prelude.{◌==◌, ◌&&◌, ◌≡◌, ℕ, ◌+◌, ◌*◌, ◌<◌, ◌≤◌, Bool, List, ◌∷◌, length, take, is_some}
+use Rattle.std.specs.Map.{lookup, remove_entry}
 use Rattle.page_fmt.specs.declared.page.TheConstants.{PAGE}
-use Rattle.page_fmt.specs.InFiles.{IsPageOf}
 use Rattle.page_cache.specs.declared.cache.CacheStop.{CacheStop}
 use Rattle.page_cache.specs.declared.cache.CacheStop.TheVariants as stops
-
--- what a contract sees of a cache: how many pages it may keep
-pub record Cache : Type 0 where
-  pub capacity : ℕ
-
--- the file ends before the page's end; or it has the page, and there was no memory for it
-abbrev pub ExplainsStop : List ℕ → ℕ → CacheStop → Type 0
-ExplainsStop bytes number stops.Short = length bytes < PAGE * (number + 1)
-ExplainsStop bytes number stops.Memory = PAGE * (number + 1) ≤ length bytes
-ExplainsStop bytes number stops.Disk = Unit {0}
 
 -- a page's file and number
 abbrev pub Name : Type 0
@@ -25,12 +13,21 @@ Name = ℕ × ℕ
 abbrev pub same_name : Name → Name → Bool
 same_name a b = (a.0 == b.0) && (a.1 == b.1)
 
--- a page with this name is in the map
-abbrev pub IsKept : Name → LruCache Name (List ℕ) → Type 0
-IsKept name map = IsSome (lookup (same_name name) map.entries)
+-- what a contract sees of a cache: how many pages it may keep, and the pages that it keeps by their names, the one last used first
+pub record Cache : Type 0 where
+  pub capacity : ℕ
+  pub kept : List (Name × List ℕ)
 
--- the page with this name is in the map, as a read of its file gives it
-pub record Holds (bytes : List ℕ) (name : Name) (map : LruCache Name (List ℕ)) : Type 0 where
-  pub page : List ℕ
-  pub there : lookup (same_name name) map.entries ≡ Some page
-  pub is_page : IsPageOf bytes name.1 page
+-- whether the page with this name is kept
+abbrev pub is_kept : Cache → Name → Bool
+is_kept cache name = is_some (lookup (same_name name) cache.kept)
+
+-- what is kept once this page was used: it goes first, and the last of the others goes out where they are too many
+abbrev pub used : ℕ → Name → List ℕ → List (Name × List ℕ) → List (Name × List ℕ)
+used capacity name page kept = take capacity ((name, page) ∷ remove_entry (same_name name) kept)
+
+-- the file ends before the page's end; or it has the page, and there was no memory for it
+abbrev pub ExplainsStop : List ℕ → ℕ → CacheStop → Type 0
+ExplainsStop bytes number stops.Short = length bytes < PAGE * (number + 1)
+ExplainsStop bytes number stops.Memory = PAGE * (number + 1) ≤ length bytes
+ExplainsStop bytes number stops.Disk = Unit {0}

@@ -1,2 +1,4 @@
 pub mod Giving
+pub mod Keeping
 pub mod Lending
+pub mod Slots

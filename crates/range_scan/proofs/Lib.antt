@@ -1,5 +1,6 @@
 pub mod Boxes
 pub mod Downward
+pub mod Kept
 pub mod Lists
 pub mod Once
 pub mod Packed

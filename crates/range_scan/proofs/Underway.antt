@@ -17,6 +17,9 @@ use Rattle.page_fmt.specs.declared.page.Place.{Place}
 use Rattle.page_fmt.specs.Taking.{children, taken}
 use Rattle.page_fmt.proofs.Laws.{and-both, children-fall}
 use Rattle.page_fmt.specs.InFiles.{page_at}
+use Rattle.page_cache.specs.Giving.{Cache}
+use Rattle.page_cache.specs.Keeping.{HasRoom, unkept}
+use Rattle.page_cache.proofs.Keeping.{length-unkept, room-before}
 use Rattle.range_scan.specs.Meeting.{is_met}
 use Rattle.range_scan.specs.Searching.{IsAnswer, IsFirstBad, IsSearched, IsSound, NamesPage}
 use Rattle.range_scan.specs.Steps.{ExplainsStop, IsVisited}
@@ -90,6 +93,16 @@ module _ (tree : Place) (region : Region) (bytes : List ℕ) where
     pub more-asked : length asked + 1 ≤ length (visits tree region bytes)
     more-asked = omega (arith, ap length next-split, length-append asked (number ∷ behind))
 
+    -- the pages asked for, and this one, come first
+    to-next : visits tree region bytes ≡ (asked ++ number ∷ []) ++ behind
+    to-next = next-split ∙ sym (append_assoc asked (number ∷ []) behind)
+
+    pub room-next : (cache : Cache) (file : ℕ) → HasRoom cache file (visits tree region bytes) → HasRoom cache file (asked ++ number ∷ [])
+    room-next cache file room = room-before cache file (asked ++ number ∷ []) behind (subst (HasRoom cache file) to-next room)
+
+    pub unkept-next : (cache : Cache) (file : ℕ) → length (unkept cache file (asked ++ number ∷ [])) ≤ length (unkept cache file (visits tree region bytes))
+    unkept-next cache file = omega (arith, ap (λ l. length (unkept cache file l)) to-next, length-unkept cache file (asked ++ number ∷ []) behind)
+
     pub one-more : (next : List ℕ) → IsVisited tree region bytes number rest next → IsUnderway (asked ++ number ∷ []) next
     one-more next visited =
         let ahead-is : flat_map down (reverse next) ≡ behind = ap (flat_map down) visited.goes_on ∙ flat_map-append down (under number) (reverse rest) in
@@ -131,6 +144,11 @@ module _ (tree : Place) (region : Region) (bytes : List ℕ) where
 
   pub asked-few : (asked : List ℕ) (ahead : List ℕ) → IsUnderway asked ahead → length asked ≤ length (visits tree region bytes)
   asked-few asked ahead so_far = omega (arith, ap length so_far.split, length-append asked (flat_map down (reverse ahead)))
+
+  pub unkept-asked : (asked : List ℕ) (ahead : List ℕ) → IsUnderway asked ahead → (cache : Cache) (file : ℕ)
+      → length (unkept cache file asked) ≤ length (unkept cache file (visits tree region bytes))
+  unkept-asked asked ahead so_far cache file =
+      omega (arith, ap (λ l. length (unkept cache file l)) so_far.split, length-unkept cache file asked (flat_map down (reverse ahead)))
 
   -- what is answered is this stop
   pub answered : (stop : SearchStop) (result : Result (Unit {0}) SearchStop) → IsErrAnd result (λ told. told ≡ stop) → IsSearched tree region bytes (Err stop) → IsSearched tree region bytes result

@@ -5,6 +5,8 @@ use Rattle.cube_point.specs.declared.bounds.Region.{Region}
 use Rattle.page_fmt.specs.declared.page.Place.{Place}
 use Rattle.range_scan.specs.Visits.{below, page_of}
 use Rattle.range_scan.specs.Searching.{IsSound}
+use Rattle.page_cache.specs.declared.cache.CacheStop.{CacheStop}
+use Rattle.page_cache.specs.declared.cache.CacheStop.TheVariants as caches
 use Rattle.range_scan.specs.declared.walk.SearchStop.{SearchStop}
 use Rattle.range_scan.specs.declared.walk.SearchStop.TheVariants as stops
 
@@ -22,3 +24,9 @@ abbrev pub ExplainsStop : Place → List ℕ → ℕ → SearchStop → Type 0
 ExplainsStop tree bytes number (stops.Damaged page) = IsSound tree bytes number → ⊥
 ExplainsStop tree bytes number stops.Disk = Unit {0}
 ExplainsStop tree bytes number stops.Memory = Unit {0}
+
+-- a page that the cache does not give, told of the search
+abbrev pub stop_at : ℕ → CacheStop → SearchStop
+stop_at number caches.Disk = stops.Disk
+stop_at number caches.Short = stops.Damaged number
+stop_at number caches.Memory = stops.Memory

@@ -1,24 +1,63 @@
 //! What a search takes from one page.
 
-ghost use Rattle.std.specs.Prelude.{◌≡◌, ◌↔◌, ◌<◌, ◌≤◌, ◌+◌, ◌++◌, IsTrue, List, OnOk, IfOk, filter, length, reverse};
+ghost use Rattle.std.specs.Prelude.{◌≡◌, ◌↔◌, ◌<◌, ◌≤◌, ◌+◌, ◌++◌, ◌^◌, ℕ, IsTrue, List, OnOk, IfOk, IfErr, filter, length, reverse};
 ghost use Rattle.std.specs.List.{All};
+ghost use Rattle.std.specs.Result.{IsErrOf};
 ghost use Rattle.cube_point.specs.declared.point.Entry as points;
 ghost use Rattle.page_fmt.specs.declared.page.Child.{Child};
+ghost use Rattle.page_fmt.specs.InFiles.{IsPageOf};
 ghost use Rattle.page_fmt.specs.Lawful.{HasChildren, HasEntries};
 ghost use Rattle.page_fmt.specs.Taking.{children, entries, page_count};
+ghost use Rattle.page_fmt.specs.Writing.{IsShape};
 ghost use Rattle.range_scan.specs.Meeting.{is_inside};
-ghost use Rattle.range_scan.specs.Steps.{AreAhead};
-ghost use Rattle.range_scan.specs.Visits.{met};
+ghost use Rattle.range_scan.specs.Searching.{NamesPage};
+ghost use Rattle.range_scan.specs.Steps.{AreAhead, ExplainsStop, IsVisited};
+ghost use Rattle.range_scan.specs.Visits.{hits, met, page_of};
 
-use crate::walk::Query;
+use crate::walk::{Query, SearchStop};
 use cube_point::{inside, meets};
 use fact_model::Memory;
-use page_fmt::{PAGE, inner_entry, lent_entry};
+use page_fmt::{Node, PAGE, inner_entry, lent_entry, take_page};
 use point_taker::Taker;
+
+/// Takes the points or the children of the page with this number.
+pub(crate) fn take_contents<G: Taker>(
+    page: &[u8; PAGE],
+    query: &Query<'_>,
+    number: u64,
+    ahead: &mut Vec<u64>,
+    taker: &mut G,
+) -> Result<(), SearchStop>
+    requires shape { IsShape query.now.tree.now.shape }
+    requires few { query.now.tree.now.first + query.now.tree.now.pages ≤ 2 ^ 50 }
+    requires from { query.now.tree.now.first ≤ number }
+    requires within { number < query.now.tree.now.first + query.now.tree.now.pages }
+    requires ahead { AreAhead query.now.tree.now ahead.old.items }
+
+    ensures visited { (bytes : List ℕ) → IsPageOf bytes number page.now
+        → OnOk result (IsVisited query.now.tree.now query.now.region.now bytes number ahead.old.items ahead.new.items) }
+    ensures gives { (bytes : List ℕ) → IsPageOf bytes number page.now
+        → (start : G) (es : List points.Entry) → G.was_given start es taker.old
+        → OnOk result (G.was_given start (es ++ hits query.now.region.now (page_of query.now.tree.now.shape bytes number)) taker.new) }
+    ensures stop { (bytes : List ℕ) → IsPageOf bytes number page.now → IfErr result (ExplainsStop query.now.tree.now bytes number) }
+    ensures ahead { OnOk result (AreAhead query.now.tree.now ahead.new.items) }
+    ensures names { IfErr result (NamesPage number 1) }
+    ensures no_call { IsErrOf result SearchStop.Disk → ⊥ }
+{
+    let Ok(head) = take_page(page, &query.tree.shape, number) else {
+        return Err(SearchStop::Damaged { page: number });
+    };
+    if head.node == Node::Leaf {
+        take_points(page, query, head.count, taker)?;
+    } else if !take_children(page, query, head.count, ahead)? {
+        return Err(SearchStop::Damaged { page: number });
+    }
+    Ok(())
+}
 
 /// Gives the points of a leaf that lie in the region to the taker. It stands apart, so that its loop has all registers.
 #[inline(never)]
-pub(crate) fn take_points<G: Taker>(
+fn take_points<G: Taker>(
     page: &[u8; PAGE],
     query: &Query<'_>,
     count: u16,
@@ -42,7 +81,7 @@ pub(crate) fn take_points<G: Taker>(
 
 /// Puts the children of an inner page whose boxes meet the region behind the others, the first child last, since the last
 /// page ahead is visited next. False, where a child stands before the tree's first page.
-pub(crate) fn take_children(
+fn take_children(
     page: &[u8; PAGE],
     query: &Query<'_>,
     count: u16,

@@ -1,5 +1,5 @@
 //! The rows of a slice, from the view that it is answered from.
-ghost use Rattle.std.specs.Prelude.{◌≡◌, ◌≤◌, ◌+◌, ◌%◌, ◌↔◌, ℕ, IsTrue, IfOk, IfErr, List, length};
+ghost use Rattle.std.specs.Prelude.{◌≡◌, ◌≤◌, ◌+◌, ◌%◌, ◌↔◌, ℕ, IsTrue, IfOk, IfErr, OnOk, List, length};
 ghost use Rattle.std.specs.List.{All};
 ghost use Rattle.std.specs.Result.{IsErrOf};
 ghost use Rattle.fact_model.specs.declared.fact.Fact as facts;
@@ -8,6 +8,7 @@ ghost use Rattle.site_core.specs.Causes.{HasCauseWhere};
 ghost use Rattle.site_core.specs.Frames.{Looks, LooksOnly};
 ghost use Rattle.forest_pages.specs.Forest.{body_counts};
 ghost use Rattle.forest_store.specs.Stored.{IsStoreOf};
+ghost use Rattle.page_cache.specs.Keeping.{Agrees, HasRoom, Keeps, LiesIn, unkept};
 ghost use Rattle.slice_lang.specs.Agreeing.{SliceAgrees};
 ghost use Rattle.view_route.specs.Routes.{IsCovering, IsRoute};
 ghost use Rattle.view_rows.specs.Grouped.{HasForm};
@@ -25,8 +26,8 @@ use view_route::route;
 use view_rows::{Groups, RowsStop, SliceRows};
 
 /// The rows of a slice: one for each group of the accepted facts that meet its conditions, ascending by key. They are made from the
-/// points of a covering view with fewest points, and of its tree only those pages are read whose boxes meet the conditions. Nothing is
-/// changed, also after an error.
+/// points of a covering view with fewest points, and of its tree only those pages are read whose boxes meet the conditions, and that are
+/// not kept. Nothing is changed in the files, also after an error; kept pages that are as a read gives them stay so.
 ///
 /// `NotCovered` comes exactly where no view has all grouped and bound attributes. `Damaged` names a page of the live side, or its
 /// offset 0 where a point has a coordinate without a value or cells do not join.
@@ -39,24 +40,43 @@ pub fn answer<'a, T: Site>(
 ) -> Result<SliceRows<'a>, AnswerStop>
     requires agrees { SliceAgrees store.now.forest.schema slice.now }
 
-    ensures rows { IsTrue T.tells → (accepted : List facts.Fact) → IsStoreOf store.now accepted (T.disk site.old).files
+    ensures rows { IsTrue T.tells → Agrees (T.disk site.old).files pages.old
+        → (accepted : List facts.Fact) → IsStoreOf store.now accepted (T.disk site.old).files
         → IfOk result (λ found. found ≡ rows accepted slice.now) }
-    ensures undamaged { IsTrue T.tells → (accepted : List facts.Fact) → IsStoreOf store.now accepted (T.disk site.old).files
+    ensures undamaged { IsTrue T.tells → Agrees (T.disk site.old).files pages.old
+        → (accepted : List facts.Fact) → IsStoreOf store.now accepted (T.disk site.old).files
         → IfErr result IsNoDamage }
     ensures uncovered { IsErrOf result AnswerStop.NotCovered ↔ IsUncovered store.now.forest.schema slice.now }
-    ensures visits { IsTrue T.tells → (view : ℕ) → IsRoute store.now.forest.schema.views store.now.forest.body.counts slice.now view
+    ensures visits { IsTrue T.tells → Agrees (T.disk site.old).files pages.old
+        → (view : ℕ) → IsRoute store.now.forest.schema.views store.now.forest.body.counts slice.now view
         → T.reads site.new ≤ T.reads site.old + length (visits_of store.now slice.now view (T.disk site.old).files) }
-    ensures cost { IsTrue T.tells → (accepted : List facts.Fact) → IsStoreOf store.now accepted (T.disk site.old).files
+    ensures cost { IsTrue T.tells → Agrees (T.disk site.old).files pages.old
+        → (accepted : List facts.Fact) → IsStoreOf store.now accepted (T.disk site.old).files
         → (view : ℕ) → IsRoute store.now.forest.schema.views (body_counts store.now.forest.schema accepted) slice.now view
         → T.reads site.new ≤ T.reads site.old + length (visits_over store.now.forest.schema accepted slice.now view) }
 
+    // The kept pages.
+    ensures saves { IsTrue T.tells → Agrees (T.disk site.old).files pages.old
+        → (view : ℕ) → IsRoute store.now.forest.schema.views store.now.forest.body.counts slice.now view
+        → HasRoom pages.old (2 + store.now.forest.body.generation % 2) (visits_of store.now slice.now view (T.disk site.old).files)
+        → T.reads site.new ≤ T.reads site.old
+        + length (unkept pages.old (2 + store.now.forest.body.generation % 2) (visits_of store.now slice.now view (T.disk site.old).files)) }
+    ensures keeps { IsTrue T.tells → Agrees (T.disk site.old).files pages.old
+        → (view : ℕ) → IsRoute store.now.forest.schema.views store.now.forest.body.counts slice.now view
+        → HasRoom pages.old (2 + store.now.forest.body.generation % 2) (visits_of store.now slice.now view (T.disk site.old).files)
+        → OnOk result (Keeps pages.old pages.new (2 + store.now.forest.body.generation % 2) (visits_of store.now slice.now view (T.disk site.old).files)) }
+    ensures agrees { IsTrue T.tells → Agrees (T.disk site.old).files pages.old → Agrees (T.disk site.new).files pages.new }
+
     // Whatever the files hold.
-    ensures judged { IsTrue T.tells → (view : ℕ) → IsRoute store.now.forest.schema.views store.now.forest.body.counts slice.now view
+    ensures judged { IsTrue T.tells → Agrees (T.disk site.old).files pages.old
+        → (view : ℕ) → IsRoute store.now.forest.schema.views store.now.forest.body.counts slice.now view
         → IsJudged store.now slice.now view (T.disk site.old).files result }
     ensures untouched { IsErrOf result AnswerStop.NotCovered → site.new ≡ site.old }
     ensures form { IfOk result (All (HasForm store.now.dicts slice.now)) }
     ensures place { IfErr result (NamesSide store.now.forest.body) }
-    ensures cache { pages.new ≡ pages.old }
+    ensures unasked { IsErrOf result AnswerStop.NotCovered → pages.new ≡ pages.old }
+    ensures lies { LiesIn (2 + store.now.forest.body.generation % 2) pages.old → LiesIn (2 + store.now.forest.body.generation % 2) pages.new }
+    ensures capacity { pages.new.capacity ≡ pages.old.capacity }
     ensures looks { Looks T.Site (HasCauseWhere AnswerStop.Disk) site.old site.new result }
     ensures reads { (view : ℕ) → IsRoute store.now.forest.schema.views store.now.forest.body.counts slice.now view
         → T.reads site.new ≤ T.reads site.old + (tree_of_view store.now view).pages }
@@ -80,18 +100,32 @@ fn answer_from<'a, T: Site>(
     requires agrees { SliceAgrees store.now.forest.schema slice.now }
     requires covering { IsCovering store.now.forest.schema.views slice.now view }
 
-    ensures rows { IsTrue T.tells → (accepted : List facts.Fact) → IsStoreOf store.now accepted (T.disk site.old).files
+    ensures rows { IsTrue T.tells → Agrees (T.disk site.old).files pages.old
+        → (accepted : List facts.Fact) → IsStoreOf store.now accepted (T.disk site.old).files
         → IfOk result (λ found. found ≡ rows accepted slice.now) }
-    ensures undamaged { IsTrue T.tells → (accepted : List facts.Fact) → IsStoreOf store.now accepted (T.disk site.old).files
+    ensures undamaged { IsTrue T.tells → Agrees (T.disk site.old).files pages.old
+        → (accepted : List facts.Fact) → IsStoreOf store.now accepted (T.disk site.old).files
         → IfErr result IsNoDamage }
-    ensures visits { IsTrue T.tells → T.reads site.new ≤ T.reads site.old + length (visits_of store.now slice.now view (T.disk site.old).files) }
+    ensures visits { IsTrue T.tells → Agrees (T.disk site.old).files pages.old
+        → T.reads site.new ≤ T.reads site.old + length (visits_of store.now slice.now view (T.disk site.old).files) }
+
+    // The kept pages.
+    ensures saves { IsTrue T.tells → Agrees (T.disk site.old).files pages.old
+        → HasRoom pages.old (2 + store.now.forest.body.generation % 2) (visits_of store.now slice.now view (T.disk site.old).files)
+        → T.reads site.new ≤ T.reads site.old
+        + length (unkept pages.old (2 + store.now.forest.body.generation % 2) (visits_of store.now slice.now view (T.disk site.old).files)) }
+    ensures keeps { IsTrue T.tells → Agrees (T.disk site.old).files pages.old
+        → HasRoom pages.old (2 + store.now.forest.body.generation % 2) (visits_of store.now slice.now view (T.disk site.old).files)
+        → OnOk result (Keeps pages.old pages.new (2 + store.now.forest.body.generation % 2) (visits_of store.now slice.now view (T.disk site.old).files)) }
+    ensures agrees { IsTrue T.tells → Agrees (T.disk site.old).files pages.old → Agrees (T.disk site.new).files pages.new }
 
     // Whatever the files hold.
-    ensures judged { IsTrue T.tells → IsJudged store.now slice.now view (T.disk site.old).files result }
+    ensures judged { IsTrue T.tells → Agrees (T.disk site.old).files pages.old → IsJudged store.now slice.now view (T.disk site.old).files result }
     ensures form { IfOk result (All (HasForm store.now.dicts slice.now)) }
     ensures place { IfErr result (NamesSide store.now.forest.body) }
     ensures covered { IsErrOf result AnswerStop.NotCovered → ⊥ }
-    ensures cache { pages.new ≡ pages.old }
+    ensures lies { LiesIn (2 + store.now.forest.body.generation % 2) pages.old → LiesIn (2 + store.now.forest.body.generation % 2) pages.new }
+    ensures capacity { pages.new.capacity ≡ pages.old.capacity }
     ensures looks { LooksOnly T.Site (HasCauseWhere AnswerStop.Disk) ((tree_of_view store.now view).pages) site.old site.new result }
 {
     let attrs = store.forest.schema.views.as_slice()[view as usize].as_slice();

@@ -62,7 +62,7 @@ impl<'a> SliceRows<'a> {
         self.points.len()
     }
 
-    /// Writes the rows, where no row has begun. It takes no memory but the writer's.
+    /// Writes the rows, where no row has begun. Want of memory alone makes it fail, and the writer is then as a new one.
     pub fn push_to(&self, writer: &mut RowWriter) -> Result<(), Memory>
         requires { writer.old.fields ≡ [] }
         ensures pushed { OnOk result (writer.new ≡ with_rows writer.old (map row_fields self.now)) }

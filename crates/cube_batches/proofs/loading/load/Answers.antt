@@ -1,4 +1,6 @@
-use Rattle.std.proofs.Common.{◌≡◌, subst}
+use Rattle.std.proofs.Common.{◌≡◌, IfOk, Option, subst, sym}
+use Rattle.forest_root.specs.declared.body.Body.{Body}
+use Rattle.cube_state.specs.Cached.{kept_over, live_of}
 use Rattle.cube_state.specs.Moves.{moves_made}
 use Rattle.cube_batches.specs.declared.taking.Taken.{Taken}
 use Rattle.cube_batches.proofs.Costs.{begun_spends, load_asks, moved_as, none_made, taken_idle}
@@ -6,6 +8,7 @@ use Rattle.plain_machine.specs.Machine.{committed, load}
 use Rattle.plain_machine.specs.World.{begun_with}
 use Rattle.cube_batches.specs.Taking.{IsTaken, Takes, Touches, state_of}
 use Rattle.cube_batches.proofs.Gives.{load_gives}
+use Rattle.cube_batches.proofs.Kept.{fits_as, taken_live, taken_stays}
 use Rattle.cube_batches.proofs.Takings.{between_then, load_moments}
 use Rattle.cube_batches.proofs.Told.{load_tells}
 use Rattle.cube_batches.proofs.loading.load.Goals as goal
@@ -60,3 +63,24 @@ returns-in-Begun-clause-cost g c = λ t world stands.
 pub returns-in-Begun-clause-moved : goal.returns-in-Begun-clause-moved
 returns-in-Begun-clause-moved g c =
     moved_as c.finish.result c.finish.ensures.moved (taken_idle c.args.state c.args.source c.in-Begun.state (subst (Takes c.args.state c.args.source) c.in-Begun.is c.in_ok-done.ensures.takes))
+
+-- ---- what is kept
+
+pub returns-in-Refused-clause-fits : goal.returns-in-Refused-clause-fits
+returns-in-Refused-clause-fits g c = λ t.
+    let live = live_of c.args.state in
+    let touches = c.in_ok-done.ensures.touches in
+    fits_as live _ (g.T.Site.disk c.args.site.now).files (g.T.Site.disk c.take_in.new.site).files c.args.pages.now (taken_live c.args.state _ _ c.in-Refused.is c.in_ok-done.ensures.live)
+    (taken_stays g.T.Site c.args.site.now c.take_in.new.site t live _ touches) (c.requires.fits t)
+
+pub finish-requires-clause-fits : goal.finish-requires-clause-fits
+finish-requires-clause-fits g c = λ t.
+    let live = live_of c.args.state in
+    let touches = c.in_ok-done.ensures.touches in
+    fits_as live (live_of c.in-Begun.state) (g.T.Site.disk c.args.site.now).files (g.T.Site.disk c.take_in.new.site).files c.args.pages.now
+    (taken_live c.args.state _ _ c.in-Begun.is c.in_ok-done.ensures.live) (taken_stays g.T.Site c.args.site.now c.take_in.new.site t live _ touches) (c.requires.fits t)
+
+pub returns-in-Begun-clause-cache : goal.returns-in-Begun-clause-cache
+returns-in-Begun-clause-cache g c =
+    subst (λ (live : Option Body). IfOk c.finish.result (λ done. c.finish.new.pages ≡ kept_over live (live_of done.state) c.args.pages.now))
+    (taken_live c.args.state _ _ c.in-Begun.is c.in_ok-done.ensures.live) c.finish.ensures.cache

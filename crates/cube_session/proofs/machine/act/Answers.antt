@@ -2,17 +2,22 @@ use Rattle.std.proofs.Common.{◌≡◌, ◌∙◌, ℕ, List, IfErr, IfOk, refl
 use Rattle.script_lang.specs.declared.command.Command.{Command}
 use Rattle.plain_machine.specs.Machine.{Answer, abandon, act, slice}
 use Rattle.plain_machine.proofs.Acts.{act_abandon, act_begin, act_finish, act_generate, act_load, act_long_line, act_open_block, act_schema, act_slice, act_status, act_step, act_unknown}
+use Rattle.page_cache.specs.Giving.{Cache}
+use Rattle.cube_state.specs.Cached.{kept_over, live_of}
 use Rattle.cube_state.specs.Moves.{made_behind, moves_made}
 use Rattle.cube_state.specs.Session.{abandon_text, state_text}
 use Rattle.cube_state.proofs.Answering.{answers_as, between_as, quiet, stood}
+use Rattle.cube_state.proofs.Cached.{generation_kept, holds, live_as, live_fits, live_kept}
 use Rattle.cube_state.proofs.Costs.{spends_none}
 use Rattle.cube_slices.specs.Costs.{Costs as ReadsFor}
 use Rattle.cube_slices.specs.Gives.{SliceGives}
 use Rattle.cube_slices.specs.Sliced.{SliceTells}
+use Rattle.cube_slices.specs.Visits.{Visits, is_answered}
 use Rattle.cube_batches.specs.Costs.{begins}
 use Rattle.cube_session.specs.Costs.{AsksNoMove, Costs}
 use Rattle.cube_session.specs.Gives.{Gives}
 use Rattle.cube_session.specs.Told.{TellsDamage}
+use Rattle.cube_session.specs.Visits.{GoesTo, asks_pages}
 use Rattle.cube_session.proofs.Known.{abandon_known, costs_as, same_moves, status_known, told_only}
 use Rattle.cube_session.proofs.Told.{memory_tells}
 use Rattle.cube_session.proofs.machine.act.Goals as goal
@@ -342,3 +347,163 @@ returns-in-Slice-clause-cost g c = λ t world cost is costs.
       reads = c.slice.ensures.cost t world cost.reads is (subst (λ (text : List ℕ). ReadsFor world text cost.reads) (sym c.as_bytes.ensures) own.0);
       writes = omega (arith, c.slice.ensures.looks.writes);
     }
+
+-- ---- what is kept
+
+pub returns-in-Schema-clause-saves : goal.returns-in-Schema-clause-saves
+returns-in-Schema-clause-saves g c = λ t world numbers is goes. absurd (subst (λ (k : Command). GoesTo world k numbers) c.in-Schema.is goes)
+
+pub returns-in-Schema-clause-keeps : goal.returns-in-Schema-clause-keeps
+returns-in-Schema-clause-keeps g c = λ t world numbers is goes. absurd (subst (λ (k : Command). GoesTo world k numbers) c.in-Schema.is goes)
+
+pub returns-in-Schema-clause-fits : goal.returns-in-Schema-clause-fits
+returns-in-Schema-clause-fits g c = λ t. c.declare.ensures.fits t c.args.pages.now (c.requires.fits t)
+
+pub returns-in-Schema-clause-cache : goal.returns-in-Schema-clause-cache
+returns-in-Schema-clause-cache g c = λ no. generation_kept c.declare.result (live_of c.args.state) c.args.pages.now c.declare.ensures.live
+
+pub returns-in-Load-clause-saves : goal.returns-in-Load-clause-saves
+returns-in-Load-clause-saves g c = λ t world numbers is goes. absurd (subst (λ (k : Command). GoesTo world k numbers) c.in-Load.is goes)
+
+pub returns-in-Load-clause-keeps : goal.returns-in-Load-clause-keeps
+returns-in-Load-clause-keeps g c = λ t world numbers is goes. absurd (subst (λ (k : Command). GoesTo world k numbers) c.in-Load.is goes)
+
+pub returns-in-Load-clause-fits : goal.returns-in-Load-clause-fits
+returns-in-Load-clause-fits g c = λ t. c.load.ensures.fits t
+
+pub returns-in-Load-clause-cache : goal.returns-in-Load-clause-cache
+returns-in-Load-clause-cache g c = λ no. c.load.ensures.cache
+
+pub returns-in-Generate-clause-saves : goal.returns-in-Generate-clause-saves
+returns-in-Generate-clause-saves g c = λ t world numbers is goes. absurd (subst (λ (k : Command). GoesTo world k numbers) c.in-Generate.is goes)
+
+pub returns-in-Generate-clause-keeps : goal.returns-in-Generate-clause-keeps
+returns-in-Generate-clause-keeps g c = λ t world numbers is goes. absurd (subst (λ (k : Command). GoesTo world k numbers) c.in-Generate.is goes)
+
+pub returns-in-Generate-clause-fits : goal.returns-in-Generate-clause-fits
+returns-in-Generate-clause-fits g c = λ t. c.load-in-Generate.ensures.fits t
+
+pub returns-in-Generate-clause-cache : goal.returns-in-Generate-clause-cache
+returns-in-Generate-clause-cache g c = λ no. c.load-in-Generate.ensures.cache
+
+pub returns-in-Slice-clause-fits : goal.returns-in-Slice-clause-fits
+returns-in-Slice-clause-fits g c = λ t.
+    live_fits c.slice.result (live_of c.args.state) (g.T.Site.disk c.slice.new.site).files (g.T.Site.disk c.slice.new.site).files c.slice.new.pages (live_as c.slice.result (live_of c.args.state) c.args.state c.slice.ensures.state refl) (holds c.slice.result refl) (c.slice.ensures.fits t)
+
+pub returns-in-Slice-clause-cache : goal.returns-in-Slice-clause-cache
+returns-in-Slice-clause-cache g c = λ no.
+    let live = live_of c.args.state in
+    let same = c.slice.ensures.unasked (ap (is_answered c.args.state) c.as_bytes.ensures ∙ (sym (ap (asks_pages c.args.state) c.in-Slice.is) ∙ no)) in
+    subst (λ (pages : Cache). IfOk c.slice.result (λ done. pages ≡ kept_over live (live_of done.state) c.args.pages.now)) (sym same)
+    (live_kept c.slice.result live c.args.pages.now (live_as c.slice.result live c.args.state c.slice.ensures.state refl))
+
+pub returns-in-Status-clause-saves : goal.returns-in-Status-clause-saves
+returns-in-Status-clause-saves g c = λ t world numbers is goes. absurd (subst (λ (k : Command). GoesTo world k numbers) c.in-Status.is goes)
+
+pub returns-in-Status-clause-keeps : goal.returns-in-Status-clause-keeps
+returns-in-Status-clause-keeps g c = λ t world numbers is goes. absurd (subst (λ (k : Command). GoesTo world k numbers) c.in-Status.is goes)
+
+pub returns-in-Status-clause-fits : goal.returns-in-Status-clause-fits
+returns-in-Status-clause-fits g c = λ t.
+    live_fits c.status.result (live_of c.args.state) (g.T.Site.disk c.args.site.now).files (g.T.Site.disk c.args.site.now).files c.args.pages.now (live_as c.status.result (live_of c.args.state) c.args.state c.status.ensures.state refl) (holds c.status.result refl) (c.requires.fits t)
+
+pub returns-in-Status-clause-cache : goal.returns-in-Status-clause-cache
+returns-in-Status-clause-cache g c = λ no. live_kept c.status.result (live_of c.args.state) c.args.pages.now (live_as c.status.result (live_of c.args.state) c.args.state c.status.ensures.state refl)
+
+pub returns-in-Begin-clause-saves : goal.returns-in-Begin-clause-saves
+returns-in-Begin-clause-saves g c = λ t world numbers is goes. absurd (subst (λ (k : Command). GoesTo world k numbers) c.in-Begin.is goes)
+
+pub returns-in-Begin-clause-keeps : goal.returns-in-Begin-clause-keeps
+returns-in-Begin-clause-keeps g c = λ t world numbers is goes. absurd (subst (λ (k : Command). GoesTo world k numbers) c.in-Begin.is goes)
+
+pub returns-in-Begin-clause-fits : goal.returns-in-Begin-clause-fits
+returns-in-Begin-clause-fits g c = λ t.
+    live_fits c.begin.result (live_of c.args.state) (g.T.Site.disk c.args.site.now).files (g.T.Site.disk c.begin.new.site).files c.args.pages.now c.begin.ensures.live (c.begin.ensures.side t) (c.requires.fits t)
+
+pub returns-in-Begin-clause-cache : goal.returns-in-Begin-clause-cache
+returns-in-Begin-clause-cache g c = λ no. live_kept c.begin.result (live_of c.args.state) c.args.pages.now c.begin.ensures.live
+
+pub returns-in-Step-clause-saves : goal.returns-in-Step-clause-saves
+returns-in-Step-clause-saves g c = λ t world numbers is goes. absurd (subst (λ (k : Command). GoesTo world k numbers) c.in-Step.is goes)
+
+pub returns-in-Step-clause-keeps : goal.returns-in-Step-clause-keeps
+returns-in-Step-clause-keeps g c = λ t world numbers is goes. absurd (subst (λ (k : Command). GoesTo world k numbers) c.in-Step.is goes)
+
+pub returns-in-Step-clause-fits : goal.returns-in-Step-clause-fits
+returns-in-Step-clause-fits g c = λ t.
+    live_fits c.step.result (live_of c.args.state) (g.T.Site.disk c.args.site.now).files (g.T.Site.disk c.step.new.site).files c.args.pages.now c.step.ensures.live (holds c.step.result (c.step.ensures.side t)) (c.requires.fits t)
+
+pub returns-in-Step-clause-cache : goal.returns-in-Step-clause-cache
+returns-in-Step-clause-cache g c = λ no. live_kept c.step.result (live_of c.args.state) c.args.pages.now c.step.ensures.live
+
+pub returns-in-Finish-clause-saves : goal.returns-in-Finish-clause-saves
+returns-in-Finish-clause-saves g c = λ t world numbers is goes. absurd (subst (λ (k : Command). GoesTo world k numbers) c.in-Finish.is goes)
+
+pub returns-in-Finish-clause-keeps : goal.returns-in-Finish-clause-keeps
+returns-in-Finish-clause-keeps g c = λ t world numbers is goes. absurd (subst (λ (k : Command). GoesTo world k numbers) c.in-Finish.is goes)
+
+pub returns-in-Finish-clause-fits : goal.returns-in-Finish-clause-fits
+returns-in-Finish-clause-fits g c = λ t. c.finish.ensures.fits t
+
+pub returns-in-Finish-clause-cache : goal.returns-in-Finish-clause-cache
+returns-in-Finish-clause-cache g c = λ no. c.finish.ensures.cache
+
+pub returns-in-Abandon-clause-saves : goal.returns-in-Abandon-clause-saves
+returns-in-Abandon-clause-saves g c = λ t world numbers is goes. absurd (subst (λ (k : Command). GoesTo world k numbers) c.in-Abandon.is goes)
+
+pub returns-in-Abandon-clause-keeps : goal.returns-in-Abandon-clause-keeps
+returns-in-Abandon-clause-keeps g c = λ t world numbers is goes. absurd (subst (λ (k : Command). GoesTo world k numbers) c.in-Abandon.is goes)
+
+pub returns-in-Abandon-clause-fits : goal.returns-in-Abandon-clause-fits
+returns-in-Abandon-clause-fits g c = λ t.
+    live_fits c.abandon.result (live_of c.args.state) (g.T.Site.disk c.args.site.now).files (g.T.Site.disk c.args.site.now).files c.args.pages.now c.abandon.ensures.live (holds c.abandon.result refl) (c.requires.fits t)
+
+pub returns-in-Abandon-clause-cache : goal.returns-in-Abandon-clause-cache
+returns-in-Abandon-clause-cache g c = λ no. live_kept c.abandon.result (live_of c.args.state) c.args.pages.now c.abandon.ensures.live
+
+pub returns-in-LongLine-clause-saves : goal.returns-in-LongLine-clause-saves
+returns-in-LongLine-clause-saves g c = λ t world numbers is goes. absurd (subst (λ (k : Command). GoesTo world k numbers) c.in-LongLine.is goes)
+
+pub returns-in-LongLine-clause-keeps : goal.returns-in-LongLine-clause-keeps
+returns-in-LongLine-clause-keeps g c = λ t world numbers is goes. absurd (subst (λ (k : Command). GoesTo world k numbers) c.in-LongLine.is goes)
+
+pub returns-in-LongLine-clause-fits : goal.returns-in-LongLine-clause-fits
+returns-in-LongLine-clause-fits g c = λ t.
+    live_fits c.plain.result (live_of c.args.state) (g.T.Site.disk c.args.site.now).files (g.T.Site.disk c.args.site.now).files c.args.pages.now (live_as c.plain.result (live_of c.args.state) c.args.state c.plain.ensures.state refl) (holds c.plain.result refl) (c.requires.fits t)
+
+pub returns-in-LongLine-clause-cache : goal.returns-in-LongLine-clause-cache
+returns-in-LongLine-clause-cache g c = λ no. live_kept c.plain.result (live_of c.args.state) c.args.pages.now (live_as c.plain.result (live_of c.args.state) c.args.state c.plain.ensures.state refl)
+
+pub returns-in-OpenBlock-clause-saves : goal.returns-in-OpenBlock-clause-saves
+returns-in-OpenBlock-clause-saves g c = λ t world numbers is goes. absurd (subst (λ (k : Command). GoesTo world k numbers) c.in-OpenBlock.is goes)
+
+pub returns-in-OpenBlock-clause-keeps : goal.returns-in-OpenBlock-clause-keeps
+returns-in-OpenBlock-clause-keeps g c = λ t world numbers is goes. absurd (subst (λ (k : Command). GoesTo world k numbers) c.in-OpenBlock.is goes)
+
+pub returns-in-OpenBlock-clause-fits : goal.returns-in-OpenBlock-clause-fits
+returns-in-OpenBlock-clause-fits g c = λ t.
+    live_fits c.plain-in-OpenBlock.result (live_of c.args.state) (g.T.Site.disk c.args.site.now).files (g.T.Site.disk c.args.site.now).files c.args.pages.now (live_as c.plain-in-OpenBlock.result (live_of c.args.state) c.args.state c.plain-in-OpenBlock.ensures.state refl) (holds c.plain-in-OpenBlock.result refl) (c.requires.fits t)
+
+pub returns-in-OpenBlock-clause-cache : goal.returns-in-OpenBlock-clause-cache
+returns-in-OpenBlock-clause-cache g c = λ no. live_kept c.plain-in-OpenBlock.result (live_of c.args.state) c.args.pages.now (live_as c.plain-in-OpenBlock.result (live_of c.args.state) c.args.state c.plain-in-OpenBlock.ensures.state refl)
+
+pub returns-in-Unknown-clause-saves : goal.returns-in-Unknown-clause-saves
+returns-in-Unknown-clause-saves g c = λ t world numbers is goes. absurd (subst (λ (k : Command). GoesTo world k numbers) c.in-Unknown.is goes)
+
+pub returns-in-Unknown-clause-keeps : goal.returns-in-Unknown-clause-keeps
+returns-in-Unknown-clause-keeps g c = λ t world numbers is goes. absurd (subst (λ (k : Command). GoesTo world k numbers) c.in-Unknown.is goes)
+
+pub returns-in-Unknown-clause-fits : goal.returns-in-Unknown-clause-fits
+returns-in-Unknown-clause-fits g c = λ t.
+    live_fits c.plain-in-Unknown.result (live_of c.args.state) (g.T.Site.disk c.args.site.now).files (g.T.Site.disk c.args.site.now).files c.args.pages.now (live_as c.plain-in-Unknown.result (live_of c.args.state) c.args.state c.plain-in-Unknown.ensures.state refl) (holds c.plain-in-Unknown.result refl) (c.requires.fits t)
+
+pub returns-in-Unknown-clause-cache : goal.returns-in-Unknown-clause-cache
+returns-in-Unknown-clause-cache g c = λ no. live_kept c.plain-in-Unknown.result (live_of c.args.state) c.args.pages.now (live_as c.plain-in-Unknown.result (live_of c.args.state) c.args.state c.plain-in-Unknown.ensures.state refl)
+
+pub returns-in-Slice-clause-saves : goal.returns-in-Slice-clause-saves
+returns-in-Slice-clause-saves g c = λ t world numbers is goes.
+    c.slice.ensures.saves t world numbers is (subst (λ (text : List ℕ). Visits world text numbers) (sym c.as_bytes.ensures) (subst (λ (k : Command). GoesTo world k numbers) c.in-Slice.is goes))
+
+pub returns-in-Slice-clause-keeps : goal.returns-in-Slice-clause-keeps
+returns-in-Slice-clause-keeps g c = λ t world numbers is goes.
+    c.slice.ensures.keeps t world numbers is (subst (λ (text : List ℕ). Visits world text numbers) (sym c.as_bytes.ensures) (subst (λ (k : Command). GoesTo world k numbers) c.in-Slice.is goes))

@@ -46,7 +46,7 @@ loop-command-preserved g c = record {
       (c.in_ok-command-2.ensures.moved t o.now o.stands) (λ one costs. c.command.ensures.cost t o.now one o.stands costs);
   replied = λ t more.
       let rest = to_come c.next_command.new.self more in
-      one_replied _ _ _ _ c.in-Some.command rest _ g.T.Site c.loop-command.site c.loop-command.session.state (g.T.Site.disk c.loop-command.site).files
+      one_replied _ _ _ _ c.in-Some.command rest _ g.T.Site c.loop-command.site c.loop-command.session.state c.loop-command.session.pages (g.T.Site.disk c.loop-command.site).files
       (c.loop-command.invariant.replied t more)
       (c.in_ok-command.ensures.given more ∙ ap (λ (o : Option Command). option_to_list o ++ rest) c.in-Some.is)
       c.loop-command.invariant.runs (c.in_ok-command-2.ensures.answered t);

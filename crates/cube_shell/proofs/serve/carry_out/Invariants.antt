@@ -11,7 +11,7 @@ use Rattle.cube_shell.proofs.serve.carry_out.Given as goal
 -- some commands were carried out, and the others are still to come, whatever is fed
 abbrev pub invariant-loop-command : goal.invariant-loop-command
 invariant-loop-command g l = record {
-  runs : Runs g.T.Site l.site l.session.state;
+  runs : Runs g.T.Site l.site l.session.state l.session.pages;
   over : l.lines.over ≡ l.fn.lines.over;
   nothing : ready l.fn.lines ≡ [] → ready l.lines ≡ [];
   onward : IsTrue g.T.Site.tells → (world : World) (more : List ℕ) → StandsFor l.fn.session.state (g.T.Site.disk l.fn.site) world

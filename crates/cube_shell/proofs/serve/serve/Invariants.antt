@@ -12,7 +12,7 @@ use Rattle.cube_shell.proofs.serve.serve.Given as goal
 -- so many bytes were taken, and with those that are left in the source the other commands are still to come
 abbrev pub invariant-loop-lines : goal.invariant-loop-lines
 invariant-loop-lines g l = record {
-  runs : Runs g.T.Site l.site l.session.state;
+  runs : Runs g.T.Site l.site l.session.state l.session.pages;
   over : l.lines.over ≡ false;
   read : l.lines.rest ≡ [];
   start : l.taken ≡ 0 → l.lines ≡ nothing_read;

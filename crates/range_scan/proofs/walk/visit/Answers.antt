@@ -1,40 +1,37 @@
-use Rattle.std.proofs.Common.{rules, ◌≡◌, ◌++◌, sym, ◌∙◌, subst}
-use Rattle.std.proofs.lemmas.Bool.{true≢false}
-use Rattle.page_fmt.specs.declared.page.Node.TheVariants as nodes
-use Rattle.range_scan.proofs.Visiting.{inner-hits, inner-unsound, inner-visited, leaf-hits, leaf-visited}
+use Rattle.std.proofs.Common.{◌≤◌, ◌+◌, ◌∙◌, OnOk, length, sym, subst, [], ◌∷◌}
+use Rattle.site_core.specs.Disk.{Files}
+use Rattle.page_cache.specs.Giving.{Cache}
+use Rattle.page_cache.specs.Keeping.{Agrees, HasRoom, Keeps, LiesIn, unkept}
+use Rattle.page_cache.proofs.Keeping.{after-agrees, after-grows, after-keeps, after-lies, ends-after}
+use Rattle.range_scan.proofs.Kept.{kept-of}
 use Rattle.range_scan.proofs.walk.visit.Goals as goal
 
-pub returns-then-not-branch-clause-stop : goal.returns-then-not-branch-clause-stop
-returns-then-not-branch-clause-stop g c = λ tells.
-    let node : c.in-Ok-take_page.head.node ≡ nodes.Inner = search rules in
-    inner-unsound c.args.query.now.tree.now ((g.T.Site.disk c.args.site.now).files c.args.query.now.tree.now.file) c.args.number c.in-Ok.page.now (c.in-Ok.ensures.page tells) c.in-Ok-take_page.head c.in-Ok-take_page.ensures.exact node
-    (λ all. true≢false (sym (c.in_ok-take_children.ensures.within.1 all) ∙ c.if-not-branch.true))
+pub returns-in-Ok-clause-grows : goal.returns-in-Ok-clause-grows
+returns-in-Ok-clause-grows g c =
+    let file = c.args.query.now.tree.now.file in
+    let old = c.args.pages.now in
+    let is = ends-after old c.page.follows.lender-at-none (file, c.args.number) c.page.result c.in-Ok.page c.page.follows.holds-at-none c.in-Ok.is in
+    subst (λ (now : Cache). length now.kept ≤ length old.kept + length (unkept old file (c.args.number ∷ []))) (sym is) (after-grows old file c.args.number c.in-Ok.page.now)
 
-pub returns-in_ok-take_points-clause-visited : goal.returns-in_ok-take_points-clause-visited
-returns-in_ok-take_points-clause-visited g c = λ tells.
-    let node : c.in-Ok-take_page.head.node ≡ nodes.Leaf = search rules in
-    leaf-visited c.args.query.now.tree.now ((g.T.Site.disk c.args.site.now).files c.args.query.now.tree.now.file) c.args.number c.in-Ok.page.now (c.in-Ok.ensures.page tells) c.in-Ok-take_page.head c.in-Ok-take_page.ensures.exact node
-    c.args.query.now.region.now c.args.ahead.now.items
+pub returns-in-Ok-clause-keeps : goal.returns-in-Ok-clause-keeps
+returns-in-Ok-clause-keeps g c = λ room.
+    let file = c.args.query.now.tree.now.file in
+    let old = c.args.pages.now in
+    let is = ends-after old c.page.follows.lender-at-none (file, c.args.number) c.page.result c.in-Ok.page c.page.follows.holds-at-none c.in-Ok.is in
+    kept-of c.take_contents.result (subst (λ (now : Cache). Keeps old now file (c.args.number ∷ [])) (sym is) (after-keeps old file c.args.number c.in-Ok.page.now room))
 
-pub returns-in_ok-take_points-clause-gives : goal.returns-in_ok-take_points-clause-gives
-returns-in_ok-take_points-clause-gives g c = λ tells start es given.
-    let node : c.in-Ok-take_page.head.node ≡ nodes.Leaf = search rules in
-    subst (λ l. g.G.Taker.was_given start (es ++ l) c.take_points.new.taker)
-    (leaf-hits c.args.query.now.tree.now ((g.T.Site.disk c.args.site.now).files c.args.query.now.tree.now.file) c.args.number c.in-Ok.page.now (c.in-Ok.ensures.page tells) c.in-Ok-take_page.head c.in-Ok-take_page.ensures.exact node
-    c.args.query.now.region.now)
-    (c.in_ok-take_points.ensures start es given)
+pub returns-in-Ok-clause-lies : goal.returns-in-Ok-clause-lies
+returns-in-Ok-clause-lies g c = λ all.
+    let file = c.args.query.now.tree.now.file in
+    let old = c.args.pages.now in
+    let is = ends-after old c.page.follows.lender-at-none (file, c.args.number) c.page.result c.in-Ok.page c.page.follows.holds-at-none c.in-Ok.is in
+    subst (LiesIn file) (sym is) (after-lies file old c.args.number c.in-Ok.page.now all)
 
-pub returns-else-not-branch-clause-visited : goal.returns-else-not-branch-clause-visited
-returns-else-not-branch-clause-visited g c = λ tells.
-    let node : c.in-Ok-take_page.head.node ≡ nodes.Inner = search rules in
-    inner-visited c.args.query.now.tree.now ((g.T.Site.disk c.args.site.now).files c.args.query.now.tree.now.file) c.args.number c.in-Ok.page.now (c.in-Ok.ensures.page tells) c.in-Ok-take_page.head c.in-Ok-take_page.ensures.exact node
-    c.args.query.now.region.now c.args.ahead.now.items c.take_children.new.ahead.items
-    (c.in_ok-take_children.ensures.within.0 c.if-not-branch.false) (c.in_ok-take_children.ensures.goes_on c.if-not-branch.false)
-
-pub returns-else-not-branch-clause-gives : goal.returns-else-not-branch-clause-gives
-returns-else-not-branch-clause-gives g c = λ tells start es given.
-    let node : c.in-Ok-take_page.head.node ≡ nodes.Inner = search rules in
-    subst (λ l. g.G.Taker.was_given start l c.args.taker.now)
-    (inner-hits c.args.query.now.tree.now ((g.T.Site.disk c.args.site.now).files c.args.query.now.tree.now.file) c.args.number c.in-Ok.page.now (c.in-Ok.ensures.page tells) c.in-Ok-take_page.head c.in-Ok-take_page.ensures.exact node
-    c.args.query.now.region.now es)
-    given
+pub returns-in-Ok-clause-agrees : goal.returns-in-Ok-clause-agrees
+returns-in-Ok-clause-agrees g c = λ tells agree.
+    let file = c.args.query.now.tree.now.file in
+    let old = c.args.pages.now in
+    let files = (g.T.Site.disk c.args.site.now).files in
+    let is = ends-after old c.page.follows.lender-at-none (file, c.args.number) c.page.result c.in-Ok.page c.page.follows.holds-at-none c.in-Ok.is in
+    subst (λ (f : Files). Agrees f c.page.follows.lender-at-none) (sym (c.in-Ok.ensures.looks.disk tells).files)
+    (subst (Agrees files) (sym is) (after-agrees files old (file, c.args.number) c.in-Ok.page.now agree (c.in-Ok.ensures.page tells agree)))

@@ -1,7 +1,9 @@
 use Rattle.std.proofs.Common.{◌≡◌, ◌∙◌, ◌++◌, ℕ, List, Option, IfSome, ap, arith, rules, sym, subst}
+use Rattle.site_core.specs.Disk.{Files}
+use Rattle.cube_state.specs.Cached.{Fits}
 use Rattle.cube_state.specs.declared.state.State.{State}
 use Rattle.cube_state.specs.declared.stop.Stop.TheVariants as stops
-use Rattle.cube_state.proofs.Standing.{emits_left, stands_on}
+use Rattle.cube_state.proofs.Standing.{emits_left, fit_on, stands_on}
 use Rattle.cube_session.specs.Gives.{RepliesTo}
 use Rattle.cube_state.specs.Moves.{made_behind, moves_made}
 use Rattle.cube_session.specs.Costs.{Costs}
@@ -89,3 +91,16 @@ returns-in-Err-clause-cost g c = λ t world cost stands costs.
     let spent = c.act.ensures.cost t world cost (subst (λ (s : Option State). StandsFor s (g.T.Site.disk c.args.site.now) world) same stands)
     (subst (λ (s : Option State). Costs world (moves_for s) c.args.command cost) same costs) in
     record { reads = omega (arith, spent.reads, c.emit.ensures.reads); writes = omega (arith, spent.writes, c.emit.ensures.writes) }
+
+-- ---- the session goes on
+
+pub returns-in-Ok-clause-runs : goal.returns-in-Ok-clause-runs
+returns-in-Ok-clause-runs g c =
+    let state = c.in_ok-state.field-0.state in
+    record {
+      runs = record {
+        running = c.in_ok-state.ensures.runs.running;
+        fit = λ t. let emits = c.emit.ensures.disk t in fit_on _ _ emits.files (emits_left _ _ _ emits) state (c.in_ok-state.ensures.runs.fit t);
+      };
+      fits = λ t. subst (λ (files : Files). Fits state files c.act.new.pages) (sym (c.emit.ensures.disk t).files) (c.in_ok-state.ensures.fits t);
+    }

@@ -1,0 +1,36 @@
+use Rattle.std.proofs.Common.{◌≡◌, ◌+◌, ◌∙◌, List, ℕ, Some, IsTrue, refl, sym, subst, ap, rules, arith}
+use Rattle.std.specs.Map.{lookup}
+use Rattle.page_fmt.specs.InFiles.{IsPageOf}
+use Rattle.page_cache.specs.Giving.{Cache, Name, is_kept, same_name}
+use Rattle.page_cache.specs.Keeping.{Agrees}
+use Rattle.page_cache.specs.Slots.{cache_in}
+use Rattle.page_cache.proofs.Keeping.{after, one-read}
+use Rattle.page_cache.proofs.Slots.{lent-page, lent-same, lent-used}
+use Rattle.page_cache.proofs.cache.Pages.page.Goals as goal
+
+pub returns : goal.returns
+returns g c =
+    let name : Name = (c.args.file, c.args.number) in
+    let capacity = c.self.inside.capacity in
+    let old = c.self.inside.map in
+    let new = c.fetch.new.map in
+    let cache : Cache = c.args.self.now in
+    let files = (g.T.Site.disk c.args.site.now).files in
+    let given = c.in_ok-fetch.ensures.given in
+    let place = c.in-Some.page.now in
+    let untouched = λ (is : IsTrue (is_kept cache name)). c.in_ok-fetch.ensures.untouched (subst (λ (x : Cache). IsTrue (is_kept x name)) (sym c.self.view_is) is) in
+    let used = lent-used capacity name old new given place c.in-Some.ensures in (
+      (refl, (λ _. tt), used ∙ (ap (after (cache_in capacity old) name) (sym c.deref.ensures) ∙ ap (λ (x : Cache). after x name c.deref.result.now) c.self.view_is)),
+      record {
+        page = λ tells agree. subst (IsPageOf (files c.args.file) c.args.number) (sym c.deref.ensures)
+            (lent-page capacity name old new given place c.in-Some.ensures (files c.args.file)
+            (c.in_ok-fetch.ensures.page tells (subst (Agrees files) (sym c.self.view_is) agree)));
+        stop = λ _. tt;
+        list = tt;
+        same = λ page is. c.deref.ensures ∙ lent-same capacity name old new given place c.in-Some.ensures page (subst (λ (x : Cache). lookup (same_name name) x.kept ≡ Some page) (sym c.self.view_is) is);
+        given = λ _. refl;
+        reads = one-read cache c.args.file c.args.number (λ is. omega (arith, ap g.T.Site.reads (untouched is))) (omega (arith, c.in_ok-fetch.ensures.looks.reads));
+        untouched = untouched;
+        looks = search rules;
+      },
+    )
