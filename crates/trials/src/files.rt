@@ -6,6 +6,9 @@ use fact_model::{Memory, Text};
 use site_mem::MemorySite;
 use std::alloc::{AllocError, Global};
 
+/// The bytes of a page.
+pub const PAGE: u64 = 4096;
+
 /// Copies of four files.
 pub fn copies(alloc: Global, files: &[Text; 4]) -> Result<[Text; 4], Memory> {
     Ok([
@@ -33,6 +36,12 @@ pub fn with_file(
 /// Gives a file this length: cuts it off, or puts zeros behind it.
 pub fn set_length(bytes: &mut Vec<u8>, length: u64) -> Result<(), AllocError> {
     bytes.resize(length as usize, 0)
+}
+
+/// The page that begins at a place, as far as the file goes.
+pub fn page_of(bytes: &[u8], place: u64) -> &[u8] {
+    let rest = bytes.get(place as usize..).unwrap_or(&[]);
+    rest.get(..PAGE as usize).unwrap_or(rest)
 }
 
 /// Puts bytes at a place. What lies between the end and the place is zero.

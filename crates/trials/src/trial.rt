@@ -1,9 +1,10 @@
 //! The state of a trial, and its commands.
+ghost use Rattle.std.specs.Prelude.{◌<◌};
 
 use crate::block::{push_line, push_text};
 use crate::changed::{each_byte, each_place};
 use crate::each::{Kind, each, each_stop};
-use crate::files::{copies, put, set_length, with_file};
+use crate::files::{PAGE, copies, page_of, put, set_length, with_file};
 use crate::print::{push_lines, push_status};
 use crate::request::Request;
 use crate::scene::Scene;
@@ -124,6 +125,7 @@ impl Trial {
             "" => {}
             "look" => self.scene.look = block,
             "put" => self.put(words, &block)?,
+            "exchange" => self.exchange(words)?,
             "length" => self.set_length(words)?,
             "new" | "reopen" | "take" => self.restart(verb, words)?,
             "keep" => self.keep(words)?,
@@ -229,14 +231,33 @@ impl Trial {
 
     // `put FILE PLACE TEXT`, or a block in the place of the text.
     fn put(&mut self, mut words: Words<'_>, block: &[u8]) -> Result<(), Trouble> {
-        let Scene { alloc, site, .. } = &self.scene;
         let file = words.file()?;
         let place = words.number()?;
-        let mut given = Vec::new(*alloc);
+        let mut given = Vec::new(self.scene.alloc);
         push_text(&mut given, words.rest(), 0)?;
         given.extend_from_slice(block)?;
+        self.put_bytes(file, place, &given)
+    }
+
+    // `exchange FILE PAGE FILE PAGE`.
+    fn exchange(&mut self, mut words: Words<'_>) -> Result<(), Trouble> {
+        let Scene { alloc, site, .. } = &self.scene;
+        let first = words.file()?;
+        let at = words.number()?.saturating_mul(PAGE);
+        let second = words.file()?;
+        let to = words.number()?.saturating_mul(PAGE);
+        let one = Vec::from_slice(*alloc, page_of(site.file(first), at))?;
+        let other = Vec::from_slice(*alloc, page_of(site.file(second), to))?;
+        self.put_bytes(first, at, &other)?;
+        self.put_bytes(second, to, &one)
+    }
+
+    fn put_bytes(&mut self, file: u32, place: u64, given: &[u8]) -> Result<(), Trouble>
+        requires { file < 4 }
+    {
+        let Scene { alloc, site, .. } = &self.scene;
         let mut bytes = Vec::from_slice(*alloc, site.file(file))?;
-        put(&mut bytes, place, &given)?;
+        put(&mut bytes, place, given)?;
         let files = with_file(*alloc, site, file, bytes)?;
         self.begin_with(files)
     }
