@@ -1,3 +1,4 @@
+pub mod Between
 pub mod Boxes
 pub mod Downward
 pub mod Kept

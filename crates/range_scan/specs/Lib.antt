@@ -1,3 +1,4 @@
+pub mod Ends
 pub mod Meeting
 pub mod Packed
 pub mod Searching

@@ -8,14 +8,15 @@ ghost use Rattle.page_fmt.specs.declared.page.Child.{Child};
 ghost use Rattle.page_fmt.specs.InFiles.{IsPageOf};
 ghost use Rattle.page_fmt.specs.Lawful.{HasChildren, HasEntries};
 ghost use Rattle.page_fmt.specs.Taking.{children, entries, page_count};
-ghost use Rattle.page_fmt.specs.Writing.{IsShape};
+ghost use Rattle.page_fmt.specs.Writing.{AreEntries, IsShape};
 ghost use Rattle.range_scan.specs.Meeting.{is_inside};
 ghost use Rattle.range_scan.specs.Searching.{NamesPage};
 ghost use Rattle.range_scan.specs.Steps.{AreAhead, ExplainsStop, IsVisited};
 ghost use Rattle.range_scan.specs.Visits.{hits, met, page_of};
 
+use crate::ends::is_whole;
 use crate::walk::{Query, SearchStop};
-use cube_point::{inside, meets};
+use cube_point::{Shape, inside, meets};
 use fact_model::Memory;
 use page_fmt::{Node, PAGE, inner_entry, lent_entry, take_page};
 use point_taker::Taker;
@@ -55,9 +56,51 @@ pub(crate) fn take_contents<G: Taker>(
     Ok(())
 }
 
-/// Gives the points of a leaf that lie in the region to the taker. It stands apart, so that its loop has all registers.
-#[inline(never)]
+/// Gives the points of a leaf that lie in the region to the taker.
 fn take_points<G: Taker>(
+    page: &[u8; PAGE],
+    query: &Query<'_>,
+    count: u16,
+    taker: &mut G,
+) -> Result<(), Memory>
+    requires page { HasEntries query.now.tree.now.shape page.now }
+    requires said { count ≡ page_count page.now }
+    requires some { 0 < count }
+    requires count { count ≡ length (entries query.now.tree.now.shape.measures page.now) }
+    requires holds { AreEntries query.now.tree.now.shape (entries query.now.tree.now.shape.measures page.now) }
+
+    ensures { (start : G) (es : List points.Entry) → G.was_given start es taker.old → OnOk result (G.was_given start
+        (es ++ filter (is_inside query.now.region.now) (entries query.now.tree.now.shape.measures page.now)) taker.new) }
+{
+    if is_whole(page, &query.tree.shape, count, query.region) {
+        return take_all(page, &query.tree.shape, count, taker);
+    }
+    take_inside(page, query, count, taker)
+}
+
+/// Gives all points of a leaf to the taker.
+fn take_all<G: Taker>(
+    page: &[u8; PAGE],
+    shape: &Shape,
+    count: u16,
+    taker: &mut G,
+) -> Result<(), Memory>
+    requires page { HasEntries shape.now page.now }
+    requires said { count ≡ page_count page.now }
+    requires count { count ≡ length (entries shape.now.measures page.now) }
+
+    ensures { (start : G) (es : List points.Entry) → G.was_given start es taker.old
+        → OnOk result (G.was_given start (es ++ entries shape.now.measures page.now) taker.new) }
+{
+    for index in 0..count as usize {
+        taker.take(&lent_entry(page, shape, index))?;
+    }
+    Ok(())
+}
+
+/// Gives the points of a leaf that lie in the region to the taker, each tested. It stands apart, so that its loop has all registers.
+#[inline(never)]
+fn take_inside<G: Taker>(
     page: &[u8; PAGE],
     query: &Query<'_>,
     count: u16,

@@ -1,14 +1,14 @@
 use Rattle.std.specs.Prelude.{◌↔◌, IsTrue}
 use Rattle.cube_point.specs.Boxes.{IsInside}
 use Rattle.cube_point.specs.declared.point.Point.{Point}
-use Rattle.std.proofs.Common.{[], ◌∷◌, ◌++◌, ◌+◌, ◌<◌, ◌∙◌, List, filter, length, take, refl, subst, sym, arith}
+use Rattle.std.proofs.Common.{◌++◌, ◌+◌, ◌<◌, ◌∙◌, List, filter, length, take, refl, subst, sym, arith}
 use Rattle.cube_point.specs.declared.point.Entry.{Entry}
 use Rattle.page_fmt.specs.Taking.{entries}
 use Rattle.range_scan.specs.Meeting.{is_inside}
 use Rattle.range_scan.proofs.Lists.{keeps, skips}
 use Rattle.range_scan.proofs.Tests.{inside-is}
-use Rattle.range_scan.proofs.page.take_points.Goals as goal
-use Rattle.range_scan.proofs.page.take_points.Goals.{then-inside+in_ok-take, else-inside}
+use Rattle.range_scan.proofs.page.take_inside.Goals as goal
+use Rattle.range_scan.proofs.page.take_inside.Goals.{then-inside+in_ok-take, else-inside}
 
 pub loop-index-preserved : goal.loop-index-preserved
 loop-index-preserved g c = λ start es given.
