@@ -1,11 +1,11 @@
 -- The pages that are kept once several were asked for.
-use Rattle.std.proofs.Common.{◌≡◌, ◌≤◌, ◌+◌, ◌++◌, ◌⊎◌, inl, inr, ℕ, Bool, true, false, cond, not, List, [], ◌∷◌, length, length-append, filter, Bor, Result, Ok, MatchResult, is_some, IsTrue, refl, sym, ap, ◌∙◌, subst, arith}
-use Rattle.std.specs.List.{All}
-use Rattle.std.specs.Map.{lookup, remove_entry}
-use Rattle.std.proofs.lemmas.Bool.{both_ways, cases_Bool, cond-true, cond-false}
+use Rattle.std.proofs.Common.{◌≡◌, ◌≤◌, ◌+◌, ◌++◌, inl, inr, ℕ, true, false, cond, not, List, [], ◌∷◌, length, length-append, Result, Ok, MatchResult, IsTrue, refl, ap, ◌∙◌, subst, arith}
+use Rattle.std.specs.Map.{remove_entry}
+use Rattle.std.proofs.lemmas.Bool.{cases_Bool}
 use Rattle.std.proofs.lemmas.List.Elements.{All-cons, All-nil, All-push, All-weaker, filter-append}
 use Rattle.site_core.specs.Disk.{Files}
 use Rattle.page_fmt.specs.InFiles.{IsPageOf}
+use Rattle.page_cache.specs.declared.cache.Accepted.{Accepted}
 use Rattle.page_cache.specs.Giving.{Cache, Name, is_kept, same_name, used}
 use Rattle.page_cache.specs.Keeping.{Agrees, HasRoom, Keeps, LiesIn, unkept}
 use Rattle.page_cache.proofs.Used.{remove-none, remove-one, used-again, used-all, used-itself, used-more, used-others}
@@ -17,9 +17,9 @@ abbrev pub after : Cache → Name → List ℕ → Cache
 after cache name page = record { capacity = cache.capacity; kept = used cache.capacity name page cache.kept }
 
 -- where a page was given, the cache ends so
-pub ends-after : {E : Type 0} (old now : Cache) (name : Name) (result : Result (Bor (List ℕ)) E) (page : Bor (List ℕ))
-    → MatchResult result (λ given. now ≡ after old name given.now) (λ _. now ≡ old) → result ≡ Ok page → now ≡ after old name page.now
-ends-after old now name result page holds is = subst (λ r. MatchResult r (λ given. now ≡ after old name given.now) (λ _. now ≡ old)) is holds
+pub ends-after : {E : Type 0} (old now : Cache) (name : Name) (result : Result Accepted E) (page : Accepted)
+    → MatchResult result (λ given. now ≡ after old name given.bytes.now) (λ _. now ≡ old) → result ≡ Ok page → now ≡ after old name page.bytes.now
+ends-after old now name result page holds is = subst (λ r. MatchResult r (λ given. now ≡ after old name given.bytes.now) (λ _. now ≡ old)) is holds
 
 pub after-agrees : (files : Files) (cache : Cache) (name : Name) (page : List ℕ) → Agrees files cache → IsPageOf (files name.0) name.1 page → Agrees files (after cache name page)
 after-agrees files cache name page = used-all (λ (e : Name × List ℕ). IsPageOf (files e.0.0) e.0.1 e.1) cache.capacity name page cache.kept

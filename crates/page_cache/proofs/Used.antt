@@ -1,12 +1,12 @@
 -- What is kept once a page was used.
-use Rattle.std.proofs.Common.{◌≡◌, ◌≤◌, ◌+◌, ◌⊎◌, inl, inr, ℕ, zero, suc, Bool, true, false, cond, not, List, [], ◌∷◌, length, take, filter, Option, Some, None, is_some, IsTrue, refl, sym, ap, ◌∙◌, subst, arith, length-take, take_all}
-use Rattle.std.specs.Prelude.{◌==◌, ◌&&◌}
+use Rattle.std.proofs.Common.{◌≡◌, ◌≤◌, ◌+◌, inl, inr, ℕ, Bool, true, false, cond, List, [], ◌∷◌, length, Some, is_some, refl, sym, ap, ◌∙◌, subst, arith, length-take, take_all}
+use Rattle.std.specs.Prelude.{◌==◌}
 use Rattle.std.specs.Cmp.{IsEquivalence, nat_eq_equiv}
 use Rattle.std.specs.List.{All}
 use Rattle.std.specs.Map.{lookup, remove_entry}
 use Rattle.std.proofs.lemmas.Bool.{and_parts, both_ways, cases_Bool, cond-true, cond-false, eqb-true}
 use Rattle.std.proofs.lemmas.Cmp.{and_equiv, on_equiv}
-use Rattle.std.proofs.lemmas.List.Elements.{All-cons, All-head, All-nil, All-tail, All-take}
+use Rattle.std.proofs.lemmas.List.Elements.{All-cons, All-head, All-tail, All-take}
 use Rattle.page_cache.specs.Giving.{Name, same_name, used}
 
 -- ---- names

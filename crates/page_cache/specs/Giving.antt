@@ -1,7 +1,10 @@
 -- What a cache of pages keeps and gives.
-use Rattle.std.specs.Prelude.{◌==◌, ◌&&◌, ◌≡◌, ℕ, ◌+◌, ◌*◌, ◌<◌, ◌≤◌, Bool, List, ◌∷◌, length, take, is_some}
+use Rattle.std.specs.Prelude.{◌==◌, ◌&&◌, ◌≡◌, ℕ, ◌+◌, ◌*◌, ◌<◌, ◌≤◌, Bool, List, ◌∷◌, length, take, Some, is_some, IsOk}
 use Rattle.std.specs.Map.{lookup, remove_entry}
+use Rattle.cube_point.specs.declared.point.Shape.{Shape}
 use Rattle.page_fmt.specs.declared.page.TheConstants.{PAGE}
+use Rattle.page_fmt.specs.InFiles.{page_at}
+use Rattle.page_fmt.specs.Taking.{taken}
 use Rattle.page_cache.specs.declared.cache.CacheStop.{CacheStop}
 use Rattle.page_cache.specs.declared.cache.CacheStop.TheVariants as stops
 
@@ -30,4 +33,24 @@ used capacity name page kept = take capacity ((name, page) ∷ remove_entry (sam
 abbrev pub ExplainsStop : List ℕ → ℕ → CacheStop → Type 0
 ExplainsStop bytes number stops.Short = length bytes < PAGE * (number + 1)
 ExplainsStop bytes number stops.Memory = PAGE * (number + 1) ≤ length bytes
+ExplainsStop bytes number stops.Unlawful = Unit {0}
 ExplainsStop bytes number stops.Disk = Unit {0}
+
+-- the page is there, and breaks a rule of pages of this shape
+pub record IsBroken (shape : Shape) (bytes : List ℕ) (number : ℕ) : Type 0 where
+  pub whole : PAGE * (number + 1) ≤ length bytes
+  pub unlawful : IsOk (taken shape number (page_at bytes number)) → ⊥
+
+-- a page that is told to break a rule does so
+abbrev pub IsUnlawful : Shape → List ℕ → ℕ → CacheStop → Type 0
+IsUnlawful shape bytes number stops.Unlawful = IsBroken shape bytes number
+IsUnlawful shape bytes number stops.Short = Unit {0}
+IsUnlawful shape bytes number stops.Memory = Unit {0}
+IsUnlawful shape bytes number stops.Disk = Unit {0}
+
+-- a page that is kept is refused, as it is none of this shape
+pub record IsRefused (shape : Shape) (cache : Cache) (name : Name) (stop : CacheStop) : Type 0 where
+  pub page : List ℕ
+  pub kept : lookup (same_name name) cache.kept ≡ Some page
+  pub unlawful : IsOk (taken shape name.1 page) → ⊥
+  pub told : stop ≡ stops.Unlawful

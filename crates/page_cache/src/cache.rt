@@ -1,6 +1,6 @@
 //! The cache of pages: those last used, each lent from where it is kept.
 
-ghost use Rattle.std.specs.Prelude.{◌≡◌, ◌<◌, ◌≤◌, ◌+◌, ◌^◌, [], ◌∷◌, List, ℕ, IsTrue, IsFalse, IsOk, IsSome, IfOk, IfErr, IfSome, OnOk, OnErr, Some, length, max};
+ghost use Rattle.std.specs.Prelude.{◌≡◌, ◌<◌, ◌≤◌, ◌+◌, ◌^◌, [], ◌∷◌, List, ℕ, IsTrue, IsFalse, IsSome, IfOk, IfErr, IfSome, Ok, OnOk, OnErr, Some, is_some, length, max};
 ghost use Rattle.std.specs.Borrow.{sem};
 ghost use Rattle.std.specs.Map.{lookup};
 ghost use Rattle.std.specs.NonZero.{non_zero_usize_get};
@@ -8,13 +8,16 @@ ghost use Rattle.std.specs.Result.{IsErrOf};
 ghost use Rattle.site_core.specs.Causes.{HasCauseWhere};
 ghost use Rattle.site_core.specs.Frames.{LooksOnly};
 ghost use Rattle.page_fmt.specs.InFiles.{HasRead, IsPageOf};
-ghost use Rattle.page_cache.specs.Giving.{ExplainsStop, is_kept, same_name};
+ghost use Rattle.page_fmt.specs.Taking.{taken};
+ghost use Rattle.page_cache.specs.Giving.{ExplainsStop, IsRefused, IsUnlawful, is_kept, same_name};
 ghost use Rattle.page_cache.specs.Keeping.{Agrees, unkept};
-ghost use Rattle.page_cache.specs.Slots.{IsFound, IsGiven, cache_in};
+ghost use Rattle.page_cache.specs.Slots.{HasHead, IsFound, IsGiven, IsIn, cache_in};
 
+use crate::kept::Kept;
+use cube_point::Shape;
 use fact_model::Memory;
 use lru::LruCache;
-use page_fmt::PAGE;
+use page_fmt::{Head, PAGE, take_page};
 use site_core::{Fault, Site};
 use std::alloc::Global;
 use std::marker::Model;
@@ -28,15 +31,26 @@ pub enum CacheStop {
     Disk,
     /// The file ends before the page's end.
     Short,
+    /// The page breaks a rule of pages of this shape.
+    Unlawful,
     /// Want of memory.
     Memory,
+}
+
+/// A page that keeps the rules of pages, lent from where it is kept.
+#[derive(Clone, Copy)]
+pub struct Accepted<'a> {
+    /// Its bytes.
+    pub bytes: &'a [u8; PAGE],
+    /// Its head.
+    pub head: Head,
 }
 
 /// Pages of files, by file and number: those last used, up to the capacity.
 #[derive(Drop)]
 pub struct Pages {
     // The pages that are kept; where none may be, the page that was given last.
-    map: LruCache<(u32, u64), Box<[u8; PAGE]>>,
+    map: LruCache<(u32, u64), Kept>,
     // What the next page is read into.
     spare: Option<Box<[u8; PAGE]>>,
     capacity: u32,
@@ -73,43 +87,56 @@ impl Pages {
         }
     }
 
-    /// Gives a page as a read of its file gives it: without a read where it is kept, and with one read otherwise. It is then the one
-    /// last used, and kept unless the capacity is 0. After an error the kept pages are as before. Nothing is changed in the files, also
-    /// after an error.
+    /// Gives a page of a tree of this shape as a read of its file gives it: without a read where it is kept, and with one read otherwise.
+    /// It is then the one last used, and kept unless the capacity is 0. A kept page is tested only where it was accepted under another
+    /// shape. After an error the kept pages are as before. Nothing is changed in the files, also after an error.
     ///
-    /// A page that is kept is always given. `Short` comes exactly where the file ends before the page's end, unless the read fails.
+    /// A page that is kept is given, unless it is none of this shape. `Short` comes exactly where the file ends before the page's end,
+    /// and otherwise `Unlawful` where it breaks a rule of pages, unless the read fails.
     pub fn page<T: Site>(
         &mut self,
         site: &mut T,
+        shape: &Shape,
         file: u32,
         number: u64,
-    ) -> Result<&[u8; PAGE], CacheStop>
+    ) -> Result<Accepted<'_>, CacheStop>
+        requires dims { shape.now.dims ≤ 8 }
+        requires measures { shape.now.measures ≤ 4 }
         requires file { file < 4 }
         requires few { number < 2 ^ 50 }
 
         ensures page { IsTrue T.tells → Agrees (T.disk site.old).files self.old
-            → IfOk result (λ page. IsPageOf ((T.disk site.old).files file) number page.now) }
+            → IfOk result (λ page. IsPageOf ((T.disk site.old).files file) number page.bytes.now) }
+        ensures accepted { IfOk result (λ page. Ok page.head ≡ taken shape.now number page.bytes.now) }
         ensures stop { IsTrue T.tells → IfErr result (ExplainsStop ((T.disk site.old).files file) number) }
+        ensures unlawful { IsTrue T.tells → Agrees (T.disk site.old).files self.old
+            → IfErr result (IsUnlawful shape.now ((T.disk site.old).files file) number) }
         ensures* list { sem 𝓛 (EndsUsed self.entry (file, number) result) }
 
         // Whatever the file holds.
         ensures same { (kept : List ℕ) → lookup (same_name (file, number)) self.old.kept ≡ Some kept
-            → IfOk result (λ page. page.now ≡ kept) }
-        ensures given { IsTrue (is_kept self.old (file, number)) → IsOk result }
+            → IfOk result (λ page. page.bytes.now ≡ kept) }
+        ensures given { IsTrue (is_kept self.old (file, number)) → IfErr result (IsRefused shape.now self.old (file, number)) }
         ensures reads { T.reads site.new ≤ T.reads site.old + length (unkept self.old file (number ∷ [])) }
         ensures untouched { IsTrue (is_kept self.old (file, number)) → site.new ≡ site.old }
         ensures looks { LooksOnly T.Site (HasCauseWhere CacheStop.Disk) 1 site.old site.new result }
     {
-        fetch(
+        let head = match fetch(
             &mut self.map,
             &mut self.spare,
             self.capacity,
             site,
-            file,
-            number,
-        )?;
+            shape,
+            (file, number),
+        ) {
+            Ok(head) => head,
+            Err(stop) => return Err(stop),
+        };
         match self.map.peek(&(file, number)) {
-            Some(page) => Ok(page),
+            Some(kept) => Ok(Accepted {
+                bytes: &kept.page,
+                head,
+            }),
             // It was put there.
             None => unreachable!(),
         }
@@ -134,58 +161,109 @@ fn places(capacity: u32) -> NonZeroUsize
     }
 }
 
-/// Makes the page the one last used of the map. It is read unless it is kept.
+/// Makes the page the one last used of the map, and answers its head. It is read unless it is kept.
 fn fetch<T: Site>(
-    map: &mut LruCache<(u32, u64), Box<[u8; PAGE]>>,
+    map: &mut LruCache<(u32, u64), Kept>,
     spare: &mut Option<Box<[u8; PAGE]>>,
     capacity: u32,
     site: &mut T,
-    file: u32,
-    number: u64,
-) -> Result<(), CacheStop>
+    shape: &Shape,
+    name: (u32, u64),
+) -> Result<Head, CacheStop>
     requires cap { map.old.cap ≡ max capacity 1 }
     requires spare { IsSome spare.old }
-    requires file { file < 4 }
-    requires few { number < 2 ^ 50 }
+    requires dims { shape.now.dims ≤ 8 }
+    requires measures { shape.now.measures ≤ 4 }
+    requires file { name.0 < 4 }
+    requires few { name.1 < 2 ^ 50 }
 
-    ensures given { OnOk result (IsGiven capacity (file, number) map.old map.new) }
+    ensures given { OnOk result (IsGiven capacity name map.old map.new) }
+    ensures accepted { IfOk result (HasHead shape.now name map.new) }
     ensures page { IsTrue T.tells → Agrees (T.disk site.old).files (cache_in capacity map.old)
-        → OnOk result (IsFound ((T.disk site.old).files file) (file, number) map.new) }
-    ensures stop { IsTrue T.tells → IfErr result (ExplainsStop ((T.disk site.old).files file) number) }
+        → OnOk result (IsFound ((T.disk site.old).files name.0) name map.new) }
+    ensures stop { IsTrue T.tells → IfErr result (ExplainsStop ((T.disk site.old).files name.0) name.1) }
+    ensures unlawful { IsTrue T.tells → Agrees (T.disk site.old).files (cache_in capacity map.old)
+        → IfErr result (IsUnlawful shape.now ((T.disk site.old).files name.0) name.1) }
 
     // Whatever the file holds.
-    ensures kept { IsTrue (is_kept (cache_in capacity map.old) (file, number)) → IsOk result }
-    ensures untouched { IsTrue (is_kept (cache_in capacity map.old) (file, number)) → site.new ≡ site.old }
+    ensures kept { IsTrue (is_kept (cache_in capacity map.old) name) → IfErr result (IsRefused shape.now (cache_in capacity map.old) name) }
+    ensures untouched { IsTrue (is_kept (cache_in capacity map.old) name) → site.new ≡ site.old }
     ensures as_before { OnErr result (map.new ≡ map.old) }
     ensures spare { IsSome spare.new }
     ensures looks { LooksOnly T.Site (HasCauseWhere CacheStop.Disk) 1 site.old site.new result }
 {
-    if use_kept(map, capacity, (file, number)) {
-        return Ok(());
+    match use_kept(map, capacity, shape, name) {
+        Ok(None) => read_in(map, spare, capacity, site, shape, name),
+        Ok(Some(head)) => Ok(head),
+        Err(stop) => Err(stop),
     }
-    let Some(page) = spare else { unreachable!() };
-    read(site, file, number, page)?;
-    put_in(map, spare, capacity, (file, number))?;
-    Ok(())
 }
 
-/// Whether the page is kept. It is then the one last used.
+/// The head of a page that is kept, which is then the one last used; none where it is not kept.
 fn use_kept(
-    map: &mut LruCache<(u32, u64), Box<[u8; PAGE]>>,
+    map: &mut LruCache<(u32, u64), Kept>,
     capacity: u32,
+    shape: &Shape,
     name: (u32, u64),
-) -> bool
+) -> Result<Option<Head>, CacheStop>
     requires cap { map.old.cap ≡ max capacity 1 }
+    requires dims { shape.now.dims ≤ 8 }
+    requires measures { shape.now.measures ≤ 4 }
 
-    ensures kept { result ≡ is_kept (cache_in capacity map.old) name }
-    ensures given { IsTrue result → IsGiven capacity name map.old map.new }
-    ensures as_before { IsFalse result → map.new ≡ map.old }
+    ensures kept { IfOk result (λ head. is_some head ≡ is_kept (cache_in capacity map.old) name) }
+    ensures given { IfOk result (λ head. IsTrue (is_some head) → IsGiven capacity name map.old map.new) }
+    ensures accepted { IfOk result (λ head. IfSome head (λ h. HasHead shape.now name map.new h)) }
+    ensures none { IfOk result (λ head. IsFalse (is_some head) → map.new ≡ map.old) }
+    ensures refused { IfErr result (IsRefused shape.now (cache_in capacity map.old) name) }
+    ensures as_before { OnErr result (map.new ≡ map.old) }
 {
     // A page that may not be kept lies there alone.
     if map.len() > capacity as usize {
-        return false;
+        return Ok(None);
     }
-    map.promote(&name)
+    let Some(kept) = map.peek(&name) else {
+        return Ok(None);
+    };
+    let Ok(head) = kept.judge(shape, name.1) else {
+        return Err(CacheStop::Unlawful);
+    };
+    map.promote(&name);
+    Ok(Some(head))
+}
+
+/// Reads a page that is not kept, tests it, and puts it into the map, as the one last used.
+fn read_in<T: Site>(
+    map: &mut LruCache<(u32, u64), Kept>,
+    spare: &mut Option<Box<[u8; PAGE]>>,
+    capacity: u32,
+    site: &mut T,
+    shape: &Shape,
+    name: (u32, u64),
+) -> Result<Head, CacheStop>
+    requires cap { map.old.cap ≡ max capacity 1 }
+    requires spare { IsSome spare.old }
+    requires absent { IsFalse (is_kept (cache_in capacity map.old) name) }
+    requires dims { shape.now.dims ≤ 8 }
+    requires measures { shape.now.measures ≤ 4 }
+    requires file { name.0 < 4 }
+    requires few { name.1 < 2 ^ 50 }
+
+    ensures given { OnOk result (IsGiven capacity name map.old map.new) }
+    ensures accepted { IfOk result (HasHead shape.now name map.new) }
+    ensures page { IsTrue T.tells → OnOk result (IsFound ((T.disk site.old).files name.0) name map.new) }
+    ensures stop { IsTrue T.tells → IfErr result (ExplainsStop ((T.disk site.old).files name.0) name.1) }
+    ensures unlawful { IsTrue T.tells → IfErr result (IsUnlawful shape.now ((T.disk site.old).files name.0) name.1) }
+    ensures as_before { OnErr result (map.new ≡ map.old) }
+    ensures spare { IsSome spare.new }
+    ensures looks { LooksOnly T.Site (HasCauseWhere CacheStop.Disk) 1 site.old site.new result }
+{
+    let Some(page) = spare else { unreachable!() };
+    read(site, name.0, name.1, page)?;
+    let Ok(head) = take_page(page, shape, name.1) else {
+        return Err(CacheStop::Unlawful);
+    };
+    put_in(map, spare, capacity, name, shape, head)?;
+    Ok(head)
 }
 
 /// Reads the page with this number, which the file has to have whole.
@@ -200,6 +278,7 @@ fn read<T: Site>(
 
     ensures page { IsTrue T.tells → HasRead CacheStop.Short ((T.disk site.old).files file) number into.new result }
     ensures known { IsErrOf result CacheStop.Memory → ⊥ }
+    ensures untested { IsErrOf result CacheStop.Unlawful → ⊥ }
     ensures looks { LooksOnly T.Site (HasCauseWhere CacheStop.Disk) 1 site.old site.new result }
 {
     if site.read(file, PAGE as u64 * number, into)? < PAGE {
@@ -208,20 +287,23 @@ fn read<T: Site>(
     Ok(())
 }
 
-/// Puts the spare page into the map, as the one last used. The page that goes out of the map is the next spare one, and a new one where
-/// none goes out.
+/// Puts the spare page into the map, as the one last used, with the head that it was accepted with. The page that goes out of the map is
+/// the next spare one, and a new one where none goes out.
 fn put_in(
-    map: &mut LruCache<(u32, u64), Box<[u8; PAGE]>>,
+    map: &mut LruCache<(u32, u64), Kept>,
     spare: &mut Option<Box<[u8; PAGE]>>,
     capacity: u32,
     name: (u32, u64),
+    shape: &Shape,
+    head: Head,
 ) -> Result<(), Memory>
     requires cap { map.old.cap ≡ max capacity 1 }
     requires spare { IsSome spare.old }
+    requires accepted { IfSome spare.old (λ page. Ok head ≡ taken shape.now name.1 page.value) }
     requires absent { IsFalse (is_kept (cache_in capacity map.old) name) }
 
     ensures given { OnOk result (IsGiven capacity name map.old map.new) }
-    ensures put { OnOk result (lookup (same_name name) map.new.entries ≡ spare.old) }
+    ensures put { OnOk result (IsIn spare.old name map.new) }
     ensures as_before { OnErr result (map.new ≡ map.old) }
     ensures spare { IsSome spare.new }
 {
@@ -233,14 +315,15 @@ fn put_in(
     let Some(page) = mem::replace(spare, next) else {
         unreachable!()
     };
-    match map.push(name, page) {
+    let kept = Kept::new(page, shape, name.1, head);
+    match map.push(name, kept) {
         Ok(None) => Ok(()),
         Ok(Some((_, old))) => {
-            *spare = Some(old);
+            *spare = Some(old.page);
             Ok(())
         }
         Err(refused) => {
-            *spare = Some(refused.value.1);
+            *spare = Some(refused.value.1.page);
             Err(Memory)
         }
     }

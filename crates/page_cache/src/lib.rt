@@ -2,5 +2,6 @@
 #![tactic(auto)]
 
 mod cache;
+mod kept;
 
-pub use cache::{CacheStop, Pages};
+pub use cache::{Accepted, CacheStop, Pages};

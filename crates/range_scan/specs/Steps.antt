@@ -29,4 +29,5 @@ ExplainsStop tree bytes number stops.Memory = Unit {0}
 abbrev pub stop_at : ℕ → CacheStop → SearchStop
 stop_at number caches.Disk = stops.Disk
 stop_at number caches.Short = stops.Damaged number
+stop_at number caches.Unlawful = stops.Damaged number
 stop_at number caches.Memory = stops.Memory

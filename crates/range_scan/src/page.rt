@@ -1,13 +1,13 @@
 //! What a search takes from one page.
 
-ghost use Rattle.std.specs.Prelude.{◌≡◌, ◌↔◌, ◌<◌, ◌≤◌, ◌+◌, ◌++◌, ◌^◌, ℕ, IsTrue, List, OnOk, IfOk, IfErr, filter, length, reverse};
+ghost use Rattle.std.specs.Prelude.{◌≡◌, ◌↔◌, ◌<◌, ◌≤◌, ◌+◌, ◌++◌, ◌^◌, ℕ, IsTrue, List, Ok, OnOk, IfOk, IfErr, filter, length, reverse};
 ghost use Rattle.std.specs.List.{All};
 ghost use Rattle.std.specs.Result.{IsErrOf};
 ghost use Rattle.cube_point.specs.declared.point.Entry as points;
 ghost use Rattle.page_fmt.specs.declared.page.Child.{Child};
 ghost use Rattle.page_fmt.specs.InFiles.{IsPageOf};
 ghost use Rattle.page_fmt.specs.Lawful.{HasChildren, HasEntries};
-ghost use Rattle.page_fmt.specs.Taking.{children, entries, page_count};
+ghost use Rattle.page_fmt.specs.Taking.{children, entries, page_count, taken};
 ghost use Rattle.page_fmt.specs.Writing.{AreEntries, IsShape};
 ghost use Rattle.range_scan.specs.Meeting.{is_inside};
 ghost use Rattle.range_scan.specs.Searching.{NamesPage};
@@ -18,12 +18,13 @@ use crate::ends::is_whole;
 use crate::walk::{Query, SearchStop};
 use cube_point::{Shape, inside, meets};
 use fact_model::Memory;
-use page_fmt::{Node, PAGE, inner_entry, lent_entry, take_page};
+use page_fmt::{Head, Node, PAGE, inner_entry, lent_entry};
 use point_taker::Taker;
 
-/// Takes the points or the children of the page with this number.
+/// Takes the points or the children of the page with this number, which was accepted with this head.
 pub(crate) fn take_contents<G: Taker>(
     page: &[u8; PAGE],
+    head: Head,
     query: &Query<'_>,
     number: u64,
     ahead: &mut Vec<u64>,
@@ -33,6 +34,7 @@ pub(crate) fn take_contents<G: Taker>(
     requires few { query.now.tree.now.first + query.now.tree.now.pages ≤ 2 ^ 50 }
     requires from { query.now.tree.now.first ≤ number }
     requires within { number < query.now.tree.now.first + query.now.tree.now.pages }
+    requires accepted { Ok head ≡ taken query.now.tree.now.shape number page.now }
     requires ahead { AreAhead query.now.tree.now ahead.old.items }
 
     ensures visited { (bytes : List ℕ) → IsPageOf bytes number page.now
@@ -45,9 +47,6 @@ pub(crate) fn take_contents<G: Taker>(
     ensures names { IfErr result (NamesPage number 1) }
     ensures no_call { IsErrOf result SearchStop.Disk → ⊥ }
 {
-    let Ok(head) = take_page(page, &query.tree.shape, number) else {
-        return Err(SearchStop::Damaged { page: number });
-    };
     if head.node == Node::Leaf {
         take_points(page, query, head.count, taker)?;
     } else if !take_children(page, query, head.count, ahead)? {

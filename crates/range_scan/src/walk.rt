@@ -192,8 +192,8 @@ fn visit<T: Site, G: Taker>(
     ensures capacity { pages.new.capacity ≡ pages.old.capacity }
     ensures looks { LooksOnly T.Site (HasCauseWhere SearchStop.Disk) 1 site.old site.new result }
 {
-    match pages.page(site, query.tree.file, number) {
-        Ok(page) => take_contents(page, query, number, ahead, taker),
+    match pages.page(site, &query.tree.shape, query.tree.file, number) {
+        Ok(page) => take_contents(page.bytes, page.head, query, number, ahead, taker),
         Err(stop) => Err(stop_at(stop, number)),
     }
 }
@@ -204,7 +204,7 @@ fn stop_at(stop: CacheStop, number: u64) -> SearchStop
 {
     match stop {
         CacheStop::Disk => SearchStop::Disk,
-        CacheStop::Short => SearchStop::Damaged { page: number },
+        CacheStop::Short | CacheStop::Unlawful => SearchStop::Damaged { page: number },
         CacheStop::Memory => SearchStop::Memory,
     }
 }

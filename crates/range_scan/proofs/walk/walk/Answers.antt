@@ -5,7 +5,7 @@ use Rattle.site_core.specs.Disk.{Files}
 use Rattle.site_core.proofs.Run.{Changes-refl, Rests-then}
 use Rattle.page_cache.proofs.Keeping.{none-asked, one-more-asked, reads-more}
 use Rattle.range_scan.specs.Steps.{ExplainsStop, IsVisited}
-use Rattle.range_scan.specs.Visits.{found_in, hits, page_of, visits}
+use Rattle.range_scan.specs.Visits.{found_in, hits, page_of}
 use Rattle.range_scan.proofs.Lists.{ahead-next, top-ahead}
 use Rattle.range_scan.proofs.Underway.{answered, found-more, more-asked, named, one-more, room-next, starts, stop-searched, unkept-next}
 use Rattle.range_scan.proofs.walk.walk.Goals as goal
