@@ -26,7 +26,7 @@ use Rattle.merge_pack.specs.Standing.{moves_tried}
 use Rattle.script_lang.specs.declared.command.Block.{Block}
 use Rattle.plain_machine.specs.declared.batch_source.BatchSource.{BatchSource}
 use Rattle.plain_machine.specs.declared.batch_source.BatchSource.TheVariants.{Rows}
-use Rattle.plain_machine.specs.Machine.{Answer, batch_from, begin, begun, committed, finish, load}
+use Rattle.plain_machine.specs.Machine.{Answer, batch_from, begin, begun, committed, committed_as, finish, load}
 use Rattle.plain_machine.specs.World.{Warehouse, World, begun_with, idle}
 use Rattle.cube_state.specs.Costs.{Cost, Spends, free}
 use Rattle.cube_state.specs.Moves.{moves_made, pending_moves}
@@ -34,7 +34,7 @@ use Rattle.cube_state.specs.declared.answered.Answered.{Answered}
 use Rattle.cube_state.specs.declared.state.State.{State}
 use Rattle.cube_state.specs.declared.state.State.TheVariants.{Empty, Idle, Hollow, Pending}
 use Rattle.cube_state.specs.declared.stop.Stop.{Stop}
-use Rattle.cube_state.specs.Session.{Attends, Belongs}
+use Rattle.cube_state.specs.Session.{Attends, AttendsAs, Belongs}
 use Rattle.cube_state.proofs.Costs.{spends_more, spends_none}
 use Rattle.cube_batches.specs.Costs.{begin_cost, begins, commit_cost, finish_cost, grows, load_cost, load_cost_of, moves_to, step_cost}
 use Rattle.cube_batches.specs.Taking.{AsksFor, IsFitting, IsPending, Takes}
@@ -42,32 +42,34 @@ use Rattle.cube_batches.specs.declared.taking.Taken.TheVariants.{Begun as Began}
 use Rattle.cube_batches.proofs.BatchReads.{answer_fitting}
 use Rattle.cube_batches.proofs.Limits.{none_refused}
 
-module _ (warehouse : Warehouse) (batch : List Fact) (some : 0 < length batch) where
-  abbrev pub moves : List Move
-  moves = forest_moves warehouse.schema warehouse.facts batch
+abbrev moves : Warehouse → List Fact → List Move
+moves warehouse batch = forest_moves warehouse.schema warehouse.facts batch
 
-  accepts : grows (idle warehouse) (committed warehouse batch).0 ≡ true
-  accepts = let long = length-append warehouse.facts batch in grind (arith, nat_tests)
+module _ (last : ℕ) (warehouse : Warehouse) (batch : List Fact) where
+  abbrev next : World
+  next = (committed_as last warehouse batch).0
 
-  moves_are : moves_to (Some warehouse) (Some (record { schema = warehouse.schema; facts = warehouse.facts ++ batch })) ≡ forest_moves warehouse.schema warehouse.facts batch
+  moves_are : moves_to (Some warehouse) next.kept ≡ moves warehouse batch
   moves_are = ap (forest_moves warehouse.schema warehouse.facts) (drop_at warehouse.facts batch (length warehouse.facts) refl)
 
-  -- the batch is accepted
-  pub finish_is : (made : ℕ) → finish_cost (begun_with warehouse batch) made (finish (begun_with warehouse batch)).0 ≡ commit_cost moves made
-  finish_is made = ap (λ (b : Bool). cond b (commit_cost (moves_to (Some warehouse) (Some (record { schema = warehouse.schema; facts = warehouse.facts ++ batch }))) made) free) accepts
-      ∙ ap (λ (ms : List Move). commit_cost ms made) moves_are
+  module _ (some : 0 < length batch) where
+    accepts : grows (idle warehouse) next ≡ true
+    accepts = let long = length-append warehouse.facts batch in grind (arith, nat_tests)
 
-  load_is : load_cost (idle warehouse) (committed warehouse batch).0 ≡ load_cost_of (Some warehouse) moves
-  load_is = ap (λ (b : Bool). cond b (load_cost_of (Some warehouse) (moves_to (Some warehouse) (Some (record { schema = warehouse.schema; facts = warehouse.facts ++ batch })))) free) accepts
-      ∙ ap (load_cost_of (Some warehouse)) moves_are
+    -- the batch is accepted
+    pub finish_is : (made : ℕ) → finish_cost (begun_with warehouse batch) made next ≡ commit_cost (moves warehouse batch) made
+    finish_is made = ap (λ (b : Bool). cond b (commit_cost (moves_to (Some warehouse) next.kept) made) free) accepts ∙ ap (λ (ms : List Move). commit_cost ms made) moves_are
 
--- an empty batch is no growth
-pub empty_finish : (warehouse : Warehouse) (batch : List Fact) → batch ≡ [] → (made : ℕ) → finish_cost (begun_with warehouse batch) made (finish (begun_with warehouse batch)).0 ≡ free
-empty_finish warehouse batch empty made =
-    let long = length-append warehouse.facts batch in
-    let short : length batch ≡ 0 = ap length empty in
-    let not : grows (idle warehouse) (committed warehouse batch).0 ≡ false = grind (arith, nat_tests) in
-    ap (λ (b : Bool). cond b (commit_cost (moves_to (Some warehouse) (Some (record { schema = warehouse.schema; facts = warehouse.facts ++ batch }))) made) free) not
+    pub load_is : load_cost (idle warehouse) next ≡ load_cost_of (Some warehouse) (moves warehouse batch)
+    load_is = ap (λ (b : Bool). cond b (load_cost_of (Some warehouse) (moves_to (Some warehouse) next.kept)) free) accepts ∙ ap (load_cost_of (Some warehouse)) moves_are
+
+  -- an empty batch is no growth
+  pub empty_finish : batch ≡ [] → (made : ℕ) → finish_cost (begun_with warehouse batch) made next ≡ free
+  empty_finish empty made =
+      let long = length-append warehouse.facts batch in
+      let short : length batch ≡ 0 = ap length empty in
+      let not : grows (idle warehouse) next ≡ false = grind (arith, nat_tests) in
+      ap (λ (b : Bool). cond b (commit_cost (moves_to (Some warehouse) next.kept) made) free) not
 
 -- the moves of a batch that is pending and is not empty
 pub pending_are : (warehouse : Warehouse) (batch : List Fact) → 0 < length batch → pending_moves (begun_with warehouse batch) ≡ forest_moves warehouse.schema warehouse.facts batch
@@ -85,7 +87,7 @@ pub tried_few : {E : Type 0} (most : ℕ) (result : Result ℕ E) → IfOk resul
 tried_few most (Ok made) few = few
 tried_few most (Err stop) few = omega arith
 
-module _ {S : Type 0} (T : Ghosts S) (old new : S) (r : Begun) (warehouse : Warehouse) (batch : List Fact) (is : Attends r (T.disk old) warehouse batch) where
+module _ {last : ℕ} {S : Type 0} (T : Ghosts S) (old new : S) (r : Begun) (warehouse : Warehouse) (batch : List Fact) (is : AttendsAs last r (T.disk old) warehouse batch) where
   abbrev own : List Move
   own = forest_moves r.store.forest.schema warehouse.facts batch
 
@@ -105,9 +107,9 @@ module _ {S : Type 0} (T : Ghosts S) (old new : S) (r : Begun) (warehouse : Ware
       })
 
   pub finish_spends : KeepsTo own r.progress.taken (length own) (T.reads old, T.writes old + 3) (T.reads new, T.writes new)
-      → Spends T (finish_cost (begun_with warehouse batch) r.progress.taken (finish (begun_with warehouse batch)).0) old new
+      → Spends T (finish_cost (begun_with warehouse batch) r.progress.taken (committed_as last warehouse batch).0) old new
   finish_spends keeps =
-      subst (λ (c : Cost). Spends T c old new) (ap (λ (ms : List Move). commit_cost ms r.progress.taken) own_are ∙ sym (finish_is warehouse batch is.some r.progress.taken))
+      subst (λ (c : Cost). Spends T c old new) (ap (λ (ms : List Move). commit_cost ms r.progress.taken) own_are ∙ sym (finish_is last warehouse batch is.some r.progress.taken))
       (record { reads = omega (arith, keeps.read); writes = omega (arith, keeps.wrote) })
 
   -- nor more reads than there are pages
@@ -159,8 +161,8 @@ module _ {S : Type 0} (T : Ghosts S) (old new : S) where
     pub load_asks : AsksFor T old new world source → Spends T (load_cost world (load world source).0) old new
     load_asks (inl same) = spends_none T (load_cost world (load world source).0) old new same
     load_asks (inr (fitting, some, spent)) =
-        subst (λ (c : Cost). Spends T c old new) (sym (loads fitting ∙ load_is fitting.warehouse fitting.batch some))
-        (spends_more T (record { reads = 1; writes = 1 }) (load_cost_of (Some fitting.warehouse) (moves fitting.warehouse fitting.batch some)) old new (omega arith) (omega arith) spent)
+        subst (λ (c : Cost). Spends T c old new) (sym (loads fitting ∙ load_is fitting.warehouse.last fitting.warehouse fitting.batch some))
+        (spends_more T (record { reads = 1; writes = 1 }) (load_cost_of (Some fitting.warehouse) (moves fitting.warehouse fitting.batch)) old new (omega arith) (omega arith) spent)
 
   pub begin_asks : (world : World) (block : Block) → AsksFor T old new world (Rows block) → Spends T (begin_cost world (begin world block).0) old new
   begin_asks world block (inl same) = spends_none T (begin_cost world (begin world block).0) old new same
@@ -170,16 +172,15 @@ module _ {S : Type 0} (T : Ghosts S) (old new : S) where
 
 -- ---- a load
 
--- it begins, and is finished before a move is made
-pub load_spends : {S : Type 0} (T : Ghosts S) (old mid new : S) (world : World) (source : BatchSource) (fitting : IsFitting world source) → 0 < length fitting.batch
+-- a batch begins, and is committed before a move is made
+pub committed_spends : {S : Type 0} (T : Ghosts S) (old mid new : S) (last : ℕ) (warehouse : Warehouse) (batch : List Fact) → 0 < length batch
     → Spends T (record { reads = 1; writes = 1 }) old mid → (made : ℕ) → made ≡ 0
-    → Spends T (finish_cost (begun_with fitting.warehouse fitting.batch) made (finish (begun_with fitting.warehouse fitting.batch)).0) mid new
-    → T.reads new ≤ T.reads mid + page_count fitting.warehouse.schema fitting.warehouse.facts → Spends T (load_cost world (load world source).0) old new
-load_spends T old mid new world source fitting some first made none then pages =
-    let own : List Move = moves fitting.warehouse fitting.batch some in
-    let last = subst (λ (c : Cost). Spends T c mid new) (finish_is fitting.warehouse fitting.batch some made ∙ ap (commit_cost own) none) then in
-    subst (λ (c : Cost). Spends T c old new) (sym (loads T old new world source fitting ∙ load_is fitting.warehouse fitting.batch some))
-    (record { reads = omega (arith, first.reads, pages); writes = omega (arith, first.writes, last.writes) })
+    → Spends T (finish_cost (begun_with warehouse batch) made (committed_as last warehouse batch).0) mid new
+    → T.reads new ≤ T.reads mid + page_count warehouse.schema warehouse.facts → Spends T (load_cost (idle warehouse) (committed_as last warehouse batch).0) old new
+committed_spends T old mid new last warehouse batch some first made none then pages =
+    let ends = subst (λ (c : Cost). Spends T c mid new) (finish_is last warehouse batch some made ∙ ap (commit_cost (moves warehouse batch)) none) then in
+    subst (λ (c : Cost). Spends T c old new) (sym (load_is last warehouse batch some))
+    (record { reads = omega (arith, first.reads, pages); writes = omega (arith, first.writes, ends.writes) })
 
 module _ {S : Type 0} (T : Ghosts S) (old mid new : S) (world : World) (source : BatchSource) (state : State) (is : IsPending (T.disk mid) world source state) (asks : AsksFor T old mid world source)
     (none : moves_made state ≡ 0)
@@ -189,7 +190,7 @@ module _ {S : Type 0} (T : Ghosts S) (old mid new : S) (world : World) (source :
   empty_spends : is.fitting.batch ≡ [] → Spends T (load_cost world (load world source).0) old new
   empty_spends empty =
       let first = load_asks T old mid world source asks in
-      let nothing = subst (λ (c : Cost). Spends T c mid new) (empty_finish is.fitting.warehouse is.fitting.batch empty (moves_made state)) then in
+      let nothing = subst (λ (c : Cost). Spends T c mid new) (empty_finish is.fitting.warehouse.last is.fitting.warehouse is.fitting.batch empty (moves_made state)) then in
       record { reads = omega (arith, first.reads, nothing.reads); writes = omega (arith, first.writes, nothing.writes) }
 
   begins_by : AsksFor T old mid world source → Spends T (record { reads = 1; writes = 1 }) old mid
@@ -198,7 +199,9 @@ module _ {S : Type 0} (T : Ghosts S) (old mid new : S) (world : World) (source :
 
   by_batch : (batch : List Fact) → is.fitting.batch ≡ batch → Spends T (load_cost world (load world source).0) old new
   by_batch [] empty = empty_spends empty
-  by_batch (x ∷ xs) some = load_spends T old mid new world source is.fitting (omega (arith, ap length some)) (begins_by asks) (moves_made state) none then pages
+  by_batch (x ∷ xs) some =
+      subst (λ (c : Cost). Spends T c old new) (sym (loads T old new world source is.fitting))
+      (committed_spends T old mid new is.fitting.warehouse.last is.fitting.warehouse is.fitting.batch (omega (arith, ap length some)) (begins_by asks) (moves_made state) none then pages)
 
   -- what is pending is finished, which is a load
   pub begun_spends : Spends T (load_cost world (load world source).0) old new

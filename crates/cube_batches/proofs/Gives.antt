@@ -62,7 +62,7 @@ module _ {S : Type 0} (T : Ghosts S) (old mid : S) (tells : IsTrue T.tells) wher
       subst (λ d. AreAllWhole store.forest before d) is.points
       (subst (λ (f : Forest). AreAllWhole f before is.refresh.deltas) is.forest (λ t low. same-whole is.refresh.store.forest is.refresh.deltas before between (root.others tells) t (whole t low)))
 
-  committed_batch : (store : Store) (batch : List Fact) (state : State) (reply : List ℕ) → TakesBatch store batch (Began state) → TouchesFor T old mid state
+  pub committed_batch : (store : Store) (batch : List Fact) (state : State) (reply : List ℕ) → TakesBatch store batch (Began state) → TouchesFor T old mid state
       → FinishGives state between reply → GivesBatch store before batch reply
   committed_batch store [] state reply is touches said = subst (λ (s : State). FinishGives s between reply) is said
   committed_batch store (x ∷ xs) state reply is touches said =

@@ -5,3 +5,4 @@ pub mod Kept
 pub mod Limits
 pub mod Takings
 pub mod Told
+pub mod Turns

@@ -1,5 +1,5 @@
 -- What a batch that is taken in makes of the plain machine's world.
-use Rattle.std.proofs.Common.{◌≡◌, IsTrue, ◌<◌, ◌*◌, ◌++◌, ℕ, List, [], length, inl, inr, Some, Result, Ok, Err, IfOk, refl, sym, ◌∙◌, ap, arith, subst, take}
+use Rattle.std.proofs.Common.{◌≡◌, IsTrue, ◌<◌, ◌≤◌, ◌+◌, ◌*◌, ◌++◌, ℕ, List, [], length, inl, inr, Some, Result, Ok, Err, IfOk, refl, sym, ◌∙◌, ap, arith, subst, take, length-append}
 use Rattle.std.proofs.lemmas.List.Elements.{All-append}
 use Rattle.std.specs.List.{All}
 use Rattle.std.specs.Prelude.{slice_index}
@@ -28,7 +28,7 @@ use Rattle.forest_store.specs.Stored.{IsStoreOf, IsWhole}
 use Rattle.reply_text.specs.Replies.{committed_text}
 use Rattle.plain_machine.specs.Keeps.{IsLawful}
 use Rattle.plain_machine.specs.declared.batch_source.BatchSource.{BatchSource}
-use Rattle.plain_machine.specs.Machine.{Answer, abandon, batch_from, committed, finish, load, refusal_of, unless}
+use Rattle.plain_machine.specs.Machine.{Answer, abandon, batch_from, committed, committed_as, finish, load, refusal_of, unless}
 use Rattle.plain_machine.specs.World.{Warehouse, World, begun_with, idle}
 use Rattle.cube_state.specs.declared.answered.Answered.{Answered}
 use Rattle.cube_state.specs.declared.state.State.{State}
@@ -36,7 +36,7 @@ use Rattle.cube_state.specs.declared.state.State.TheVariants.{Hollow, Idle, Pend
 use Rattle.cube_state.specs.declared.stop.Stop.{Stop}
 use Rattle.cube_state.specs.Frames.{RunsOn}
 use Rattle.cube_state.specs.Stops.{IsNoDamage, refresh_stop}
-use Rattle.cube_state.specs.Session.{Attends, Belongs, Between, IsAnswer, KeepsEither, Stands}
+use Rattle.cube_state.specs.Session.{Attends, AttendsAs, Belongs, Between, IsAnswer, KeepsEither, Stands}
 use Rattle.cube_state.proofs.Answering.{answers, between_as}
 use Rattle.cube_batches.specs.Refusals.{refusal_text}
 use Rattle.cube_batches.specs.Taking.{IsFitting, IsPending, IsTaken}
@@ -68,17 +68,26 @@ none_moved r files facts batch none = record {
 
 module _ (store : Store) (old new : Disk) (warehouse : Warehouse) (batch : List Fact) (is : Belongs store old warehouse) where
   -- at every moment the files keep what they kept
-  pub begin_moments : (next : World) → LeavesOnly old new (λ told files. (told ≡ old.told) × KeepsFacts store.forest.schema warehouse.facts files)
+  pub begin_moments : (next : World) → LeavesOnly old new (λ told files. (told ≡ old.told) × KeepsFacts store.forest.schema warehouse.facts store.forest.body.last files)
       → Between old new (idle warehouse) next
   begin_moments next run = wider old new _ _
-      (λ told files both. (both.0, inl (record { lawful = is.lawful; kept = subst (λ (s : Schema). KeepsFacts s warehouse.facts files) is.schema both.1 }))) run
+      (λ told files both. (
+        both.0,
+        inl (record {
+          lawful = is.lawful;
+          kept = subst (λ (s : Schema). KeepsFacts s warehouse.facts warehouse.last files) is.schema (subst (λ n. KeepsFacts store.forest.schema warehouse.facts n files) is.last both.1);
+        }),
+      )) run
 
   -- it has begun
-  pub begin_attends : (r : Begun) → r.store.forest ≡ store.forest → IsRefreshOf r warehouse.facts batch new.files → IsStable new → 0 < length batch → IsReady r new
-      → r.progress.taken ≡ 0 → Attends r new warehouse batch
-  begin_attends r same adds stable some ready none = record {
+  pub begin_attends : {last : ℕ} (r : Begun) → r.store.forest ≡ store.forest → r.next.last ≡ last → last ≤ warehouse.last + 1 → IsRefreshOf r warehouse.facts batch new.files
+      → IsStable new → 0 < length batch → IsReady r new → r.progress.taken ≡ 0 → AttendsAs last r new warehouse batch
+  begin_attends r same next due adds stable some ready none = record {
     lawful = is.lawful;
     schema = ap (λ (f : Forest). f.schema) same ∙ is.schema;
+    last = ap (λ (f : Forest). f.body.last) same ∙ is.last;
+    next = next;
+    due = due;
     adds = stable_holds (IsRefreshOf r warehouse.facts batch) new stable adds;
     some = some;
     ready = ready;
@@ -86,7 +95,7 @@ module _ (store : Store) (old new : Disk) (warehouse : Warehouse) (batch : List 
   }
 
 -- so it is pending, and all facts keep the limits
-pub all_fine : (r : Begun) (new : Disk) (warehouse : Warehouse) (batch : List Fact) → Attends r new warehouse batch → AreAccepted warehouse.schema (warehouse.facts ++ batch)
+pub all_fine : {last : ℕ} (r : Begun) (new : Disk) (warehouse : Warehouse) (batch : List Fact) → AttendsAs last r new warehouse batch → AreAccepted warehouse.schema (warehouse.facts ++ batch)
 all_fine r new warehouse batch is = subst (λ (s : Schema). AreAccepted s (warehouse.facts ++ batch)) is.schema is.adds.read.all
 
 abbrev pub begun_fits : (r : Begun) (new : Disk) (warehouse : Warehouse) (source : BatchSource) (batch : List Fact) → Attends r new warehouse batch
@@ -116,6 +125,7 @@ pub back_belongs : (store back : Store) (disk : Disk) (warehouse : Warehouse) �
 back_belongs store back disk warehouse same is = record {
   lawful = is.lawful;
   schema = ap (λ (f : Forest). f.schema) same.forest ∙ is.schema;
+  last = ap (λ (f : Forest). f.body.last) same.forest ∙ is.last;
   stored = holds_to (IsStoreOf store warehouse.facts) (IsStoreOf back warehouse.facts) disk (λ files stored. record {
     accepted = subst (λ (f : Forest). AreAccepted f.schema warehouse.facts) (sym same.forest) stored.accepted;
     live = subst (λ (f : Forest). IsLive f.schema f.body warehouse.facts files) (sym same.forest) stored.live;
@@ -145,7 +155,7 @@ module _ (store back : Store) (old new : Disk) (warehouse : Warehouse) (batch : 
   agree : All (Agrees warehouse.schema) (warehouse.facts ++ batch)
   agree = All-append (Agrees warehouse.schema) warehouse.facts batch is.lawful.accepted.each (subst (λ (s : Schema). All (Agrees s) batch) is.schema each)
 
-  by_limit : (text : List ℕ) → refusal_text back.forest.schema why ≡ Some text → refusal_of warehouse.schema (warehouse.facts ++ batch) ≡ Some text
+  pub by_limit : (text : List ℕ) → refusal_text back.forest.schema why ≡ Some text → refusal_of warehouse.schema (warehouse.facts ++ batch) ≡ Some text
   by_limit text refused =
       one_refused warehouse batch is.lawful.schema agree why text
       (subst (λ (s : Schema). TellsLimit s (warehouse.facts ++ batch) why) is.schema limit)
@@ -162,32 +172,44 @@ module _ (store back : Store) (old new : Disk) (warehouse : Warehouse) (batch : 
 
 -- ---- a batch that has begun is committed
 
-module _ (r : Begun) (old new : Disk) (warehouse : Warehouse) (batch : List Fact) (is : Attends r old warehouse batch) where
+module _ (last : ℕ) (r : Begun) (old new : Disk) (warehouse : Warehouse) (batch : List Fact) (is : AttendsAs last r old warehouse batch) where
   abbrev next : Warehouse
-  next = record { schema = warehouse.schema; facts = warehouse.facts ++ batch }
+  next = record { schema = warehouse.schema; facts = warehouse.facts ++ batch; last = last }
 
   all_lawful : IsLawful next
-  all_lawful = record { schema = is.lawful.schema; accepted = all_fine r old warehouse batch is }
+  all_lawful = record {
+    schema = is.lawful.schema;
+    accepted = all_fine r old warehouse batch is;
+    last = omega (arith, is.due, is.lawful.last, is.some, length-append warehouse.facts batch);
+  }
+
+  -- the numbers that are kept are those of the warehouse and of the next one
+  same_numbers : (P : ℕ → ℕ → Type 0) → P r.store.forest.body.last r.next.last → P warehouse.last last
+  same_numbers P is_so = subst (λ n. P n last) is.last (subst (P r.store.forest.body.last) is.next is_so)
 
   -- the files keep the facts without the batch, or all of them
-  pub commit_moments : LeavesOnly old new (λ told files. (told ≡ old.told) × refreshes.KeepsEither r.store.forest.schema warehouse.facts (warehouse.facts ++ batch) files)
-      → Between old new (idle warehouse) (committed warehouse batch).0
+  pub commit_moments : LeavesOnly old new (λ told files. (told ≡ old.told) × refreshes.KeepsEither r.store.forest.schema warehouse.facts r.store.forest.body.last (warehouse.facts ++ batch) r.next.last files)
+      → Between old new (idle warehouse) (committed_as last warehouse batch).0
   commit_moments run =
       wider old new _ _
-      (λ told files both. (both.0, by files (subst (λ (s : Schema). refreshes.KeepsEither s warehouse.facts (warehouse.facts ++ batch) files) is.schema both.1))) run
+      (λ told files both. (
+        both.0,
+        by files (subst (λ (s : Schema). refreshes.KeepsEither s warehouse.facts warehouse.last (warehouse.facts ++ batch) last files) is.schema
+            (same_numbers (λ n m. refreshes.KeepsEither r.store.forest.schema warehouse.facts n (warehouse.facts ++ batch) m files) both.1)),
+      )) run
     where
-      by : (files : Files) → refreshes.KeepsEither warehouse.schema warehouse.facts (warehouse.facts ++ batch) files → KeepsEither (idle warehouse) (committed warehouse batch).0 files
+      by : (files : Files) → refreshes.KeepsEither warehouse.schema warehouse.facts warehouse.last (warehouse.facts ++ batch) last files → KeepsEither (idle warehouse) (committed_as last warehouse batch).0 files
       by files (inl kept) = inl (record { lawful = is.lawful; kept = kept })
       by files (inr both) = inr (record { lawful = all_lawful; kept = both.1 })
 
-  module _ (now : Store) (schema : now.forest.schema ≡ r.store.forest.schema) (stored : IsStoreOf now (warehouse.facts ++ batch) new.files) (stable : IsStable new) (opened : IsOpened now.forest.body new) where
+  module _ (now : Store) (schema : now.forest.schema ≡ r.store.forest.schema) (number : now.forest.body.last ≡ r.next.last) (stored : IsStoreOf now (warehouse.facts ++ batch) new.files) (stable : IsStable new) (opened : IsOpened now.forest.body new) where
     committed_belongs : Belongs now new next
-    committed_belongs = record { lawful = all_lawful; schema = schema ∙ is.schema; stored = stable_holds (IsStoreOf now (warehouse.facts ++ batch)) new stable stored; opened = opened }
+    committed_belongs = record { lawful = all_lawful; schema = schema ∙ is.schema; last = number ∙ is.next; stored = stable_holds (IsStoreOf now (warehouse.facts ++ batch)) new stable stored; opened = opened }
 
     pub committed_answer : (result : Result Answered Stop) → IfOk result (λ done. done.state ≡ Idle now)
-        → IfOk result (λ done. done.reply.items ≡ committed_text now.forest.body.facts) → IfOk result (IsAnswer new (committed warehouse batch))
+        → IfOk result (λ done. done.reply.items ≡ committed_text now.forest.body.facts) → IfOk result (IsAnswer new (committed_as last warehouse batch))
     committed_answer result state reply =
-        answers result (Idle now) (committed_text now.forest.body.facts) new (committed warehouse batch) state reply (next, refl, committed_belongs)
+        answers result (Idle now) (committed_text now.forest.body.facts) new (committed_as last warehouse batch) state reply (next, refl, committed_belongs)
         (ap committed_text stored.live.at.body_is.facts)
 
 -- a batch that is pending is committed at once, which is a load
@@ -213,6 +235,7 @@ abandoned r store disk world (Ok done) same given is state =
     let belongs : Belongs store disk is.0 = record {
       lawful = is.3.lawful;
       schema = ap (λ (f : Forest). f.schema) same ∙ is.3.schema;
+      last = ap (λ (f : Forest). f.body.last) same ∙ is.3.last;
       stored = holds_to (IsRefreshOf r is.0.facts is.1) (IsStoreOf store is.0.facts) disk (given is.0.facts is.1) is.3.adds;
       opened = subst (λ (f : Forest). IsOpened f.body disk) (sym same) is.3.ready.opened;
     } in
@@ -227,6 +250,12 @@ same_damage (ends.Damaged file offset) none = none
 
 -- at every moment the files keep what they kept
 pub step_moments : (r : Begun) (old new : Disk) (warehouse : Warehouse) (batch : List Fact) → Attends r old warehouse batch
-    → LeavesOnly old new (λ told files. (told ≡ old.told) × KeepsFacts r.store.forest.schema warehouse.facts files) → Between old new (begun_with warehouse batch) (begun_with warehouse batch)
+    → LeavesOnly old new (λ told files. (told ≡ old.told) × KeepsFacts r.store.forest.schema warehouse.facts r.store.forest.body.last files) → Between old new (begun_with warehouse batch) (begun_with warehouse batch)
 step_moments r old new warehouse batch is run = wider old new _ _
-    (λ told files both. (both.0, inl (record { lawful = is.lawful; kept = subst (λ (s : Schema). KeepsFacts s warehouse.facts files) is.schema both.1 }))) run
+    (λ told files both. (
+      both.0,
+      inl (record {
+        lawful = is.lawful;
+        kept = subst (λ (s : Schema). KeepsFacts s warehouse.facts warehouse.last files) is.schema (subst (λ n. KeepsFacts r.store.forest.schema warehouse.facts n files) is.last both.1);
+      }),
+    )) run

@@ -52,7 +52,7 @@ module _ {S : Type 0} (T : Ghosts S) (old mid : S) (tells : IsTrue T.tells) wher
   abbrev between : Files
   between = (T.disk mid).files
 
-  batch_told : (kept : Store) (batch : List Fact) (state : State) → TakesBatch kept batch (Began state) → TouchesFor T old mid state
+  pub batch_told : (kept : Store) (batch : List Fact) (state : State) → TakesBatch kept batch (Began state) → TouchesFor T old mid state
       → (stop : Stop) → FinishTells state between stop → TellsBatchDamage kept before batch stop
   batch_told kept [] state is touches stop told = none_by_batch kept before [] stop (subst (λ (s : State). FinishTells s between stop) is told)
   batch_told kept (x ∷ xs) state is touches stop told =

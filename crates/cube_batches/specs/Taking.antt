@@ -9,7 +9,7 @@ use Rattle.forest_refresh.specs.Trees.{deltas_by}
 use Rattle.forest_root.specs.declared.forest.Store.{Store}
 use Rattle.reply_text.specs.Replies.{line}
 use Rattle.plain_machine.specs.declared.batch_source.BatchSource.{BatchSource}
-use Rattle.plain_machine.specs.Machine.{Answer, batch_from, refusal_of, take_over, unless}
+use Rattle.plain_machine.specs.Machine.{Answer, accepted_as, batch_from, read_by, refusal_of, take_over, unless}
 use Rattle.plain_machine.specs.World.{Warehouse, World, begun_with, idle}
 use Rattle.cube_state.specs.declared.state.State.{State}
 use Rattle.cube_state.specs.declared.state.State.TheVariants.{Empty, Idle, Hollow, Pending}
@@ -30,6 +30,14 @@ state_of (Began state) = state
 abbrev pub answer_by : World → (Warehouse → List Fact → Answer) → BatchSource → Answer
 answer_by world next source =
     take_over world (λ warehouse batch. unless world (next warehouse batch) (refusal_of warehouse.schema (warehouse.facts ++ batch))) world.kept world.pending source
+
+-- the answer where the batch is the next numbered one
+abbrev pub next_accepted : Warehouse → List Fact → Answer
+next_accepted warehouse batch = accepted_as (idle warehouse) (warehouse.last + 1) warehouse batch
+
+-- and where it was read so
+abbrev pub next_read : Warehouse → Result (List Fact) (List ℕ) → Answer
+next_read warehouse read = read_by (idle warehouse) (next_accepted warehouse) read
 
 -- nothing is pending, and the batch of the source keeps the limits
 pub record IsFitting (world : World) (source : BatchSource) : Type 0 where

@@ -1,5 +1,5 @@
 -- Where the damage lies that the commands of a batch tell.
-use Rattle.std.specs.Prelude.{ℕ, List, Result, Ok, Err}
+use Rattle.std.specs.Prelude.{◌≡◌, ◌⊎◌, ◌+◌, ℕ, List, Result, Ok, Err}
 use Rattle.site_core.specs.Disk.{Files}
 use Rattle.fact_model.specs.declared.fact.Fact.{Fact}
 use Rattle.attr_dict.specs.Admitting.{names_with}
@@ -8,7 +8,8 @@ use Rattle.forest_refresh.specs.Begun.{Begun}
 use Rattle.forest_refresh.specs.Trees.{TellsFirstDamage, deltas_by}
 use Rattle.forest_refresh.specs.declared.stop.RefreshStop.TheVariants as refreshes
 use Rattle.plain_machine.specs.declared.batch_source.BatchSource.{BatchSource}
-use Rattle.plain_machine.specs.Machine.{batch_from}
+use Rattle.script_lang.specs.declared.command.Block.{Block}
+use Rattle.plain_machine.specs.Machine.{batch_from, block_read}
 use Rattle.cube_state.specs.declared.state.State.{State}
 use Rattle.cube_state.specs.declared.state.State.TheVariants.{Empty, Idle, Hollow, Pending}
 use Rattle.cube_state.specs.declared.stop.Stop.{Stop}
@@ -44,6 +45,17 @@ LoadTells Empty files source stop = IsNoDamage stop
 LoadTells (Idle kept) files source stop = TellsSourceDamage kept files source stop
 LoadTells (Hollow kept) files source stop = IsNoDamage stop
 LoadTells (Pending refresh) files source stop = IsNoDamage stop
+
+-- a load with this number: damage that it tells is where the batch is the next one
+abbrev pub TurnTells : Store → Files → ℕ → Block → Stop → Type 0
+TurnTells kept files number block stop =
+    IsNoDamage stop ⊎ ((number ≡ kept.forest.body.last + 1) × TellsReadDamage kept files (block_read kept.forest.schema block) stop)
+
+abbrev pub NumberedTells : State → Files → ℕ → Block → Stop → Type 0
+NumberedTells Empty files number block stop = IsNoDamage stop
+NumberedTells (Idle kept) files number block stop = TurnTells kept files number block stop
+NumberedTells (Hollow kept) files number block stop = IsNoDamage stop
+NumberedTells (Pending refresh) files number block stop = IsNoDamage stop
 
 -- the end of a pending batch
 abbrev pub FinishTells : State → Files → Stop → Type 0

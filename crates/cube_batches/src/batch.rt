@@ -36,7 +36,7 @@ pub fn read_source(alloc: Global, schema: &Schema, source: BatchSource) -> Resul
 }
 
 /// Reads the facts of a block by the schema.
-fn read_block(alloc: Global, schema: &Schema, block: Block) -> Result<Read, Stop>
+pub fn read_block(alloc: Global, schema: &Schema, block: Block) -> Result<Read, Stop>
     ensures read { IfOk result (IsRead (block_read schema.now block)) }
     ensures agree { IfOk result (IsOfSchema schema.now) }
     ensures memory { IfErr result (λ stop. stop ≡ Stop.Memory) }

@@ -1,11 +1,13 @@
-//! The commands of a batch, over what a session has: `load` and `generate` take one in at once; `begin`, `step`, `finish` and `abandon` let
+//! The commands of a batch, over what a session has: `load`, `load N` and `generate` take one in at once; `begin`, `step`, `finish` and `abandon` let
 //! slices go on between.
 #![tactic(auto)]
 
 mod batch;
 mod loading;
+mod numbered;
 mod pending;
 mod taking;
 
 pub use loading::load;
+pub use numbered::load_numbered;
 pub use pending::{abandon, begin, finish, step};

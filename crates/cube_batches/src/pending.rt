@@ -1,18 +1,18 @@
 //! The commands `begin`, `step`, `finish` and `abandon`, over a batch that is pending.
-ghost use Rattle.std.specs.Prelude.{◌≡◌, ◌≤◌, ◌+◌, IsTrue, List, OnOk, IfOk, IfErr, Some};
+ghost use Rattle.std.specs.Prelude.{◌≡◌, ◌≤◌, ◌+◌, ℕ, IsTrue, List, OnOk, IfOk, IfErr, Some};
 ghost use Rattle.fact_model.specs.declared.fact.Fact as facts;
 ghost use Rattle.forest_refresh.specs.Begun.{IsGoing, IsReady};
 ghost use Rattle.forest_store.specs.Sides.{page_count};
 ghost use Rattle.reply_text.specs.Replies.{committed_text, line};
 ghost use Rattle.script_lang.specs.declared.command.Command.TheVariants as says;
-ghost use Rattle.plain_machine.specs.Machine.{abandon, begin, committed, finish, step};
+ghost use Rattle.plain_machine.specs.Machine.{abandon, begin, committed_as, finish, step};
 ghost use Rattle.plain_machine.specs.World.{Warehouse, World, begun_with, idle};
 ghost use Rattle.cube_state.specs.Cached.{Fits, SideStays, emptied, generation, kept_over, live_of};
 ghost use Rattle.cube_state.specs.Costs.{Spends};
 ghost use Rattle.cube_state.specs.Frames.{IsQuiet, RunsOn};
 ghost use Rattle.cube_state.specs.Moves.{made_behind, moves_made};
 ghost use Rattle.cube_state.specs.Stops.{IsNoDamage};
-ghost use Rattle.cube_state.specs.Session.{Attends, Between, IsAnswer, Stands, abandon_text, step_text};
+ghost use Rattle.cube_state.specs.Session.{Attends, AttendsAs, Between, IsAnswer, Stands, abandon_text, step_text};
 ghost use Rattle.cube_batches.specs.Costs.{HasNoFact, begin_cost, begins, finish_cost, pages_over, step_cost};
 ghost use Rattle.cube_batches.specs.Gives.{BeginGives, FinishGives, IsFinished};
 ghost use Rattle.cube_batches.specs.Told.{FinishTells, TellsRefreshDamage};
@@ -134,7 +134,7 @@ fn move_on<T: Site>(state: &mut State, moves: u64, site: &mut T) -> Result<(), S
 {
     match state {
         State::Pending(refresh) => go_on(refresh, moves, site),
-        _ => Ok(()),
+        State::Empty | State::Idle(_) | State::Hollow(_) => Ok(()),
     }
 }
 
@@ -210,7 +210,7 @@ pub fn finish<T: Site>(
 }
 
 /// Commits the batch of a refresh, forgets the kept pages, and acknowledges it.
-fn commit<T: Site>(
+pub(crate) fn commit<T: Site>(
     alloc: Global,
     pages: &mut Pages,
     refresh: Refresh,
@@ -219,15 +219,15 @@ fn commit<T: Site>(
     requires goes { IsGoing refresh }
     requires fit { IsTrue T.tells → IsReady refresh (T.disk site.old) }
 
-    ensures answer { IsTrue T.tells → (warehouse : Warehouse) (batch : List facts.Fact) → Attends refresh (T.disk site.old) warehouse batch
-        → IfOk result (IsAnswer (T.disk site.new) (committed warehouse batch)) }
-    ensures any_moment { IsTrue T.tells → (warehouse : Warehouse) (batch : List facts.Fact) → Attends refresh (T.disk site.old) warehouse batch
-        → Between (T.disk site.old) (T.disk site.new) (idle warehouse) (committed warehouse batch).0 }
-    ensures undamaged { IsTrue T.tells → (warehouse : Warehouse) (batch : List facts.Fact) → Attends refresh (T.disk site.old) warehouse batch
+    ensures answer { IsTrue T.tells → (last : ℕ) (warehouse : Warehouse) (batch : List facts.Fact) → AttendsAs last refresh (T.disk site.old) warehouse batch
+        → IfOk result (IsAnswer (T.disk site.new) (committed_as last warehouse batch)) }
+    ensures any_moment { IsTrue T.tells → (last : ℕ) (warehouse : Warehouse) (batch : List facts.Fact) → AttendsAs last refresh (T.disk site.old) warehouse batch
+        → Between (T.disk site.old) (T.disk site.new) (idle warehouse) (committed_as last warehouse batch).0 }
+    ensures undamaged { IsTrue T.tells → (last : ℕ) (warehouse : Warehouse) (batch : List facts.Fact) → AttendsAs last refresh (T.disk site.old) warehouse batch
         → IfErr result IsNoDamage }
-    ensures cost { IsTrue T.tells → (warehouse : Warehouse) (batch : List facts.Fact) → Attends refresh (T.disk site.old) warehouse batch
-        → Spends T.Site (finish_cost (begun_with warehouse batch) refresh.progress.taken (finish (begun_with warehouse batch)).0) site.old site.new }
-    ensures pages { IsTrue T.tells → (warehouse : Warehouse) (batch : List facts.Fact) → Attends refresh (T.disk site.old) warehouse batch
+    ensures cost { IsTrue T.tells → (last : ℕ) (warehouse : Warehouse) (batch : List facts.Fact) → AttendsAs last refresh (T.disk site.old) warehouse batch
+        → Spends T.Site (finish_cost (begun_with warehouse batch) refresh.progress.taken (committed_as last warehouse batch).0) site.old site.new }
+    ensures pages { IsTrue T.tells → (last : ℕ) (warehouse : Warehouse) (batch : List facts.Fact) → AttendsAs last refresh (T.disk site.old) warehouse batch
         → T.reads site.new ≤ T.reads site.old + page_count warehouse.schema warehouse.facts }
     ensures damage { IsTrue T.tells → IfErr result (TellsRefreshDamage refresh (T.disk site.old).files) }
     ensures answered { IsTrue T.tells → IfOk result (λ done. IsFinished refresh (T.disk site.old).files done.reply.items) }

@@ -103,14 +103,14 @@ fn take_source<T: Site>(
     if batch.is_empty() {
         return Ok(Taken::Begun(State::Hollow(store)));
     }
-    match Refresh::begin(alloc, site, store, batch) {
+    match Refresh::begin(alloc, site, store, batch, None) {
         Ok(refresh) => Ok(Taken::Begun(State::Pending(refresh))),
         Err(fault) => Ok(Taken::Refused(refuse(alloc, fault)?)),
     }
 }
 
 /// Refuses a batch by the first limit that it would pass. Where no limit is why it has not begun, the session stops.
-fn refuse(alloc: Global, fault: BeginFault) -> Result<Answered, Stop>
+pub fn refuse(alloc: Global, fault: BeginFault) -> Result<Answered, Stop>
     ensures state { IfOk result (λ done. done.state ≡ State.Idle fault.store) }
     ensures reply { IfOk result (λ done. refusal_text fault.store.forest.schema fault.why ≡ Some done.reply.items) }
     ensures stop { IfErr result (λ stop. stop ≡ begin_stop fault.why) }

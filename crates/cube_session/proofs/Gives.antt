@@ -1,5 +1,5 @@
 -- Each reply has a byte.
-use Rattle.std.proofs.Common.{◌≡◌, ◌<◌, ℕ, inl, inr, List, [], ◌∷◌, length, Option, Some, None, Result, Ok, Err, codes, decimal, sym, subst}
+use Rattle.std.proofs.Common.{◌≡◌, ◌<◌, ◌+◌, ℕ, inl, inr, List, [], ◌∷◌, length, Option, Some, None, Result, Ok, Err, codes, decimal, sym, subst}
 use Rattle.site_core.specs.Disk.{Files}
 use Rattle.cube_schema.specs.declared.schema.Schema.{Schema}
 use Rattle.cube_schema.specs.Kinds.{name_at, measure_name_at}
@@ -25,7 +25,7 @@ use Rattle.cube_state.specs.declared.state.State.{State}
 use Rattle.cube_state.specs.declared.state.State.TheVariants.{Empty, Idle, Hollow, Pending}
 use Rattle.cube_state.specs.Session.{IsRunning, abandon_text, state_text, step_text}
 use Rattle.cube_slices.specs.Gives.{GivesRead, SliceGives, found_text}
-use Rattle.cube_batches.specs.Gives.{BeginGives, FinishGives, GivesBatch, GivesBegun, GivesSource, IsRefused, LoadGives}
+use Rattle.cube_batches.specs.Gives.{BeginGives, FinishGives, GivesBatch, GivesBegun, GivesNext, GivesSource, IsRefused, LoadGives, NumberedGives, TurnGives}
 use Rattle.cube_batches.specs.Refusals.{refusal_text}
 use Rattle.cube_session.specs.Gives.{Gives, SchemaGives}
 
@@ -93,6 +93,23 @@ load_some (Idle store) files source reply is =
 load_some (Hollow store) files source reply is = as_line (codes "refused pending") reply is
 load_some (Pending r) files source reply is = as_line (codes "refused pending") reply is
 
+next_some : (store : Store) (files : Files) (read : Result (List Fact) (List ℕ)) (reply : List ℕ) → HasText read → GivesNext store files read reply → 0 < length reply
+next_some store files (Err text) reply some is = as_text text reply is some
+next_some store files (Ok []) reply some is = as_line (codes "refused empty") reply is
+next_some store files (Ok (x ∷ xs)) reply some is = batch_some store files (x ∷ xs) reply is
+
+turn_some : (store : Store) (files : Files) (number : ℕ) (block : Block) (reply : List ℕ) → TurnGives store files number block reply → 0 < length reply
+turn_some store files number block reply (inl before) = as_text _ reply before.1 (some_number (codes "already ") number)
+turn_some store files number block reply (inr (inl gap)) = as_text _ reply gap.1 (some_number (codes "refused gap ") (store.forest.body.last + 1))
+turn_some store files number block reply (inr (inr next)) =
+    next_some store files (block_read store.forest.schema block) reply (source_text store.forest.schema (Rows block)) next.1
+
+numbered_some : (state : State) (files : Files) (number : ℕ) (block : Block) (reply : List ℕ) → NumberedGives state files number block reply → 0 < length reply
+numbered_some Empty files number block reply is = as_line (codes "refused no schema") reply is
+numbered_some (Idle store) files number block reply is = turn_some store files number block reply is
+numbered_some (Hollow store) files number block reply is = as_line (codes "refused pending") reply is
+numbered_some (Pending r) files number block reply is = as_line (codes "refused pending") reply is
+
 begun_some : (store : Store) (read : Result (List Fact) (List ℕ)) (reply : List ℕ) → HasText read → GivesBegun store read reply → 0 < length reply
 begun_some store (Err text) reply some is = as_text text reply is some
 begun_some store (Ok batch) reply some (inl refused) = limit_some store reply refused
@@ -142,6 +159,7 @@ pub gives_some : (state : State) (files : Files) (command : Command) (reply : Li
     → 0 < length reply
 gives_some state files (says.Schema block) reply running is = schema_gives_some state block reply is
 gives_some state files (says.Load block) reply running is = load_some state files (Rows block) reply is
+gives_some state files (says.LoadNumbered number block) reply running is = numbered_some state files number block reply is
 gives_some state files (says.Generate start rows) reply running is = load_some state files (Generator start rows) reply is
 gives_some state files (says.Slice text) reply running is = slice_some state files text reply is
 gives_some state files says.Status reply running is = as_text _ reply is (status_some state running)

@@ -27,18 +27,19 @@ use Rattle.cube_session.specs.Damage.{StopsAt, TellsBreak}
 -- what was opened is the warehouse that the files keep
 pub opened_stands : (found : Option Store) (store : Store) (files : Files) (disk : Disk) (kept : Kept) → found ≡ Some store → MayBeOpened found disk → IsStable disk → Keeps files kept
     → (NoneRaised (files 0) → found ≡ None)
-    → ((schema : Schema) (facts : List Fact) → IsSchema schema → AreAccepted schema facts → KeepsFacts schema facts files → IsWarehouse schema facts disk.files found)
+    → ((schema : Schema) (facts : List Fact) (last : ℕ) → IsSchema schema → AreAccepted schema facts → KeepsFacts schema facts last files → IsWarehouse schema facts last disk.files found)
     → (warehouse : Warehouse) × (bare kept ≡ idle warehouse) × Belongs store disk warehouse
 opened_stands found store files disk None is fit stable keeps none given = let no : Some store ≡ None = sym is ∙ none keeps in absurd (cc)
 opened_stands found store files disk (Some warehouse) is fit stable keeps none given =
-    let all = subst (IsWarehouse warehouse.schema warehouse.facts disk.files) is
-    (given warehouse.schema warehouse.facts keeps.lawful.schema keeps.lawful.accepted keeps.kept) in (
+    let all = subst (IsWarehouse warehouse.schema warehouse.facts warehouse.last disk.files) is
+    (given warehouse.schema warehouse.facts warehouse.last keeps.lawful.schema keeps.lawful.accepted keeps.kept) in (
       warehouse,
       refl,
       record {
         lawful = keeps.lawful;
-        schema = all.0;
-        stored = stable_holds (IsStoreOf store warehouse.facts) disk stable all.1;
+        schema = all.schema_is;
+        last = all.last_is;
+        stored = stable_holds (IsStoreOf store warehouse.facts) disk stable all.stored;
         opened = subst (λ (o : Option Store). MayBeOpened o disk) is fit;
       },
     )
@@ -60,10 +61,10 @@ clean stops.Memory is = tt
 
 pub undamaged : (stop : OpenStop) (answer : Stop) (files : Files) (kept : Kept) → answer ≡ open_stop stop → Keeps files kept
     → (NoneRaised (files 0) → opens.IsNoDamage stop)
-    → ((schema : Schema) (facts : List Fact) → IsSchema schema → AreAccepted schema facts → KeepsFacts schema facts files → opens.IsNoDamage stop) → IsNoDamage answer
+    → ((schema : Schema) (facts : List Fact) (last : ℕ) → IsSchema schema → AreAccepted schema facts → KeepsFacts schema facts last files → opens.IsNoDamage stop) → IsNoDamage answer
 undamaged stop answer files None same keeps none given = subst IsNoDamage (sym same) (clean stop (none keeps))
 undamaged stop answer files (Some warehouse) same keeps none given =
-    subst IsNoDamage (sym same) (clean stop (given warehouse.schema warehouse.facts keeps.lawful.schema keeps.lawful.accepted keeps.kept))
+    subst IsNoDamage (sym same) (clean stop (given warehouse.schema warehouse.facts warehouse.last keeps.lawful.schema keeps.lawful.accepted keeps.kept))
 
 -- damage that opening tells is where a rule is broken
 broken_there : (files : Files) (stop : OpenStop) → breaks.TellsBreak files stop → TellsBreak files (open_stop stop)
@@ -76,7 +77,7 @@ tells_break files stop answer same is = subst (TellsBreak files) (sym same) (bro
 
 -- how many reads opening takes
 pub costs_no_more : (files : Files) (kept : Kept) (old now : ℕ) → Keeps files kept → (NoneRaised (files 0) → now ≤ old + 1)
-    → ((schema : Schema) (facts : List Fact) → KeepsFacts schema facts files → now ≤ old + (1 + names_pages (length (names_text schema facts))))
+    → ((schema : Schema) (facts : List Fact) (last : ℕ) → KeepsFacts schema facts last files → now ≤ old + (1 + names_pages (length (names_text schema facts))))
     → now ≤ old + open_cost kept
 costs_no_more files None old now keeps none given = none keeps
-costs_no_more files (Some warehouse) old now keeps none given = given warehouse.schema warehouse.facts keeps.kept
+costs_no_more files (Some warehouse) old now keeps none given = given warehouse.schema warehouse.facts warehouse.last keeps.kept

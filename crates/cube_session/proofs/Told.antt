@@ -1,10 +1,11 @@
 -- Stops that tell no damage.
-use Rattle.std.proofs.Common.{◌≡◌, ℕ, List, Result, Ok, Err, IfErr, sym, subst}
+use Rattle.std.proofs.Common.{◌≡◌, inl, ℕ, List, Result, Ok, Err, IfErr, sym, subst}
 use Rattle.site_core.specs.Disk.{Files}
 use Rattle.fact_model.specs.declared.fact.Fact.{Fact}
 use Rattle.fact_model.specs.declared.slice.Slice.{Slice}
 use Rattle.forest_root.specs.declared.forest.Store.{Store}
 use Rattle.forest_refresh.specs.Begun.{Begun}
+use Rattle.script_lang.specs.declared.command.Block.{Block}
 use Rattle.script_lang.specs.declared.command.Command.{Command}
 use Rattle.script_lang.specs.declared.command.Command.TheVariants as says
 use Rattle.slice_lang.specs.Reading.{slice_of}
@@ -19,7 +20,7 @@ use Rattle.cube_state.specs.declared.stop.Stop.{Stop}
 use Rattle.cube_state.specs.declared.stop.Stop.TheVariants as stops
 use Rattle.cube_state.specs.Stops.{IsNoDamage}
 use Rattle.cube_slices.specs.Sliced.{TellsSliceDamage, SliceTells}
-use Rattle.cube_batches.specs.Told.{FinishTells, LoadTells, TellsBatchDamage, TellsReadDamage, TellsRefreshDamage}
+use Rattle.cube_batches.specs.Told.{FinishTells, LoadTells, NumberedTells, TellsBatchDamage, TellsReadDamage, TellsRefreshDamage}
 use Rattle.cube_session.specs.Told.{TellsDamage}
 
 slice_none : (kept : Store) (files : Files) (read : Result Slice SliceRefusal) (stop : Stop) → IsNoDamage stop → TellsSliceDamage kept files read stop
@@ -50,6 +51,12 @@ load_none (Idle kept) files source stop is = read_none kept files (batch_from ke
 load_none (Hollow kept) files source stop is = is
 load_none (Pending r) files source stop is = is
 
+numbered_none : (state : State) (files : Files) (number : ℕ) (block : Block) (stop : Stop) → IsNoDamage stop → NumberedTells state files number block stop
+numbered_none Empty files number block stop is = is
+numbered_none (Idle kept) files number block stop is = inl is
+numbered_none (Hollow kept) files number block stop is = is
+numbered_none (Pending r) files number block stop is = is
+
 finish_none : (state : State) (files : Files) (stop : Stop) → IsNoDamage stop → FinishTells state files stop
 finish_none Empty files stop is = is
 finish_none (Idle kept) files stop is = is
@@ -65,6 +72,7 @@ text_none (Pending r) files text stop is = slice_none r.store files (slice_of r.
 pub tells_none : (state : State) (files : Files) (command : Command) (stop : Stop) → IsNoDamage stop → TellsDamage state files command stop
 tells_none state files (says.Slice text) stop is = text_none state files text stop is
 tells_none state files (says.Load block) stop is = load_none state files (Rows block) stop is
+tells_none state files (says.LoadNumbered number block) stop is = numbered_none state files number block stop is
 tells_none state files (says.Generate start rows) stop is = load_none state files (Generator start rows) stop is
 tells_none state files (says.Schema block) stop is = is
 tells_none state files says.Status stop is = is

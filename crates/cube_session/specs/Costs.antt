@@ -5,7 +5,7 @@ use Rattle.forest_open.specs.Opening.{names_pages}
 use Rattle.script_lang.specs.declared.command.Command.{Command}
 use Rattle.script_lang.specs.declared.command.Command.TheVariants as says
 use Rattle.plain_machine.specs.declared.batch_source.BatchSource.TheVariants.{Rows, Generator}
-use Rattle.plain_machine.specs.Machine.{act, begin, declare, finish, load}
+use Rattle.plain_machine.specs.Machine.{act, begin, declare, finish, load, load_numbered}
 use Rattle.plain_machine.specs.World.{Kept, World}
 use Rattle.cube_state.specs.Costs.{Cost, both, free}
 use Rattle.cube_state.specs.Moves.{made_behind}
@@ -26,6 +26,7 @@ abbrev pub Costs : World → ℕ → Command → Cost → Type 0
 Costs world made (says.Slice text) cost = ReadsFor world text cost.reads × (cost.writes ≡ 0)
 Costs world made (says.Schema block) cost = cost ≡ schema_cost world (declare world block).0
 Costs world made (says.Load block) cost = cost ≡ load_cost world (load world (Rows block)).0
+Costs world made (says.LoadNumbered number block) cost = cost ≡ load_cost world (load_numbered world number block).0
 Costs world made (says.Generate start rows) cost = cost ≡ load_cost world (load world (Generator start rows)).0
 Costs world made (says.Begin block) cost = cost ≡ begin_cost world (begin world block).0
 Costs world made (says.Step n) cost = cost ≡ step_cost world made n

@@ -11,7 +11,7 @@ use Rattle.cube_state.specs.declared.state.State.{State}
 use Rattle.cube_state.specs.declared.state.State.TheVariants.{Empty, Idle, Hollow, Pending}
 use Rattle.cube_state.specs.Session.{abandon_text, state_text, step_text, IsLine}
 use Rattle.cube_slices.specs.Gives.{SliceGives}
-use Rattle.cube_batches.specs.Gives.{LoadGives, BeginGives, FinishGives}
+use Rattle.cube_batches.specs.Gives.{LoadGives, NumberedGives, BeginGives, FinishGives}
 
 -- the reply where a schema is to be declared
 abbrev pub SchemaGives : State → Block → List ℕ → Type 0
@@ -24,6 +24,7 @@ SchemaGives (Pending refresh) block reply = IsLine (codes "refused declared") re
 abbrev pub Gives : State → Files → Command → List ℕ → Type 0
 Gives state files (says.Schema block) reply = SchemaGives state block reply
 Gives state files (says.Load block) reply = LoadGives state files (Rows block) reply
+Gives state files (says.LoadNumbered number block) reply = NumberedGives state files number block reply
 Gives state files (says.Generate start rows) reply = LoadGives state files (Generator start rows) reply
 Gives state files (says.Slice text) reply = SliceGives state files text reply
 Gives state files says.Status reply = reply ≡ state_text state

@@ -15,7 +15,7 @@ ghost use Rattle.cube_session.specs.Told.{TellsDamage};
 ghost use Rattle.cube_session.specs.Visits.{GoesTo, asks_pages};
 
 use crate::declaring::declare;
-use cube_batches::{abandon, begin, finish, load, step};
+use cube_batches::{abandon, begin, finish, load, load_numbered, step};
 use cube_slices::slice;
 use cube_state::{Answered, State, Stop, plain};
 use page_cache::Pages;
@@ -68,6 +68,9 @@ pub fn act<T: Site>(
     match command {
         Command::Schema(block) => declare(alloc, state, block, site),
         Command::Load(block) => load(alloc, pages, state, BatchSource::Rows(block), site),
+        Command::LoadNumbered { number, block } => {
+            load_numbered(alloc, pages, state, number, block, site)
+        }
         Command::Generate { start, rows } => {
             load(
                 alloc,

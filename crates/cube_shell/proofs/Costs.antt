@@ -24,6 +24,7 @@ command_costs : (world : World) (made : ℕ) (command : Command) → (cost : Cos
 command_costs world made (says.Slice text) = let pages = slice_costs world text in (record { reads = pages.0; writes = 0 }, (pages.1, refl))
 command_costs world made (says.Schema block) = (_, refl)
 command_costs world made (says.Load block) = (_, refl)
+command_costs world made (says.LoadNumbered number block) = (_, refl)
 command_costs world made (says.Generate start rows) = (_, refl)
 command_costs world made (says.Begin block) = (_, refl)
 command_costs world made (says.Step n) = (_, refl)

@@ -14,6 +14,7 @@ ghost use Rattle.cube_shell.specs.Costs.{CostsRun, opening_and};
 ghost use Rattle.cube_shell.specs.Damage.{EndsAt, EndsForBreak};
 ghost use Rattle.cube_shell.specs.Ends.{EndsFor, EndsUnpulled, EndsUntouched, StatusCause, IsDoneOrMemory, IsUndamaged, IsUsageOrMemory, faults};
 ghost use Rattle.cube_shell.specs.Headline.{AfterRun, Finished, HasOpened, Headline, Opened, StopsShort};
+ghost use Rattle.cube_shell.specs.Histories.{HistoriesGoOn};
 ghost use Rattle.cube_shell.specs.Pulls.{Gave, KeepsLimit};
 ghost use Rattle.cube_shell.specs.Replied.{HasReplied};
 
@@ -37,6 +38,8 @@ pub fn run<S: Source, T: Site>(
 ) -> Status
     ensures headline { IsTrue S.tells → IsTrue T.tells → (kept : Kept) → Keeps (T.disk site.old).files kept
         → Headline (bare kept) (S.left source.old) (S.left source.new) (T.disk site.old) (T.disk site.new) result }
+    ensures histories { IsTrue S.tells → IsTrue T.tells → (kept : Kept) → Keeps (T.disk site.old).files kept
+        → HistoriesGoOn kept (S.left source.old) (S.left source.new) (T.disk site.old) (T.disk site.new) result }
     ensures cost { IsTrue S.tells → IsTrue T.tells → (kept : Kept) → Keeps (T.disk site.old).files kept
         → CostsRun T.Site kept (commands (S.left source.old)) site.old site.new }
     ensures undamaged { IsTrue T.tells → (kept : Kept) → Keeps (T.disk site.old).files kept
@@ -81,6 +84,8 @@ pub fn run_within<S: Source, T: Site>(
     requires { limit ≤ 2 ^ 30 }
     ensures headline { IsTrue S.tells → IsTrue T.tells → (kept : Kept) → Keeps (T.disk site.old).files kept
         → Headline (bare kept) (S.left source.old) (S.left source.new) (T.disk site.old) (T.disk site.new) result }
+    ensures histories { IsTrue S.tells → IsTrue T.tells → (kept : Kept) → Keeps (T.disk site.old).files kept
+        → HistoriesGoOn kept (S.left source.old) (S.left source.new) (T.disk site.old) (T.disk site.new) result }
     ensures cost { IsTrue S.tells → IsTrue T.tells → (kept : Kept) → Keeps (T.disk site.old).files kept
         → CostsRun T.Site kept (commands (S.left source.old)) site.old site.new }
     ensures undamaged { IsTrue T.tells → (kept : Kept) → Keeps (T.disk site.old).files kept

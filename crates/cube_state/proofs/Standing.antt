@@ -20,12 +20,13 @@ use Rattle.plain_machine.specs.World.{World, Warehouse}
 use Rattle.plain_machine.specs.Keeps.{Keeps, KeepsWarehouse}
 use Rattle.cube_state.specs.declared.state.State.{State}
 use Rattle.cube_state.specs.declared.state.State.TheVariants.{Empty, Idle, Hollow, Pending}
-use Rattle.cube_state.specs.Session.{Attends, Belongs, IsFit, Stands}
+use Rattle.cube_state.specs.Session.{Attends, AttendsAs, Belongs, IsFit, Stands}
 
 pub belongs_read : (store : Store) (disk : Disk) (warehouse : Warehouse) → Belongs store disk warehouse → KeepsWarehouse disk.files warehouse
 belongs_read store disk warehouse is = record {
   lawful = is.lawful;
-  kept = subst (λ (s : Schema). KeepsFacts s warehouse.facts disk.files) is.schema (live_keeps store.forest.schema store.forest.body warehouse.facts disk.files is.stored.read.live);
+  kept = subst (λ (s : Schema). KeepsFacts s warehouse.facts warehouse.last disk.files) is.schema
+      (subst (λ n. KeepsFacts store.forest.schema warehouse.facts n disk.files) is.last (live_keeps store.forest.schema store.forest.body warehouse.facts disk.files is.stored.read.live));
 }
 
 -- and so do all that a stop now may leave
@@ -33,14 +34,16 @@ pub belongs_left : (store : Store) (disk : Disk) (warehouse : Warehouse) → Bel
     → KeepsWarehouse files warehouse
 belongs_left store disk warehouse is files left = record {
   lawful = is.lawful;
-  kept = subst (λ (s : Schema). KeepsFacts s warehouse.facts files) is.schema (live_keeps store.forest.schema store.forest.body warehouse.facts files (is.stored.left files left).live);
+  kept = subst (λ (s : Schema). KeepsFacts s warehouse.facts warehouse.last files) is.schema
+      (subst (λ n. KeepsFacts store.forest.schema warehouse.facts n files) is.last (live_keeps store.forest.schema store.forest.body warehouse.facts files (is.stored.left files left).live));
 }
 
 -- a batch that is pending keeps the facts without it
-pub attends_belongs : (r : Begun) (disk : Disk) (warehouse : Warehouse) (batch : List Fact) → Attends r disk warehouse batch → Belongs r.store disk warehouse
+pub attends_belongs : {last : ℕ} (r : Begun) (disk : Disk) (warehouse : Warehouse) (batch : List Fact) → AttendsAs last r disk warehouse batch → Belongs r.store disk warehouse
 attends_belongs r disk warehouse batch is = record {
   lawful = is.lawful;
   schema = is.schema;
+  last = is.last;
   stored = holds_to (IsRefreshOf r warehouse.facts batch) (IsStoreOf r.store warehouse.facts) disk
       (λ files adds. record { accepted = adds.accepted; live = adds.live; names = adds.shown }) is.adds;
   opened = is.ready.opened;
@@ -89,6 +92,7 @@ module _ (old new : Disk) (same : new.files ≡ old.files) (left : (files : File
   belongs_on store warehouse is = record {
     lawful = is.lawful;
     schema = is.schema;
+    last = is.last;
     stored = holds_on (IsStoreOf store warehouse.facts) is.stored;
     opened = opened_on store.forest.body is.opened;
   }
@@ -100,6 +104,9 @@ module _ (old new : Disk) (same : new.files ≡ old.files) (left : (files : File
   attends_on r warehouse batch is = record {
     lawful = is.lawful;
     schema = is.schema;
+    last = is.last;
+    next = is.next;
+    due = is.due;
     adds = holds_on (IsRefreshOf r warehouse.facts batch) is.adds;
     some = is.some;
     ready = ready_on r is.ready;

@@ -1,5 +1,5 @@
 -- A session that stands for a world, and what a command answers by it.
-use Rattle.std.specs.Prelude.{◌≡◌, ◌⊎◌, ℕ, ◌<◌, List, [], codes, length, None}
+use Rattle.std.specs.Prelude.{◌≡◌, ◌⊎◌, ℕ, ◌+◌, ◌<◌, ◌≤◌, List, [], codes, length, None}
 use Rattle.site_core.specs.Disk.{Files, Disk}
 use Rattle.site_core.specs.Moments.{HoldsNow, LeavesOnly}
 use Rattle.fact_model.specs.declared.fact.Fact.{Fact}
@@ -19,14 +19,19 @@ use Rattle.cube_state.specs.declared.state.State.TheVariants.{Empty, Idle, Hollo
 pub record Belongs (store : Store) (disk : Disk) (warehouse : Warehouse) : Type 0 where
   pub lawful : IsLawful warehouse
   pub schema : store.forest.schema ≡ warehouse.schema
+  pub last : store.forest.body.last ≡ warehouse.last
   -- as a read gives them, and as a stop now may leave them
   pub stored : HoldsNow (IsStoreOf store warehouse.facts) disk
   pub opened : IsOpened store.forest.body disk
 
--- the refresh adds a batch to the warehouse which the files keep
-pub record Attends (r : Begun) (disk : Disk) (warehouse : Warehouse) (batch : List Fact) : Type 0 where
+-- the refresh adds a batch to the warehouse which the files keep, behind which this is the last number
+pub record AttendsAs (number : ℕ) (r : Begun) (disk : Disk) (warehouse : Warehouse) (batch : List Fact) : Type 0 where
   pub lawful : IsLawful warehouse
   pub schema : r.store.forest.schema ≡ warehouse.schema
+  pub last : r.store.forest.body.last ≡ warehouse.last
+  pub next : r.next.last ≡ number
+  -- it is the same, or the next one
+  pub due : number ≤ warehouse.last + 1
   -- as a read gives them, and as a stop now may leave them
   pub adds : HoldsNow (IsRefreshOf r warehouse.facts batch) disk
   -- an empty batch needs no refresh
@@ -34,6 +39,10 @@ pub record Attends (r : Begun) (disk : Disk) (warehouse : Warehouse) (batch : Li
   pub ready : IsReady r disk
   -- the pages of the moves made stand on the new side
   pub moved : StandsAt r warehouse.facts batch disk.files
+
+-- a batch without a number
+abbrev pub Attends : Begun → Disk → Warehouse → List Fact → Type 0
+Attends r disk warehouse batch = AttendsAs warehouse.last r disk warehouse batch
 
 -- where no refresh has begun, slices know all names; where one has, its moves go on
 abbrev pub IsRunning : State → Type 0

@@ -65,7 +65,7 @@ module _ (schema : Schema) where
 
   module _ (lawful : IsSchema schema) where
     -- the schema without facts, as it is declared
-    pub first_is : IsFirst (held schema []) (first_body schema) (canonical schema)
+    pub first_is : IsFirst (held schema [] 0) (first_body schema) (canonical schema)
     first_is =
         let short = text_short schema lawful in
         record {
@@ -77,6 +77,7 @@ module _ (schema : Schema) where
               names_len = omega arith;
               facts = omega arith;
               generation = omega arith;
+              last = omega arith;
               side = refl;
             };
             schema_fits = omega arith;
@@ -90,6 +91,7 @@ module _ (schema : Schema) where
             schema_len = refl;
             names_len = ap length (sym (append-nil (canonical schema)));
             facts = refl;
+            last = refl;
             masses = refl;
             counts = sym (no_counts schema lawful);
           };
@@ -97,6 +99,6 @@ module _ (schema : Schema) where
           forest = no-forest schema;
         }
 
-    pub first_as : (body : Body) (text : List ℕ) → body ≡ first_body schema → text ≡ canonical schema → IsFirst (held schema []) body text
+    pub first_as : (body : Body) (text : List ℕ) → body ≡ first_body schema → text ≡ canonical schema → IsFirst (held schema [] 0) body text
     first_as body text same_body same_text =
-        subst (λ (b : Body). IsFirst (held schema []) b text) (sym same_body) (subst (IsFirst (held schema []) (first_body schema)) (sym same_text) first_is)
+        subst (λ (b : Body). IsFirst (held schema [] 0) b text) (sym same_body) (subst (IsFirst (held schema [] 0) (first_body schema)) (sym same_text) first_is)

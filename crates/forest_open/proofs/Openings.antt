@@ -202,7 +202,7 @@ kind_there (attr ∷ attrs) (suc a) = kind_there attrs a
 names_room : (schema : Schema) (facts : List Fact) → AreAccepted schema facts → (a : ℕ) → length (names_of facts a) ≤ max_of (kind_at (no_names schema) a)
 names_room schema facts accepted a = (let kind = ap max_of (kind_there schema.attrs a) in let named = accepted.named a in omega arith)
 
-module _ (schema : Schema) (facts : List Fact) (slot : ℕ) (body : Body) (files : Files) (live : LiveAt (held schema facts) slot body files) where
+module _ (schema : Schema) (facts : List Fact) (last slot : ℕ) (body : Body) (files : Files) (live : LiveAt (held schema facts last) slot body files) where
   -- the names that count are there
   names_long : body.names_len ≤ length (files 1)
   names_long = (let long = length-take (length (names_text schema facts)) (files 1) in let same = ap length live.names in let count = live.body_is.names_len in omega arith)
@@ -241,7 +241,7 @@ module _ (schema : Schema) (facts : List Fact) (lawful : IsSchema schema) (accep
     own_read : HasRead (no_names schema) (book_of schema facts) (entries_in body files) []
     own_read = record {
       es = names facts;
-      are = entries_are schema facts is.slot body files is.at ∙ sym (append-nil (entries_text (names facts)));
+      are = entries_are schema facts body.last is.slot body files is.at ∙ sym (append-nil (entries_text (names facts)));
       enter = names-enter schema facts (all-agree schema facts accepted.each) (λ a low. names_room schema facts accepted a);
       book = refl;
     }
@@ -250,55 +250,62 @@ module _ (schema : Schema) (facts : List Fact) (lawful : IsSchema schema) (accep
     pub kept_opened : AreOpened body files schema (book_of schema facts)
     kept_opened = record {
       declared = record {
-        there = names_long schema facts is.slot body files is.at;
-        found = declared_again schema lawful (text_in body files) (text_is schema facts is.slot body files is.at);
+        there = names_long schema facts body.last is.slot body files is.at;
+        found = declared_again schema lawful (text_in body files) (text_is schema facts body.last is.slot body files is.at);
       };
       of_schema = rw (is.at.body_is.views, is.at.body_is.masses, no_masses_past schema facts lawful accepted.each, eq-eqb (length schema.views) (length schema.views) refl) refl;
       read = own_read;
-      pages = le-leb (4096 * page_total body schema) (length (files (side_of body))) (side_long schema facts is.slot body files is.at lawful accepted);
+      pages = le-leb (4096 * page_total body schema) (length (files (side_of body))) (side_long schema facts body.last is.slot body files is.at lawful accepted);
     }
 
     -- and other names are not read
     pub kept_names : (found : Book) → HasRead (no_names schema) found (entries_in body files) [] → HoldsNamesOf found facts
     kept_names found read =
-        subst (λ (b : Book). HoldsNamesOf b facts) (sym (read-only (no_names schema) found (entries_in body files) (names facts) (entries_are schema facts is.slot body files is.at) read)) own_hold
+        subst (λ (b : Book). HoldsNamesOf b facts) (sym (read-only (no_names schema) found (entries_in body files) (names facts) (entries_are schema facts body.last is.slot body files is.at) read)) own_hold
 
 -- ---- the live body of files that keep facts
 
-pub live_body : (schema : Schema) (facts : List Fact) (body : Body) (files : Files) → KeepsFacts schema facts files → IsLiveBody body (files 0) → IsLive schema body facts files
-live_body schema facts body files kept live = record {
-  slot = kept.0;
-  at = subst (λ (b : Body). LiveAt (held schema facts) kept.0 b files) (sym (one_live (held schema facts) kept.0 kept.1 body files kept.2 live)) kept.2;
-}
+module _ (schema : Schema) (facts : List Fact) (last : ℕ) (body : Body) (files : Files) (kept : KeepsFacts schema facts last files) (live : IsLiveBody body (files 0)) where
+  live_there : LiveAt (held schema facts last) kept.0 body files
+  live_there = subst (λ (b : Body). LiveAt (held schema facts last) kept.0 b files) (sym (one_live (held schema facts last) kept.0 kept.1 body files kept.2 live)) kept.2
+
+  -- it has the number that they keep
+  pub live_last : body.last ≡ last
+  live_last = live_there.body_is.last
+
+  pub live_body : IsLive schema body facts files
+  live_body = record { slot = kept.0; at = subst (λ n. LiveAt (held schema facts n) kept.0 body files) (sym live_last) live_there }
 
 -- files that keep facts have no slot whose body does not decode
-pub kept_decodes : (schema : Schema) (facts : List Fact) (slot : ℕ) (files : Files) → KeepsFacts schema facts files → IsFirstDamaged slot (files 0) → ⊥
-kept_decodes schema facts slot files kept first = live_damaged (files 0) kept.1 slot (held_is_live (held schema facts) kept.0 kept.1 files kept.2) first
+pub kept_decodes : (schema : Schema) (facts : List Fact) (last slot : ℕ) (files : Files) → KeepsFacts schema facts last files → IsFirstDamaged slot (files 0) → ⊥
+kept_decodes schema facts last slot files kept first = live_damaged (files 0) kept.1 slot (held_is_live (held schema facts last) kept.0 kept.1 files kept.2) first
 
 -- the names that the live body counts are those of the facts
-pub names_counted : (schema : Schema) (facts : List Fact) (body : Body) (files : Files) → KeepsFacts schema facts files → IsLiveBody body (files 0) → body.names_len ≡ length (names_text schema facts)
-names_counted schema facts body files kept live = (live_body schema facts body files kept live).at.body_is.names_len
+pub names_counted : (schema : Schema) (facts : List Fact) (last : ℕ) (body : Body) (files : Files) → KeepsFacts schema facts last files → IsLiveBody body (files 0) → body.names_len ≡ length (names_text schema facts)
+names_counted schema facts last body files kept live = (live_body schema facts last body files kept live).at.body_is.names_len
 
 -- ---- what opening answers
 
-module _ (schema : Schema) (facts : List Fact) (body : Body) (now files : Files) (lawful : IsSchema schema) (accepted : AreAccepted schema facts)
-    (kept : KeepsFacts schema facts files) (live : IsLiveBody body (files 0)) where
+module _ (schema : Schema) (facts : List Fact) (last : ℕ) (body : Body) (now files : Files) (lawful : IsSchema schema) (accepted : AreAccepted schema facts)
+    (kept : KeepsFacts schema facts last files) (live : IsLiveBody body (files 0)) where
   is_live : IsLive schema body facts files
-  is_live = live_body schema facts body files kept live
+  is_live = live_body schema facts last body files kept live
 
-  pub warehouse_as : (result : Result (Option Store) OpenStop) → now ≡ files → Judges body files result → IfOk result (λ found. IfSome found IsWhole) → IfOk result (IsWarehouse schema facts now)
+  pub warehouse_as : (result : Result (Option Store) OpenStop) → now ≡ files → Judges body files result → IfOk result (λ found. IfSome found IsWhole) → IfOk result (IsWarehouse schema facts last now)
   warehouse_as (Ok None) same judged whole = judged
   warehouse_as (Ok (Some store)) same judged whole =
       let opened = kept_opened schema facts lawful accepted body files is_live in
       let is = some_is store.forest.schema schema (schema_in body files) judged.1.declared.found opened.declared.found in
-      let read = subst (λ (s : Schema). HasRead (no_names s) store.dicts (entries_in body files) []) is judged.1.read in (
-        is,
-        record {
+      let read = subst (λ (s : Schema). HasRead (no_names s) store.dicts (entries_in body files) []) is judged.1.read in
+      record {
+        schema_is = is;
+        last_is = ap (λ (b : Body). b.last) judged.0 ∙ live_last schema facts last body files kept live;
+        stored = record {
           accepted = subst (λ (s : Schema). AreAccepted s facts) (sym is) accepted;
           live = subst (λ (s : Schema). IsLive s store.forest.body facts now) (sym is) (subst (λ (f : Files). IsLive schema store.forest.body facts f) (sym same) (subst (λ (b : Body). IsLive schema b facts files) (sym judged.0) is_live));
           names = named_shown store facts whole (kept_names schema facts lawful accepted body files is_live store.dicts read);
-        },
-      )
+        };
+      }
   warehouse_as (Err stop) same judged whole = tt
 
   pub undamaged_as : (result : Result (Option Store) OpenStop) → Judges body files result → IfErr result IsNoDamage

@@ -12,6 +12,7 @@ first_body schema = record {
   generation = 0;
   names_len = length (canonical schema);
   facts = 0;
+  last = 0;
   masses = 0 ∷ 0 ∷ 0 ∷ 0 ∷ [];
   counts = replicate 32 0;
 }

@@ -29,12 +29,13 @@ pub fn init<T: Site>(alloc: Global, site: &mut T, schema: Schema) -> Result<Stor
 
     ensures declared { IsTrue T.tells → IfOk result (λ store. IsStoreOf store [] (T.disk site.new).files) }
     ensures any_moment { IsTrue T.tells → LeavesOnly (T.disk site.old) (T.disk site.new) (λ told files.
-        (told ≡ (T.disk site.old).told) × (KeepsNothing files ⊎ KeepsFacts schema [] files)) }
+        (told ≡ (T.disk site.old).told) × (KeepsNothing files ⊎ KeepsFacts schema [] 0 files)) }
     // Want of memory comes before any call.
     ensures untouched { IfErr result (λ stop. stop ≢ InitStop.Disk → site.new ≡ site.old) }
 
     ensures schema { IfOk result (λ store. store.forest.schema ≡ schema) }
     ensures first { IfOk result (λ store. store.forest.body.generation ≡ 0) }
+    ensures last { IfOk result (λ store. store.forest.body.last ≡ 0) }
     ensures whole { IfOk result IsWhole }
     ensures opened { IsTrue T.tells → IfOk result (λ store. IsOpened store.forest.body (T.disk site.new)) }
     ensures stable { IsTrue T.tells → OnOk result (IsStable (T.disk site.new)) }
@@ -72,6 +73,7 @@ fn first_body(schema: &Schema, text: &Text) -> Body
         generation: 0,
         names_len: text_len as u64,
         facts: 0,
+        last: 0,
         masses: [0; 4],
         counts: [0; 32],
     }

@@ -34,9 +34,9 @@ begun_on r facts batch old new (Ok x) is same live = subst (λ x. IsRefreshOf x 
 begun_on r facts batch old new (Err fault) is same live = tt
 
 -- what a moment keeps, by an equal forest
-pub kept_by : (old new : Forest) → new ≡ old → (before after : Disk) (facts : List Fact) → LeavesOnly before after (λ told files. (told ≡ before.told) × KeepsFacts new.schema facts files)
-    → LeavesOnly before after (λ told files. (told ≡ before.told) × KeepsFacts old.schema facts files)
-kept_by old new same before after facts run = subst (λ (f : Forest). LeavesOnly before after (λ told files. (told ≡ before.told) × KeepsFacts f.schema facts files)) same run
+pub kept_by : (old new : Forest) → new ≡ old → (before after : Disk) (facts : List Fact) → LeavesOnly before after (λ told files. (told ≡ before.told) × KeepsFacts new.schema facts new.body.last files)
+    → LeavesOnly before after (λ told files. (told ≡ before.told) × KeepsFacts old.schema facts old.body.last files)
+kept_by old new same before after facts run = subst (λ (f : Forest). LeavesOnly before after (λ told files. (told ≡ before.told) × KeepsFacts f.schema facts f.body.last files)) same run
 
 -- the store with the names alone that slices know is the one that was whole
 pub cut_back : (store prepared : Store) (result : Result Begun BeginFault) → prepared.forest ≡ store.forest → prepared.shown ≡ store.shown

@@ -23,42 +23,42 @@ other_slot live next entries is slot side = λ same. differs live.generation (si
     differs : (n : ℕ) → n % 2 ≢ (n + 1) % 2
     differs n = λ same. omega (arith, same)
 
-module _ (schema : Schema) (accepted all : List Fact) (slot : ℕ) (live : Body) (names : List ℕ) (next : Body) (commit : Commit) (disk : Disk)
-    (now : IsLiveNow (held schema accepted) slot live disk) (is : IsNext live names next) (holds : IsBodyOf (held schema all) next)
+module _ (schema : Schema) (accepted all : List Fact) (last number slot : ℕ) (live : Body) (names : List ℕ) (next : Body) (commit : Commit) (disk : Disk)
+    (now : IsLiveNow (held schema accepted last) slot live disk) (is : IsNext live names next) (holds : IsBodyOf (held schema all number) next)
     (text : names_text schema all ≡ names_text schema accepted ++ names)
     (body : commit.body.now ≡ next) (at : commit.names_at ≡ live.names_len) (entries : commit.entries.now ≡ names) where
-  pub refresh_of : IsRefresh (held schema accepted) (held schema all) slot live commit disk
+  pub refresh_of : IsRefresh (held schema accepted last) (held schema all number) slot live commit disk
   refresh_of = record {
     now = now;
     apart = subst (λ (b : Body). slot ≢ b.generation % 2) (sym body) (other_slot live next names is slot now.read.decodes.1.within.side);
     later = omega (arith, is.generation, ap (λ (b : Body). b.generation) body);
     fits = subst (λ (b : Body). IsBody (slot_of b) b) (sym body) is.body;
-    body_is = subst (λ (b : Body). IsBodyOf (held schema all) b) (sym body) holds;
+    body_is = subst (λ (b : Body). IsBodyOf (held schema all number) b) (sym body) holds;
     names_at = at ∙ now.read.body_is.names_len;
     names = text ∙ ap (λ (l : List ℕ). names_text schema accepted ++ l) (sym entries);
   }
 
 -- what a moment of a commit keeps, as facts
-pub either_facts : (schema : Schema) (accepted all : List Fact) (old new : Disk) → AreAccepted schema all → EachMoment old new (commits.KeepsEither (held schema accepted) (held schema all))
-    → LeavesOnly old new (λ told files. (told ≡ old.told) × KeepsEither schema accepted all files)
-either_facts schema accepted all old new fine run = wider old new _ _ (λ told files both. (both.0, by files both.1)) run
+pub either_facts : (schema : Schema) (accepted all : List Fact) (last number : ℕ) (old new : Disk) → AreAccepted schema all → EachMoment old new (commits.KeepsEither (held schema accepted last) (held schema all number))
+    → LeavesOnly old new (λ told files. (told ≡ old.told) × KeepsEither schema accepted last all number files)
+either_facts schema accepted all last number old new fine run = wider old new _ _ (λ told files both. (both.0, by files both.1)) run
   where
-    by : (files : Files) → commits.KeepsEither (held schema accepted) (held schema all) files → KeepsEither schema accepted all files
+    by : (files : Files) → commits.KeepsEither (held schema accepted last) (held schema all number) files → KeepsEither schema accepted last all number files
     by files (inl old) = inl old
     by files (inr new) = inr (fine, new)
 
 -- while the live body stays, the facts are kept
-pub live_facts : (schema : Schema) (accepted : List Fact) (slot : ℕ) (live : Body) (old new : Disk) → EachMoment old new (LiveAt (held schema accepted) slot live)
-    → LeavesOnly old new (λ told files. (told ≡ old.told) × KeepsFacts schema accepted files)
-live_facts schema accepted slot live old new run = wider old new _ _ (λ told files both. (both.0, (slot, live, both.1))) run
+pub live_facts : (schema : Schema) (accepted : List Fact) (last slot : ℕ) (live : Body) (old new : Disk) → EachMoment old new (LiveAt (held schema accepted last) slot live)
+    → LeavesOnly old new (λ told files. (told ≡ old.told) × KeepsFacts schema accepted last files)
+live_facts schema accepted last slot live old new run = wider old new _ _ (λ told files both. (both.0, (slot, live, both.1))) run
 
 -- ---- one run after another
 
-pub then_either : (schema : Schema) (accepted all : List Fact) (old mid new : Disk) → mid.told ≡ old.told
-    → LeavesOnly old mid (λ told files. (told ≡ old.told) × KeepsEither schema accepted all files)
-    → LeavesOnly mid new (λ told files. (told ≡ mid.told) × KeepsEither schema accepted all files)
-    → LeavesOnly old new (λ told files. (told ≡ old.told) × KeepsEither schema accepted all files)
-then_either schema accepted all old mid new same first second =
-    joined old mid new (λ told files. (told ≡ old.told) × KeepsEither schema accepted all files) first
-    (wider mid new (λ told files. (told ≡ mid.told) × KeepsEither schema accepted all files) (λ told files. (told ≡ old.told) × KeepsEither schema accepted all files)
+pub then_either : (schema : Schema) (accepted all : List Fact) (last number : ℕ) (old mid new : Disk) → mid.told ≡ old.told
+    → LeavesOnly old mid (λ told files. (told ≡ old.told) × KeepsEither schema accepted last all number files)
+    → LeavesOnly mid new (λ told files. (told ≡ mid.told) × KeepsEither schema accepted last all number files)
+    → LeavesOnly old new (λ told files. (told ≡ old.told) × KeepsEither schema accepted last all number files)
+then_either schema accepted all last number old mid new same first second =
+    joined old mid new (λ told files. (told ≡ old.told) × KeepsEither schema accepted last all number files) first
+    (wider mid new (λ told files. (told ≡ mid.told) × KeepsEither schema accepted last all number files) (λ told files. (told ≡ old.told) × KeepsEither schema accepted last all number files)
     (λ told files both. (both.0 ∙ same, both.1)) second)

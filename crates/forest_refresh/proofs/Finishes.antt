@@ -1,5 +1,5 @@
 -- The end of a refresh: pages are written on the other side while the facts stay live, and then all facts are committed.
-use Rattle.std.proofs.Common.{◌≡◌, ◌≢◌, ◌∙◌, ◌+◌, ◌<◌, ◌≤◌, ◌++◌, ℕ, List, length, inl, sym, ap, subst, arith, length-append, take}
+use Rattle.std.proofs.Common.{◌≡◌, ◌≢◌, ◌∙◌, ◌+◌, ◌<◌, ◌≤◌, ◌++◌, ℕ, List, length, inl, refl, sym, ap, subst, arith, length-append, take}
 use Rattle.site_core.specs.Disk.{Disk, Files}
 use Rattle.site_core.specs.Calls.{Changes}
 use Rattle.site_core.specs.Moments.{HoldsNow, LeavesOnly}
@@ -74,12 +74,13 @@ module _ (r : Begun) (begun : IsBegun r) where
 
   module _ (facts batch : List Fact) (files : Files) (is : IsRefreshOf r facts batch files) where
     -- with the numbers of points of all facts it is their body
-    pub body_of_all : (counts : List ℕ) → counts ≡ body_counts r.store.forest.schema (facts ++ batch) → IsBodyOf (held r.store.forest.schema (facts ++ batch)) (with_counts r.next counts)
+    pub body_of_all : (counts : List ℕ) → counts ≡ body_counts r.store.forest.schema (facts ++ batch) → IsBodyOf (held r.store.forest.schema (facts ++ batch) r.next.last) (with_counts r.next counts)
     body_of_all counts same = record {
       views = begun.next.views ∙ r.store.forest.views;
       schema_len = begun.next.schema_len ∙ is.live.at.body_is.schema_len;
       names_len = omega (arith, begun.next.names_len, is.live.at.body_is.names_len, ap length (more_names r.store.forest.schema facts batch r.entries is.entries), length-append (names_text r.store.forest.schema facts) r.entries);
       facts = is.counted;
+      last = refl;
       masses = is.masses;
       counts = same;
     }
@@ -99,20 +100,20 @@ module _ (r : Begun) (begun : IsBegun r) where
     other : live_slot ≢ spare
     other = subst (λ k. live_slot ≢ k) (sym at) (other_slot r.store.forest.body r.next r.entries begun.next live_slot both_live.read.at.decodes.1.within.side)
 
-    now : IsLiveNow (held r.store.forest.schema facts) live_slot r.store.forest.body old
+    now : IsLiveNow (held r.store.forest.schema facts r.store.forest.body.last) live_slot r.store.forest.body old
     now = live_now r.store.forest.schema r.store.forest.body facts old both_live
 
-    pub still_live : (k : ℕ) × IsLiveNow (held r.store.forest.schema facts) k r.store.forest.body mid
-    still_live = (live_slot, live_paged (held r.store.forest.schema facts) live_slot spare r.store.forest.body low other old mid now 0 run)
+    pub still_live : (k : ℕ) × IsLiveNow (held r.store.forest.schema facts r.store.forest.body.last) k r.store.forest.body mid
+    still_live = (live_slot, live_paged (held r.store.forest.schema facts r.store.forest.body.last) live_slot spare r.store.forest.body low other old mid now 0 run)
 
-    pub while_written : OnlyNow old → LeavesOnly old mid (λ told files. (told ≡ old.told) × KeepsEither r.store.forest.schema facts (facts ++ batch) files)
+    pub while_written : OnlyNow old → LeavesOnly old mid (λ told files. (told ≡ old.told) × KeepsEither r.store.forest.schema facts r.store.forest.body.last (facts ++ batch) r.next.last files)
     while_written only_now = wider old mid _ _ (λ told files left. (left.0, inl (live_slot, r.store.forest.body, left.1)))
-        (paged_moments (held r.store.forest.schema facts) live_slot spare r.store.forest.body low other old mid now 0 run only_now)
+        (paged_moments (held r.store.forest.schema facts r.store.forest.body.last) live_slot spare r.store.forest.body low other old mid now 0 run only_now)
 
     -- so the facts alone are kept on the way, and the batch is still added to them
-    pub while_moved : OnlyNow old → LeavesOnly old mid (λ told files. (told ≡ old.told) × KeepsFacts r.store.forest.schema facts files)
+    pub while_moved : OnlyNow old → LeavesOnly old mid (λ told files. (told ≡ old.told) × KeepsFacts r.store.forest.schema facts r.store.forest.body.last files)
     while_moved only_now = wider old mid _ _ (λ told files left. (left.0, (live_slot, r.store.forest.body, left.1)))
-        (paged_moments (held r.store.forest.schema facts) live_slot spare r.store.forest.body low other old mid now 0 run only_now)
+        (paged_moments (held r.store.forest.schema facts r.store.forest.body.last) live_slot spare r.store.forest.body low other old mid now 0 run only_now)
 
     pub still_added : HoldsNow (IsRefreshOf r facts batch) mid
     still_added = record {
@@ -121,16 +122,16 @@ module _ (r : Begun) (begun : IsBegun r) where
     }
 
     -- and then the commit
-    pub then_committed : (new : Disk) → OnlyNow old → LeavesOnly mid new (λ told files. (told ≡ mid.told) × KeepsEither r.store.forest.schema facts (facts ++ batch) files)
-        → LeavesOnly old new (λ told files. (told ≡ old.told) × KeepsEither r.store.forest.schema facts (facts ++ batch) files)
-    then_committed new only_now last = then_either r.store.forest.schema facts (facts ++ batch) old mid new run.told (while_written only_now) last
+    pub then_committed : (new : Disk) → OnlyNow old → LeavesOnly mid new (λ told files. (told ≡ mid.told) × KeepsEither r.store.forest.schema facts r.store.forest.body.last (facts ++ batch) r.next.last files)
+        → LeavesOnly old new (λ told files. (told ≡ old.told) × KeepsEither r.store.forest.schema facts r.store.forest.body.last (facts ++ batch) r.next.last files)
+    then_committed new only_now last = then_either r.store.forest.schema facts (facts ++ batch) r.store.forest.body.last r.next.last old mid new run.told (while_written only_now) last
 
 -- ---- by an equal refresh
 
 pub either_by : (r self : Begun) → r ≡ self → (facts all : List Fact) (old new : Disk)
-    → LeavesOnly old new (λ told files. (told ≡ old.told) × KeepsEither r.store.forest.schema facts all files)
-    → LeavesOnly old new (λ told files. (told ≡ old.told) × KeepsEither self.store.forest.schema facts all files)
-either_by r self same facts all old new run = subst (λ (b : Begun). LeavesOnly old new (λ told files. (told ≡ old.told) × KeepsEither b.store.forest.schema facts all files)) same run
+    → LeavesOnly old new (λ told files. (told ≡ old.told) × KeepsEither r.store.forest.schema facts r.store.forest.body.last all r.next.last files)
+    → LeavesOnly old new (λ told files. (told ≡ old.told) × KeepsEither self.store.forest.schema facts self.store.forest.body.last all self.next.last files)
+either_by r self same facts all old new run = subst (λ (b : Begun). LeavesOnly old new (λ told files. (told ≡ old.told) × KeepsEither b.store.forest.schema facts b.store.forest.body.last all b.next.last files)) same run
 
 pub damage_by : (r self : Begun) → r ≡ self → (files : Files) (stop : RefreshStop) → TellsFirstDamage r.store.forest files r.deltas stop → TellsFirstDamage self.store.forest files self.deltas stop
 damage_by r self same files stop tells = subst (λ (b : Begun). TellsFirstDamage b.store.forest files b.deltas stop) same tells

@@ -30,7 +30,7 @@ use Rattle.forest_refresh.specs.Trees.{AreAllAdded}
 use Rattle.forest_refresh.proofs.Added.{all-added, batch-masses, deltas-are}
 use Rattle.forest_refresh.proofs.Ready.{all_accepted, body_is, summed}
 
-module _ (store : Store) (batch : List Fact) (coded : List (List ℕ)) (deltas : List (List Entry)) (entries : List ℕ) (names_len count : ℕ) (masses : List ℕ)
+module _ (store : Store) (batch : List Fact) (coded : List (List ℕ)) (deltas : List (List Entry)) (entries : List ℕ) (names_len count last : ℕ) (masses : List ℕ)
     (agree : All (Agrees store.forest.schema) batch) (codes : AreCoded store.dicts store.forest.schema coded batch)
     (named : deltas ≡ map (named_tree (names_at store.dicts) store.forest.schema batch) store.forest.mapping.trees)
     (counted : count ≡ store.forest.body.facts + length batch) (few : count ≤ max_facts)
@@ -46,15 +46,15 @@ module _ (store : Store) (batch : List Fact) (coded : List (List ℕ)) (deltas :
       subst (λ n. AreAllAdded forest n deltas) most (subst (AreAllAdded forest (length batch)) (sym named) (all-added forest (names_at store.dicts) batch stored))
 
   -- it has begun
-  pub is_begun : (progress : Progress) → 0 < length batch → names_len ≡ forest.body.names_len + length entries → names_len ≤ max_names_len → ((a : ℕ) → slice_index store.shown.at a ≤ length (names_at store.dicts a))
+  pub is_begun : (progress : Progress) → 0 < length batch → last ≤ forest.body.last + 1 → names_len ≡ forest.body.names_len + length entries → names_len ≤ max_names_len → ((a : ℕ) → slice_index store.shown.at a ≤ length (names_at store.dicts a))
       → names_len ≤ length (canonical forest.schema) + entries_len store.dicts
-      → IsBegun (record { store = store; deltas = deltas; entries = entries; next = next_body forest.body names_len count masses; progress = progress })
-  is_begun progress some longer short shown counted_names = record {
+      → IsBegun (record { store = store; deltas = deltas; entries = entries; next = next_body forest.body names_len count last masses; progress = progress })
+  is_begun progress some near longer short shown counted_names = record {
     lists = ap length named ∙ length-map forest.mapping.trees (named_tree (names_at store.dicts) forest.schema batch);
     added = more-added;
     more = omega (arith, counted, some);
     next = record {
-      body = body_is forest.body names_len count masses (length batch) forest.within (omega (arith, longer)) short some counted few (ap length up) within;
+      body = body_is forest.body names_len count last masses (length batch) forest.within (omega (arith, longer)) short some counted few near (ap length up) within;
       views = refl;
       schema_len = refl;
       generation = refl;
@@ -68,7 +68,7 @@ module _ (store : Store) (batch : List Fact) (coded : List (List ℕ)) (deltas :
   pub is_refresh : (progress : Progress) (accepted : List Fact) (files : Files) → AreAccepted forest.schema accepted → IsLive forest.schema forest.body accepted files
       → ((a : ℕ) → shown_names store.dicts store.shown.at a ≡ names_of accepted a) → HoldsNamesOf store.dicts (accepted ++ batch) → HasNames forest.schema (accepted ++ batch)
       → AddsNames accepted batch entries
-      → IsRefreshOf (record { store = store; deltas = deltas; entries = entries; next = next_body forest.body names_len count masses; progress = progress }) accepted batch files
+      → IsRefreshOf (record { store = store; deltas = deltas; entries = entries; next = next_body forest.body names_len count last masses; progress = progress }) accepted batch files
   is_refresh progress accepted files fine live shown names fit adds =
       let all = summed forest.schema files forest.body accepted batch count forest.body.masses masses live counted few refl up within in
       let as_names : names_at store.dicts ≡ names_of (accepted ++ batch) = (λ i a. names a i) in

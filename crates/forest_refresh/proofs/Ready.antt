@@ -98,10 +98,10 @@ zeros_at (suc n) zero = refl
 zeros_at (suc n) (suc i) = zeros_at n i
 
 -- the body of the next generation
-pub body_is : (live : Body) (names_len facts : ℕ) (masses : List ℕ) (more : ℕ) → IsSound live → live.names_len ≤ names_len → names_len ≤ max_names_len → 0 < more → facts ≡ live.facts + more → facts ≤ max_facts
-    → length masses ≡ 4 → ((m : ℕ) → m < 4 → slice_index masses m ≤ mass_limit)
-    → IsBody (slot_of (next_body live names_len facts masses)) (next_body live names_len facts masses)
-body_is live names_len facts masses more sound longer short some all few long within = record {
+pub body_is : (live : Body) (names_len facts last : ℕ) (masses : List ℕ) (more : ℕ) → IsSound live → live.names_len ≤ names_len → names_len ≤ max_names_len → 0 < more → facts ≡ live.facts + more → facts ≤ max_facts
+    → last ≤ live.last + 1 → length masses ≡ 4 → ((m : ℕ) → m < 4 → slice_index masses m ≤ mass_limit)
+    → IsBody (slot_of (next_body live names_len facts last masses)) (next_body live names_len facts last masses)
+body_is live names_len facts last masses more sound longer short some all few near long within = record {
   within = record {
     views = sound.within.views;
     few_views = sound.within.few_views;
@@ -109,6 +109,7 @@ body_is live names_len facts masses more sound longer short some all few long wi
     names_len = short;
     facts = few;
     generation = omega (arith, all, sound.within.generation, some);
+    last = omega (arith, near, all, sound.within.last, some);
     side = refl;
   };
   schema_fits = sound.schema_fits;
@@ -131,6 +132,7 @@ body_with next counts sound numbers = record {
     names_len = sound.within.names_len;
     facts = sound.within.facts;
     generation = sound.within.generation;
+    last = sound.within.last;
     side = sound.within.side;
   };
   schema_fits = sound.schema_fits;

@@ -34,7 +34,7 @@ module _ (spare from : ℕ) (x y : Files) (differs : DiffersPast (2 + spare) fro
   pub live-on : spare < 2 → (schema : Schema) (body : Body) (accepted : List Fact) → spare ≢ slot_of body → IsLive schema body accepted x → IsLive schema body accepted y
   live-on low schema body accepted other live =
       let side : slot_of body ≡ live.slot = live.at.decodes.1.within.side in
-      record { slot = live.slot; at = pages_keep (held schema accepted) live.slot spare body low (λ same. other (sym (side ∙ same))) x y live.at from differs }
+      record { slot = live.slot; at = pages_keep (held schema accepted body.last) live.slot spare body low (λ same. other (sym (side ∙ same))) x y live.at from differs }
 
   module _ (forest : Forest) (other : spare ≢ slot_of forest.body) (t : ℕ) (delta : List Entry) where
     abbrev place : Place

@@ -83,6 +83,7 @@ pub record IsNextStore (r : Begun) (store : Store) : Type 0 where
   pub schema : store.forest.schema ≡ r.store.forest.schema
   pub generation : store.forest.body.generation ≡ r.store.forest.body.generation + 1
   pub facts : store.forest.body.facts ≡ r.next.facts
+  pub last : store.forest.body.last ≡ r.next.last
   pub names : store.dicts ≡ r.store.dicts
   pub whole : IsWhole store
 

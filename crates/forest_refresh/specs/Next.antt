@@ -1,5 +1,5 @@
 -- The body of the next generation, and what is counted on the way to it.
-use Rattle.std.specs.Prelude.{◌≡◌, ℕ, ◌+◌, ◌-◌, ◌<◌, ◌≤◌, get_or, map, List, [], ◌∷◌, ◌++◌, length, slice_index, replicate}
+use Rattle.std.specs.Prelude.{◌≡◌, ℕ, ◌+◌, ◌-◌, ◌<◌, ◌≤◌, get_or, map, List, [], ◌∷◌, ◌++◌, length, slice_index, replicate, Option, Some, None}
 use Rattle.std.specs.List.{All, range_with_len}
 use Rattle.fact_model.specs.declared.fact.Fact.{Fact}
 use Rattle.fact_model.specs.Fact.{mass, mass_limit}
@@ -56,14 +56,20 @@ pub record HasNumbers (views most : ℕ) (counts : List ℕ) : Type 0 where
   pub few : (i : ℕ) → slice_index counts i ≤ most
   pub past : (i : ℕ) → views ≤ i → slice_index counts i ≡ 0
 
--- the body of the next generation, with so many names and facts and these masses, and without numbers of points
-abbrev pub next_body : Body → ℕ → ℕ → List ℕ → Body
-next_body live names_len facts masses = record {
+-- the number of the last numbered batch behind a batch, which may have one
+abbrev pub last_behind : ℕ → Option ℕ → ℕ
+last_behind last (Some number) = number
+last_behind last None = last
+
+-- the body of the next generation, with so many names and facts, this last number and these masses, and without numbers of points
+abbrev pub next_body : Body → ℕ → ℕ → ℕ → List ℕ → Body
+next_body live names_len facts last masses = record {
   views = live.views;
   schema_len = live.schema_len;
   generation = live.generation + 1;
   names_len = names_len;
   facts = facts;
+  last = last;
   masses = masses;
   counts = replicate 32 0;
 }

@@ -35,16 +35,16 @@ pub(crate) fn commit<T: Site>(
     requires shut { IsTrue T.tells → IsShut (slot_of next) ((T.disk site.old).files 0) }
     requires place { IsTrue T.tells → HasRoot store.forest.body (T.disk site.old).files }
 
-    ensures committed { IsTrue T.tells → (accepted all : List facts.Fact) (old : ℕ) → IsLiveNow (held store.forest.schema accepted) old store.forest.body (T.disk site.old)
-        → IsBodyOf (held store.forest.schema all) next → names_text store.forest.schema all ≡ names_text store.forest.schema accepted ++ names.now
+    ensures committed { IsTrue T.tells → (accepted all : List facts.Fact) (old : ℕ) → IsLiveNow (held store.forest.schema accepted store.forest.body.last) old store.forest.body (T.disk site.old)
+        → IsBodyOf (held store.forest.schema all next.last) next → names_text store.forest.schema all ≡ names_text store.forest.schema accepted ++ names.now
         → take (length (forest store.forest.schema all)) ((T.disk site.old).files (2 + slot_of next)) ≡ forest store.forest.schema all
         → IfOk result (λ done. IsLive store.forest.schema done.forest.body all (T.disk site.new).files) }
-    ensures any_moment { IsTrue T.tells → (accepted all : List facts.Fact) (old : ℕ) → IsLiveNow (held store.forest.schema accepted) old store.forest.body (T.disk site.old)
+    ensures any_moment { IsTrue T.tells → (accepted all : List facts.Fact) (old : ℕ) → IsLiveNow (held store.forest.schema accepted store.forest.body.last) old store.forest.body (T.disk site.old)
         → AreAccepted store.forest.schema all
-        → IsBodyOf (held store.forest.schema all) next → names_text store.forest.schema all ≡ names_text store.forest.schema accepted ++ names.now
+        → IsBodyOf (held store.forest.schema all next.last) next → names_text store.forest.schema all ≡ names_text store.forest.schema accepted ++ names.now
         → take (length (forest store.forest.schema all)) ((T.disk site.old).files (2 + slot_of next)) ≡ forest store.forest.schema all
         → LeavesOnly (T.disk site.old) (T.disk site.new) (λ told files.
-        (told ≡ (T.disk site.old).told) × KeepsEither store.forest.schema accepted all files) }
+        (told ≡ (T.disk site.old).told) × KeepsEither store.forest.schema accepted store.forest.body.last all next.last files) }
 
     ensures schema { IfOk result (λ done. done.forest.schema ≡ store.forest.schema) }
     ensures body { IfOk result (λ done. done.forest.body ≡ next) }

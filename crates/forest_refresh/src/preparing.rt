@@ -42,16 +42,24 @@ pub(crate) struct Prepared {
     pub room: Room,
 }
 
-/// Prepares a batch of at least one fact. It gives codes to its new names, which slices do not know; without an Ok they are forgotten.
-pub(crate) fn prepare(alloc: Global, store: &mut Store, facts: Batch) -> Result<Prepared, BeginStop>
+/// Prepares a batch of at least one fact, behind which this is the number of the last numbered batch. It gives codes to its new names, which
+/// slices do not know; without an Ok they are forgotten.
+pub(crate) fn prepare(
+    alloc: Global,
+    store: &mut Store,
+    facts: Batch,
+    last: u64,
+) -> Result<Prepared, BeginStop>
     requires batch { IsBatchOf store.old.forest.schema facts }
     requires whole { IsWhole store.old }
+    requires last { last ≤ store.old.forest.body.last + 1 }
 
     ensures prepared { IfOk result (λ p. IsBegun (begun_with store.new p)) }
     ensures room { IfOk result (λ p. length p.deltas ≤ vec_capacity p.room.rows) }
     ensures goes { IfOk result (λ p. IsGoing (begun_with store.new p)) }
     ensures moved { (files : Files) → IfOk result (λ p. HasMoved (begun_with store.new p) files) }
     ensures taken { IfOk result (λ p. p.room.taken ≡ 0) }
+    ensures last { IfOk result (λ p. p.next.last ≡ last) }
     ensures adds { (accepted : List declared.Fact) (files : Files) → IsStoreOf store.old accepted files
         → IfOk result (λ p. IsRefreshOf (begun_with store.new p) accepted facts files) }
     ensures points { IfOk result (λ p. p.deltas ≡ deltas_by (names_with store.old.dicts facts) store.old.forest.schema facts) }
@@ -66,7 +74,7 @@ pub(crate) fn prepare(alloc: Global, store: &mut Store, facts: Batch) -> Result<
     let count = total(store.forest.body.facts, facts.len())?;
     let before = store.dicts.lengths();
     let admitted = store.dicts.admit(&facts)?;
-    match prepare_with(alloc, store, facts, count, admitted) {
+    match prepare_with(alloc, store, facts, count, last, admitted) {
         Ok(prepared) => Ok(prepared),
         Err(stop) => {
             store.dicts.forget(&before);
@@ -75,17 +83,19 @@ pub(crate) fn prepare(alloc: Global, store: &mut Store, facts: Batch) -> Result<
     }
 }
 
-/// Prepares a batch whose names have codes, up to so many facts.
+/// Prepares a batch whose names have codes, up to so many facts and this last number.
 fn prepare_with(
     alloc: Global,
     store: &Store,
     facts: Batch,
     count: u64,
+    last: u64,
     admitted: Admitted,
 ) -> Result<Prepared, BeginStop>
     requires batch { IsBatchOf store.now.forest.schema facts }
     requires total { count ≡ store.now.forest.body.facts + length facts }
     requires few { count ≤ max_facts }
+    requires last { last ≤ store.now.forest.body.last + 1 }
     requires coded { AreCoded store.now.dicts store.now.forest.schema admitted.coded facts }
     requires shown { (a : ℕ) → slice_index store.now.shown.at a ≤ length (names_at store.now.dicts a) }
     requires names { store.now.forest.body.names_len + length admitted.names
@@ -97,6 +107,7 @@ fn prepare_with(
     ensures goes { IfOk result (λ p. IsGoing (begun_with store.now p)) }
     ensures moved { (files : Files) → IfOk result (λ p. HasMoved (begun_with store.now p) files) }
     ensures taken { IfOk result (λ p. p.room.taken ≡ 0) }
+    ensures last { IfOk result (λ p. p.next.last ≡ last) }
     ensures adds { (accepted : List declared.Fact) (files : Files) → AreAccepted store.now.forest.schema accepted
         → IsLive store.now.forest.schema store.now.forest.body accepted files
         → ((a : ℕ) → shown_names store.now.dicts store.now.shown.at a ≡ names_of accepted a)
@@ -119,7 +130,7 @@ fn prepare_with(
         facts,
     )?;
     let mut room = take_room(alloc, deltas.len())?;
-    let next = next_body(&forest.body, names_len, count, masses);
+    let next = next_body(&forest.body, names_len, count, last, masses);
     start_trees(forest, &deltas, slot(&next), &mut room);
     Ok(Prepared {
         deltas,
@@ -130,9 +141,9 @@ fn prepare_with(
 }
 
 /// The body of the next generation, without numbers of points.
-fn next_body(live: &Body, names_len: u64, facts: u64, masses: [u128; 4]) -> Body
+fn next_body(live: &Body, names_len: u64, facts: u64, last: u64, masses: [u128; 4]) -> Body
     requires { live.now.generation ≤ max_facts }
-    ensures { result ≡ next_body live.now names_len facts masses }
+    ensures { result ≡ next_body live.now names_len facts last masses }
 {
     Body {
         views: live.views,
@@ -140,6 +151,7 @@ fn next_body(live: &Body, names_len: u64, facts: u64, masses: [u128; 4]) -> Body
         generation: live.generation + 1,
         names_len,
         facts,
+        last,
         masses,
         counts: [0; 32],
     }

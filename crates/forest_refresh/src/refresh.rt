@@ -1,5 +1,5 @@
 //! A refresh that has begun, and how it ends.
-ghost use Rattle.std.specs.Prelude.{◌≡◌, ◌≢◌, ◌<◌, ◌≤◌, ◌+◌, ◌-◌, ◌++◌, ℕ, IsTrue, IfOk, IfErr, OnOk, List, length, min, slice_index, vec_capacity};
+ghost use Rattle.std.specs.Prelude.{◌≡◌, ◌≢◌, ◌<◌, ◌≤◌, ◌+◌, ◌-◌, ◌++◌, ℕ, IsTrue, IfOk, IfErr, IfSome, OnOk, List, length, min, slice_index, vec_capacity};
 ghost use Rattle.site_core.specs.Disk.{Files};
 ghost use Rattle.site_core.specs.Causes.{HasCause};
 ghost use Rattle.site_core.specs.Moments.{HoldsNow, IsStable, LeavesOnly};
@@ -15,6 +15,7 @@ ghost use Rattle.forest_store.specs.Stored.{IsStoreOf, IsWhole};
 ghost use Rattle.forest_refresh.specs.Back.{BeginCause, IsBack, IsCut};
 ghost use Rattle.forest_refresh.specs.Begun.{HasMoved, IsBegun, IsGoing, IsNextStore, IsReady, IsRefreshOf, StandsAt};
 ghost use Rattle.forest_refresh.specs.Limits.{IsBatchOf, TellsLimit};
+ghost use Rattle.forest_refresh.specs.Next.{last_behind};
 ghost use Rattle.forest_moves.specs.Forest.{forest_moves};
 ghost use Rattle.packing.specs.Moves.{KeepsTo};
 ghost use Rattle.merge_pack.specs.Standing.{moves_tried};
@@ -60,7 +61,8 @@ impl Model for Refresh {
 
 impl Refresh {
     /// Begins to take in a batch of 1 to 262,144 facts: tries the limits, gives codes to its new names, which slices do not know, makes its
-    /// points, takes all memory that is needed to the end, and then shuts the gate of the next generation.
+    /// points, takes all memory that is needed to the end, and then shuts the gate of the next generation. A batch may have a number, which is
+    /// the last one plus 1, and is the last one from its commit on.
     ///
     /// `FactsFull`, `NamesFull` and `Mass` name the first limit that all facts would pass, in this order. They and `Memory` come before any
     /// call on a file. The store is handed back as it was, also after `Disk`, and then nothing is said of the gate. A stop at any moment
@@ -70,8 +72,10 @@ impl Refresh {
         site: &mut T,
         store: Store,
         facts: Batch,
+        number: Option<u64>,
     ) -> Result<Refresh, BeginFault>
         requires batch { IsBatchOf store.forest.schema facts }
+        requires number { IfSome number (λ n. n ≡ store.forest.body.last + 1) }
         requires whole { IsWhole store }
         requires opened { IsTrue T.tells → IsOpened store.forest.body (T.disk site.old) }
 
@@ -81,7 +85,8 @@ impl Refresh {
             → IfErr result (λ fault. TellsLimit store.forest.schema (accepted ++ facts) fault.why) }
         ensures any_moment { IsTrue T.tells → (accepted : List declared.Fact) → HoldsNow (IsStoreOf store accepted) (T.disk site.old)
             → LeavesOnly (T.disk site.old) (T.disk site.new) (λ told files.
-            (told ≡ (T.disk site.old).told) × KeepsFacts store.forest.schema accepted files) }
+            (told ≡ (T.disk site.old).told) × KeepsFacts store.forest.schema accepted store.forest.body.last files) }
+        ensures last { IfOk result (λ refresh. refresh.next.last ≡ last_behind store.forest.body.last number) }
 
         ensures ready { IsTrue T.tells → IfOk result (λ refresh. IsReady refresh (T.disk site.new)) }
         ensures goes { IfOk result (λ refresh. IsGoing refresh × (refresh.progress.taken ≡ 0)) }
@@ -96,7 +101,8 @@ impl Refresh {
         ensures calls { CallsOnly T.Site BeginCause 1 1 site.old site.new result }
     {
         let mut store = store;
-        match prepare(alloc, &mut store, facts) {
+        let last = number.unwrap_or(store.forest.body.last);
+        match prepare(alloc, &mut store, facts, last) {
             Ok(prepared) => shut_gate(site, store, prepared),
             Err(why) => Err(BeginFault { store, why }),
         }
@@ -142,7 +148,7 @@ impl Refresh {
             → HoldsNow (IsRefreshOf self.new accepted batch) (T.disk site.new) }
         ensures any_moment { IsTrue T.tells → (accepted batch : List declared.Fact) → HoldsNow (IsRefreshOf self.old accepted batch) (T.disk site.old)
             → LeavesOnly (T.disk site.old) (T.disk site.new) (λ told files.
-            (told ≡ (T.disk site.old).told) × KeepsFacts self.old.store.forest.schema accepted files) }
+            (told ≡ (T.disk site.old).told) × KeepsFacts self.old.store.forest.schema accepted self.old.store.forest.body.last files) }
         ensures undamaged { IsTrue T.tells → (accepted batch : List declared.Fact) → IsRefreshOf self.old accepted batch (T.disk site.old).files
             → IfErr result IsNoDamage }
         ensures cost { IsTrue T.tells → (accepted batch : List declared.Fact) → IsRefreshOf self.old accepted batch (T.disk site.old).files
@@ -188,7 +194,7 @@ impl Refresh {
             → IfErr result IsNoDamage }
         ensures any_moment { IsTrue T.tells → (accepted batch : List declared.Fact) → HoldsNow (IsRefreshOf self accepted batch) (T.disk site.old)
             → LeavesOnly (T.disk site.old) (T.disk site.new) (λ told files.
-            (told ≡ (T.disk site.old).told) × KeepsEither self.store.forest.schema accepted (accepted ++ batch) files) }
+            (told ≡ (T.disk site.old).told) × KeepsEither self.store.forest.schema accepted self.store.forest.body.last (accepted ++ batch) self.next.last files) }
         ensures cost { IsTrue T.tells → (accepted batch : List declared.Fact) → IsRefreshOf self accepted batch (T.disk site.old).files
             → KeepsTo (forest_moves self.store.forest.schema accepted batch) self.progress.taken (length (forest_moves self.store.forest.schema accepted batch))
             (T.reads site.old, T.writes site.old + 3) (T.reads site.new, T.writes site.new) }
@@ -251,7 +257,7 @@ fn shut_gate<T: Site>(site: &mut T, store: Store, prepared: Prepared) -> Result<
         → OnOk result (IsLive store.forest.schema store.forest.body accepted (T.disk site.new).files) }
     ensures any_moment { IsTrue T.tells → (accepted : List declared.Fact)
         → HoldsNow (IsLive store.forest.schema store.forest.body accepted) (T.disk site.old) → LeavesOnly (T.disk site.old) (T.disk site.new) (λ told files.
-        (told ≡ (T.disk site.old).told) × KeepsFacts store.forest.schema accepted files) }
+        (told ≡ (T.disk site.old).told) × KeepsFacts store.forest.schema accepted store.forest.body.last files) }
     ensures ready { IsTrue T.tells → OnOk result (IsReady (begun_with store prepared) (T.disk site.new)) }
     ensures stable { IsTrue T.tells → OnOk result (IsStable (T.disk site.new)) }
     ensures others { IsTrue T.tells → OnOk result ((file : ℕ) → file ≢ 0 → (T.disk site.new).files file ≡ (T.disk site.old).files file) }

@@ -1,5 +1,5 @@
 -- The fields stand in the bytes of a body.
-use Rattle.std.proofs.Common.{◌≡◌, ◌<◌, ◌+◌, ◌*◌, ◌^◌, List, ℕ, zero, suc, [], ◌∷◌, ◌++◌, length, take, drop, replicate, slice_index, refl, sym, ◌∙◌, ap, arith, append-nil}
+use Rattle.std.proofs.Common.{◌≡◌, ◌<◌, ◌+◌, ◌*◌, ◌^◌, List, ℕ, zero, suc, [], ◌∷◌, ◌++◌, length, take, drop, replicate, slice_index, refl, sym, ◌∙◌, ap, arith, append-nil, length-append}
 use Rattle.std.proofs.lemmas.List.{take_at, drop_at, ext_get_or, append_assoc}
 use Rattle.std.proofs.Math.Seq.{drop-append-add}
 use Rattle.std.specs.List.{flat_map}
@@ -9,8 +9,8 @@ use Rattle.forest_root.specs.declared.body.Body.{Body}
 use Rattle.forest_root.specs.Body.{encoding, marker, IsBody}
 use Rattle.forest_root.proofs.Encoded.{length-numbers}
 
-pub same_body : (a b : Body) → a.views ≡ b.views → a.schema_len ≡ b.schema_len → a.generation ≡ b.generation → a.names_len ≡ b.names_len → a.facts ≡ b.facts → a.masses ≡ b.masses → a.counts ≡ b.counts → a ≡ b
-same_body a b e1 e2 e3 e4 e5 e6 e7 = λ i. record { views = e1 i; schema_len = e2 i; generation = e3 i; names_len = e4 i; facts = e5 i; masses = e6 i; counts = e7 i }
+pub same_body : (a b : Body) → a.views ≡ b.views → a.schema_len ≡ b.schema_len → a.generation ≡ b.generation → a.names_len ≡ b.names_len → a.facts ≡ b.facts → a.last ≡ b.last → a.masses ≡ b.masses → a.counts ≡ b.counts → a ≡ b
+same_body a b e1 e2 e3 e4 e5 e6 e7 e8 = λ i. record { views = e1 i; schema_len = e2 i; generation = e3 i; names_len = e4 i; facts = e5 i; last = e6 i; masses = e7 i; counts = e8 i }
 
 -- a number is read back
 pub number_back : (k x : ℕ) (bytes : List ℕ) → x < 256 ^ k → bytes ≡ big_bytes k x → big_number k bytes ≡ x
@@ -31,19 +31,30 @@ pub list_back : (k : ℕ) (xs src dst : List ℕ) → length dst ≡ length xs �
 list_back k xs src dst long each is read = ext_get_or 0 dst xs long (λ i low. read i low ∙ ap (λ (l : List ℕ). big_number k (drop (k * i) l)) is ∙ numbers_back k xs i each (omega arith))
 
 module _ (slot : ℕ) (b : Body) (fits : IsBody slot b) where
-  masses : List ℕ
+  abbrev masses : List ℕ
   masses = flat_map (big_bytes 16) b.masses
 
-  counts : List ℕ
+  abbrev counts : List ℕ
   counts = flat_map (big_bytes 8) b.counts
 
-  back : drop 40 (encoding b) ≡ flat_map (big_bytes 16) b.masses ++ flat_map (big_bytes 8) b.counts ++ replicate 664 0
+  -- what stands behind the numbers of points
+  abbrev behind : List ℕ
+  behind = big_bytes 8 b.last ++ replicate 656 0
+
+  all_behind : masses ++ counts ++ big_bytes 8 b.last ++ replicate 656 0 ≡ masses ++ counts ++ behind
+  all_behind = append_assoc (masses ++ counts) (big_bytes 8 b.last) (replicate 656 0)
+
+  back : drop 40 (encoding b) ≡ masses ++ counts ++ big_bytes 8 b.last ++ replicate 656 0
   unfolding encoding marker
   back = refl
 
-  back_counts : drop 104 (encoding b) ≡ drop 64 (flat_map (big_bytes 16) b.masses ++ flat_map (big_bytes 8) b.counts ++ replicate 664 0)
+  back_counts : drop 104 (encoding b) ≡ drop 64 (masses ++ counts ++ big_bytes 8 b.last ++ replicate 656 0)
   unfolding encoding marker
   back_counts = refl
+
+  back_last : drop 360 (encoding b) ≡ drop 320 (masses ++ counts ++ big_bytes 8 b.last ++ replicate 656 0)
+  unfolding encoding marker
+  back_last = refl
 
   module _ (bytes : List ℕ) (is : bytes ≡ encoding b) where
     pub views_at : take 2 (drop 10 bytes) ≡ big_bytes 2 b.views
@@ -72,16 +83,23 @@ module _ (slot : ℕ) (b : Body) (fits : IsBody slot b) where
     long_counts : length (flat_map (big_bytes 8) b.counts) ≡ 256
     long_counts = omega (arith, length-numbers 8 b.counts, fits.counts)
 
-    pub masses_at : take 64 (drop 40 bytes) ≡ flat_map (big_bytes 16) b.masses
-    masses_at = ap (λ (l : List ℕ). take 64 (drop 40 l)) is ∙ ap (take 64) back
-        ∙ ap (take 64) (append_assoc (flat_map (big_bytes 16) b.masses) (flat_map (big_bytes 8) b.counts) (replicate 664 0))
-        ∙ take_at (flat_map (big_bytes 16) b.masses) (flat_map (big_bytes 8) b.counts ++ replicate 664 0) 64 long_masses
+    long_both : length (masses ++ counts) ≡ 320
+    long_both = omega (arith, length-append masses counts, long_masses, long_counts)
 
-    pub counts_at : take 256 (drop 104 bytes) ≡ flat_map (big_bytes 8) b.counts
+    pub masses_at : take 64 (drop 40 bytes) ≡ masses
+    masses_at = ap (λ (l : List ℕ). take 64 (drop 40 l)) is ∙ ap (take 64) back ∙ ap (take 64) all_behind ∙ ap (take 64) (append_assoc masses counts behind)
+        ∙ take_at masses (counts ++ behind) 64 long_masses
+
+    pub counts_at : take 256 (drop 104 bytes) ≡ counts
     counts_at = ap (λ (l : List ℕ). take 256 (drop 104 l)) is ∙ ap (take 256) back_counts
-        ∙ ap (λ (l : List ℕ). take 256 (drop 64 l)) (append_assoc (flat_map (big_bytes 16) b.masses) (flat_map (big_bytes 8) b.counts) (replicate 664 0))
-        ∙ ap (take 256) (drop_at (flat_map (big_bytes 16) b.masses) (flat_map (big_bytes 8) b.counts ++ replicate 664 0) 64 long_masses)
-        ∙ take_at (flat_map (big_bytes 8) b.counts) (replicate 664 0) 256 long_counts
+        ∙ ap (λ (l : List ℕ). take 256 (drop 64 l)) (all_behind ∙ append_assoc masses counts behind)
+        ∙ ap (take 256) (drop_at masses (counts ++ behind) 64 long_masses)
+        ∙ take_at counts behind 256 long_counts
+
+    pub last_at : take 8 (drop 360 bytes) ≡ big_bytes 8 b.last
+    last_at = ap (λ (l : List ℕ). take 8 (drop 360 l)) is ∙ ap (take 8) back_last ∙ ap (λ (l : List ℕ). take 8 (drop 320 l)) all_behind
+        ∙ ap (take 8) (drop_at (masses ++ counts) behind 320 long_both)
+        ∙ take_at (big_bytes 8 b.last) (replicate 656 0) 8 (length-bytes_high_first 8 b.last)
 
 module _ (slot : ℕ) (b : Body) (fits : IsBody slot b) where
   pub mass_low : (j : ℕ) → j < length b.masses → slice_index b.masses j < 256 ^ 16

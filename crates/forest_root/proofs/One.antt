@@ -9,7 +9,7 @@ use Rattle.forest_root.specs.Body.{encoding, IsBody}
 use Rattle.forest_root.specs.Root.{body_in}
 use Rattle.forest_root.specs.Keeps.{Held, LiveAt}
 use Rattle.forest_root.specs.Live.{IsLiveBody}
-use Rattle.forest_root.proofs.Decoded.{same_body, number_back, numbers_back, views_at, schema_len_at, generation_at, names_len_at, facts_at, masses_at, counts_at, mass_low, count_low}
+use Rattle.forest_root.proofs.Decoded.{same_body, number_back, numbers_back, views_at, schema_len_at, generation_at, names_len_at, facts_at, last_at, masses_at, counts_at, mass_low, count_low}
 
 one_number : (k x y : ℕ) → x < 256 ^ k → y < 256 ^ k → big_bytes k x ≡ big_bytes k y → x ≡ y
 one_number k x y low_x low_y is = sym (number_back k x (big_bytes k x) low_x refl) ∙ number_back k y (big_bytes k x) low_y is
@@ -27,6 +27,7 @@ module _ (s t : ℕ) (a b : Body) (fa : IsBody s a) (fb : IsBody t b) (is : enco
       (one_number 8 a.generation b.generation (omega (arith, fa.within.generation, fa.within.facts)) (omega (arith, fb.within.generation, fb.within.facts)) (sym (generation_at s a fa (encoding a) refl) ∙ generation_at t b fb (encoding a) is))
       (one_number 8 a.names_len b.names_len (omega (arith, fa.within.names_len)) (omega (arith, fb.within.names_len)) (sym (names_len_at s a fa (encoding a) refl) ∙ names_len_at t b fb (encoding a) is))
       (one_number 8 a.facts b.facts (omega (arith, fa.within.facts)) (omega (arith, fb.within.facts)) (sym (facts_at s a fa (encoding a) refl) ∙ facts_at t b fb (encoding a) is))
+      (one_number 8 a.last b.last (omega (arith, fa.within.last, fa.within.facts)) (omega (arith, fb.within.last, fb.within.facts)) (sym (last_at s a fa (encoding a) refl) ∙ last_at t b fb (encoding a) is))
       (one_list 16 a.masses b.masses (fa.masses ∙ sym fb.masses) (mass_low s a fa) (mass_low t b fb) (sym (masses_at s a fa (encoding a) refl) ∙ masses_at t b fb (encoding a) is))
       (one_list 8 a.counts b.counts (fa.counts ∙ sym fb.counts) (count_low s a fa) (count_low t b fb) (sym (counts_at s a fa (encoding a) refl) ∙ counts_at t b fb (encoding a) is))
 

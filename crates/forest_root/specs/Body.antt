@@ -18,13 +18,13 @@ format = 1
 
 -- how many zeros fill a body up
 abbrev pub padding : ℕ
-padding = 664
+padding = 656
 
 -- the bytes of a body, its numbers big-endian
 unfoldable pub encoding : Body → List ℕ
 encoding body = marker ++ big_bytes 2 format ++ big_bytes 2 body.views ++ big_bytes 4 body.schema_len
     ++ big_bytes 8 body.generation ++ big_bytes 8 body.names_len ++ big_bytes 8 body.facts
-    ++ flat_map (big_bytes 16) body.masses ++ flat_map (big_bytes 8) body.counts ++ replicate padding 0
+    ++ flat_map (big_bytes 16) body.masses ++ flat_map (big_bytes 8) body.counts ++ big_bytes 8 body.last ++ replicate padding 0
 
 -- the most views
 abbrev pub max_views : ℕ
@@ -50,6 +50,7 @@ pub record IsWithin (slot : ℕ) (body : Body) : Type 0 where
   pub names_len : body.names_len ≤ max_names_len
   pub facts : body.facts ≤ max_facts
   pub generation : body.generation ≤ body.facts
+  pub last : body.last ≤ body.facts
   pub side : body.generation % 2 ≡ slot
 
 -- no mass is too large

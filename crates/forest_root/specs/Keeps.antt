@@ -13,6 +13,8 @@ pub record Held : Type 0 where
   -- the front of the names file
   pub names : List ℕ
   pub facts : ℕ
+  -- the number of the last numbered batch
+  pub last : ℕ
   -- four masses and 32 numbers of points, zero past those that there are
   pub masses : List ℕ
   pub counts : List ℕ
@@ -25,6 +27,7 @@ pub record IsBodyOf (held : Held) (body : Body) : Type 0 where
   pub schema_len : body.schema_len ≡ held.schema_len
   pub names_len : body.names_len ≡ length held.names
   pub facts : body.facts ≡ held.facts
+  pub last : body.last ≡ held.last
   pub masses : body.masses ≡ held.masses
   pub counts : body.counts ≡ held.counts
 

@@ -28,7 +28,9 @@ const MASSES: usize = 40;
 
 const COUNTS: usize = 104;
 
-const ZEROS: usize = 360;
+const LAST: usize = 360;
+
+const ZEROS: usize = 368;
 
 const MAX_VIEWS: u16 = 32;
 
@@ -53,6 +55,8 @@ pub struct Body {
     pub names_len: u64,
     /// The number of accepted facts.
     pub facts: u64,
+    /// The number of the last numbered batch that was accepted; 0 where none was.
+    pub last: u64,
     /// For each measure the sum of the magnitudes of its values; 0 past the measures.
     pub masses: [u128; 4],
     /// For each view the number of its points; 0 past the views.
@@ -72,7 +76,8 @@ impl Body {
         BigEndian::write_u64(&mut into[NAMES_LEN..FACTS], self.names_len);
         BigEndian::write_u64(&mut into[FACTS..MASSES], self.facts);
         BigEndian::write_u128_into(&self.masses, &mut into[MASSES..COUNTS]);
-        BigEndian::write_u64_into(&self.counts, &mut into[COUNTS..ZEROS]);
+        BigEndian::write_u64_into(&self.counts, &mut into[COUNTS..LAST]);
+        BigEndian::write_u64(&mut into[LAST..ZEROS], self.last);
         into[ZEROS..].copy_from_slice(&[0; BODY_SIZE - ZEROS]);
     }
 
@@ -104,13 +109,14 @@ impl Body {
         let mut masses = [0; 4];
         BigEndian::read_u128_into(&bytes[MASSES..COUNTS], &mut masses);
         let mut counts = [0; 32];
-        BigEndian::read_u64_into(&bytes[COUNTS..ZEROS], &mut counts);
+        BigEndian::read_u64_into(&bytes[COUNTS..LAST], &mut counts);
         Body {
             views: BigEndian::read_u16(&bytes[VIEWS..SCHEMA_LEN]),
             schema_len: BigEndian::read_u32(&bytes[SCHEMA_LEN..GENERATION]),
             generation: BigEndian::read_u64(&bytes[GENERATION..NAMES_LEN]),
             names_len: BigEndian::read_u64(&bytes[NAMES_LEN..FACTS]),
             facts: BigEndian::read_u64(&bytes[FACTS..MASSES]),
+            last: BigEndian::read_u64(&bytes[LAST..ZEROS]),
             masses,
             counts,
         }
@@ -126,6 +132,7 @@ impl Body {
             && self.names_len <= MAX_NAMES_LEN
             && self.facts <= MAX_FACTS
             && self.generation <= self.facts
+            && self.last <= self.facts
             && self.generation % 2 == slot as u64
     }
 

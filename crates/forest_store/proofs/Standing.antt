@@ -13,7 +13,7 @@ use Rattle.forest_store.specs.Held.{IsLive, KeepsFacts, held}
 use Rattle.forest_store.specs.Opened.{HasRoot, IsOpened}
 
 -- files with a live body keep its facts
-pub live_keeps : (schema : Schema) (live : Body) (facts : List Fact) (files : Files) → IsLive schema live facts files → KeepsFacts schema facts files
+pub live_keeps : (schema : Schema) (live : Body) (facts : List Fact) (files : Files) → IsLive schema live facts files → KeepsFacts schema facts live.last files
 live_keeps schema live facts files is = (is.slot, live, is.at)
 
 -- after calls that change nothing a stop still leaves what a read gives
@@ -35,10 +35,10 @@ rests_opened live old new rests opened = record { stable = rests_root old new re
 
 -- a live body is in the same slot in the files as read and in all that a stop may leave
 pub live_now : (schema : Schema) (live : Body) (facts : List Fact) (disk : Disk) (now : HoldsNow (IsLive schema live facts) disk)
-    → IsLiveNow (held schema facts) now.read.slot live disk
+    → IsLiveNow (held schema facts live.last) now.read.slot live disk
 live_now schema live facts disk now = record {
   read = now.read.at;
   left = λ files left.
       let is = now.left files left in
-      subst (λ slot. LiveAt (held schema facts) slot live files) (sym is.at.decodes.1.within.side ∙ now.read.at.decodes.1.within.side) is.at;
+      subst (λ slot. LiveAt (held schema facts live.last) slot live files) (sym is.at.decodes.1.within.side ∙ now.read.at.decodes.1.within.side) is.at;
 }

@@ -35,23 +35,24 @@ pub record AreAccepted (schema : Schema) (facts : List Fact) : Type 0 where
 abbrev pub names_text : Schema → List Fact → List ℕ
 names_text schema facts = canonical schema ++ entries_text (names facts)
 
--- what the files hold of these facts
-abbrev pub held : Schema → List Fact → Held
-held schema facts = record {
+-- what the files hold of these facts, where this is the number of the last numbered batch
+abbrev pub held : Schema → List Fact → ℕ → Held
+held schema facts last = record {
   views = length schema.views;
   schema_len = length (canonical schema);
   names = names_text schema facts;
   facts = length facts;
+  last = last;
   masses = masses_of facts;
   counts = body_counts schema facts;
   forest = forest schema facts;
 }
 
--- the files keep these facts
-abbrev pub KeepsFacts : Schema → List Fact → Files → Type 0
-KeepsFacts schema facts files = Keeps files (held schema facts)
+-- the files keep these facts, and the number of the last numbered batch
+abbrev pub KeepsFacts : Schema → List Fact → ℕ → Files → Type 0
+KeepsFacts schema facts last files = Keeps files (held schema facts last)
 
 -- this is the live body of files that keep these facts
 pub record IsLive (schema : Schema) (body : Body) (facts : List Fact) (files : Files) : Type 0 where
   pub slot : ℕ
-  pub at : LiveAt (held schema facts) slot body files
+  pub at : LiveAt (held schema facts body.last) slot body files

@@ -77,8 +77,14 @@ fn a_script_is_fed_in_pieces(rt: HostRuntime) -> Result<(), Fail> {
     let mut lines = Lines::new(rt.alloc());
     lines.feed(b"sta")?;
     assert!(rt; lines.next_command()?.is_none());
-    lines.feed(b"tus\nfin")?;
+    lines.feed(b"tus\nload 7\nend\nfin")?;
     assert!(rt; matches!(lines.next_command()?, Some(Command::Status)));
+    assert!(rt;
+        matches!(
+            lines.next_command()?,
+            Some(Command::LoadNumbered { number: 7, .. })
+        )
+    );
     assert!(rt; lines.next_command()?.is_none());
     lines.end();
     assert!(rt; matches!(lines.next_command()?, Some(Command::Unknown)));

@@ -24,9 +24,11 @@ use Rattle.slice_lang.specs.declared.refusal.SliceRefusal.TheVariants as slices
 use Rattle.slice_lang.specs.Reading.{slice_of}
 use Rattle.plain_machine.specs.declared.batch_source.BatchSource.{BatchSource}
 use Rattle.plain_machine.specs.declared.batch_source.BatchSource.TheVariants.{Rows, Generator}
-use Rattle.plain_machine.specs.World.{Kept, World, Warehouse, idle}
-use Rattle.plain_machine.specs.Machine.{Answer, abandon, accepted, act, batch_from, begin, begun, begun_or_refused, block_read, committed, declare, declare_over, declared, fact_limit, facts_or_refusal, finish, first_full, first_heavy, full_refusal, heavy_refusal, is_covered, load, pending_over, read_by, refusal_of, replies_with, rows_reply, slice, slice_over, slice_reply, status_over, status_text, step, take_over, unless}
+use Rattle.plain_machine.specs.World.{Kept, World, Warehouse}
+use Rattle.plain_machine.specs.Machine.{Answer, abandon, accepted, accepted_as, act, batch_from, begin, begun, begun_or_refused, block_read, committed, committed_as, declare, declare_over, declared, fact_limit, facts_or_refusal, finish, first_full, first_heavy, full_refusal, heavy_refusal, in_turn, is_covered, load, load_numbered, numbered_over, pending_over, read_by, refusal_of, replies_with, rows_reply, slice, slice_over, slice_reply, status_over, status_text, step, take_over, unless}
 use Rattle.plain_machine.specs.Stages.{size, makes_stage}
+use Rattle.plain_machine.specs.Histories.{number_given}
+use Rattle.plain_machine.proofs.Outcomes.{Outcome, stays, declares, commits, counts, outcome}
 
 -- ---- replies have a byte
 
@@ -91,12 +93,12 @@ unless_some : (world : World) (answer : Answer) (refusal : Option (List ℕ)) �
 unless_some world answer None some byte = some
 unless_some world answer (Some text) some byte = byte
 
-committed_some : (warehouse : Warehouse) (batch : List Fact) → 0 < length (committed warehouse batch).1
-committed_some warehouse batch = some_number (codes "committed ") (length (warehouse.facts ++ batch))
+committed_some : (last : ℕ) (warehouse : Warehouse) (batch : List Fact) → 0 < length (committed_as last warehouse batch).1
+committed_some last warehouse batch = some_number (codes "committed ") (length (warehouse.facts ++ batch))
 
 accepted_some : (world : World) (warehouse : Warehouse) (batch : List Fact) → 0 < length (accepted world warehouse batch).1
 accepted_some world warehouse batch =
-    unless_some world (committed warehouse batch) (refusal_of warehouse.schema (warehouse.facts ++ batch)) (committed_some warehouse batch)
+    unless_some world (committed warehouse batch) (refusal_of warehouse.schema (warehouse.facts ++ batch)) (committed_some warehouse.last warehouse batch)
     (refusal_some warehouse.schema (warehouse.facts ++ batch))
 
 begun_some : (world : World) (warehouse : Warehouse) (batch : List Fact) → 0 < length (begun_or_refused world warehouse batch).1
@@ -128,6 +130,28 @@ take_some : (world : World) (taken : Warehouse → List Fact → Answer) (kept :
 take_some world taken None pending source each = some_line (codes "refused no schema")
 take_some world taken (Some warehouse) (Some batch) source each = some_line (codes "refused pending")
 take_some world taken (Some warehouse) None source each = source_some world (taken warehouse) warehouse.schema source (each warehouse)
+
+accepted_as_some : (world : World) (number : ℕ) (warehouse : Warehouse) (batch : List Fact) → 0 < length (accepted_as world number warehouse batch).1
+accepted_as_some world number warehouse [] = some_line (codes "refused empty")
+accepted_as_some world number warehouse (x ∷ xs) =
+    unless_some world (committed_as number warehouse (x ∷ xs)) (refusal_of warehouse.schema (warehouse.facts ++ x ∷ xs)) (committed_some number warehouse (x ∷ xs))
+    (refusal_some warehouse.schema (warehouse.facts ++ x ∷ xs))
+
+-- of two answers each has a byte
+cond_some : (b : Bool) (first second : Answer) → 0 < length first.1 → 0 < length second.1 → 0 < length (cond b first second).1
+cond_some true first second here there = here
+cond_some false first second here there = there
+
+turn_some : (world : World) (number : ℕ) (warehouse : Warehouse) (block : Block) → 0 < length (in_turn world number warehouse block).1
+turn_some world number warehouse block =
+    cond_some (nat_le number warehouse.last) _ _ (some_number (codes "already ") number)
+    (cond_some (nat_lt (warehouse.last + 1) number) _ _ (some_number (codes "refused gap ") (warehouse.last + 1))
+    (block_some world (accepted_as world number warehouse) warehouse.schema block (accepted_as_some world number warehouse)))
+
+numbered_some : (world : World) (number : ℕ) (kept : Kept) (pending : Option (List Fact)) (block : Block) → 0 < length (numbered_over world number kept pending block).1
+numbered_some world number None pending block = some_line (codes "refused no schema")
+numbered_some world number (Some warehouse) (Some batch) block = some_line (codes "refused pending")
+numbered_some world number (Some warehouse) None block = turn_some world number warehouse block
 
 pending_some : (world : World) (answer : Warehouse → List Fact → Answer) (kept : Kept) (pending : Option (List Fact))
     → ((warehouse : Warehouse) (batch : List Fact) → 0 < length (answer warehouse batch).1) → 0 < length (pending_over world answer kept pending).1
@@ -171,10 +195,11 @@ pub reply_some : (world : World) (command : Command) → 0 < length (act world c
 unfolding act
 reply_some world (says.Schema block) = declare_some world world.kept block
 reply_some world (says.Load block) = take_some world (accepted world) world.kept world.pending (Rows block) (accepted_some world)
+reply_some world (says.LoadNumbered number block) = numbered_some world number world.kept world.pending block
 reply_some world (says.Generate start rows) = take_some world (accepted world) world.kept world.pending (Generator start rows) (accepted_some world)
 reply_some world (says.Begin block) = take_some world (begun_or_refused world) world.kept world.pending (Rows block) (begun_some world)
 reply_some world (says.Step n) = pending_some world _ world.kept world.pending (λ warehouse batch. some_line (codes "stepped"))
-reply_some world says.Finish = pending_some world committed world.kept world.pending committed_some
+reply_some world says.Finish = pending_some world committed world.kept world.pending (λ warehouse batch. committed_some warehouse.last warehouse batch)
 reply_some world says.Abandon = pending_some world _ world.kept world.pending (λ warehouse batch. some_line (codes "abandoned"))
 reply_some world (says.Slice text) = slice_some world.kept text
 reply_some world says.Status = status_some world.kept world.pending
@@ -183,19 +208,6 @@ reply_some world says.OpenBlock = some_line (codes "refused open block")
 reply_some world says.Unknown = some_line (codes "refused unknown")
 
 -- ---- stages
-
--- where what is accepted does not grow, it stays
-abbrev StaysOrGrows : Kept → Answer → Type 0
-StaysOrGrows kept answer = nat_lt (size kept) (size answer.0.kept) ≡ false → answer.0.kept ≡ kept
-
-declared_stage : (world : World) → world.kept ≡ None → (read : Result Schema SchemaRefusal) → StaysOrGrows None (declared world read)
-declared_stage world is (Err refusal) = λ h. is
-declared_stage world is (Ok schema) = λ h. absurd (cc)
-
-declare_stage : (world : World) (kept : Kept) → world.kept ≡ kept → (block : Block) → StaysOrGrows kept (declare_over world kept block)
-declare_stage world (Some warehouse) is block = λ h. is
-declare_stage world None is Long = λ h. is
-declare_stage world None is (Whole bytes) = declared_stage world is (schema_of bytes)
 
 pub nothing_added : (batch : List Fact) → length batch ≡ 0 → batch ≡ []
 nothing_added [] h = refl
@@ -206,56 +218,19 @@ same_facts facts batch h =
     let none : batch ≡ [] = nothing_added batch (grind (arith, nat_tests, length-append facts batch)) in
     ap (λ (l : List Fact). facts ++ l) none ∙ append-nil facts
 
-committed_stage : (warehouse : Warehouse) (batch : List Fact) → StaysOrGrows (Some warehouse) (committed warehouse batch)
-committed_stage warehouse batch =
-    λ h. ap (λ (l : List Fact). Some (record { schema = warehouse.schema; facts = l })) (same_facts warehouse.facts batch h)
+grows : (facts : List Fact) (x : Fact) (xs : List Fact) → nat_lt (length facts + 1) (length (facts ++ x ∷ xs) + 1) ≡ false → ⊥
+grows facts x xs h = grind (arith, nat_tests, length-append facts (x ∷ xs))
 
-unless_stage : (world : World) (kept : Kept) → world.kept ≡ kept → (answer : Answer) (refusal : Option (List ℕ)) → StaysOrGrows kept answer
-    → StaysOrGrows kept (unless world answer refusal)
-unless_stage world kept is answer None stage = stage
-unless_stage world kept is answer (Some text) stage = λ h. is
-
-read_stage : (world : World) (kept : Kept) → world.kept ≡ kept → (taken : List Fact → Answer) (read : Result (List Fact) (List ℕ))
-    → ((batch : List Fact) → StaysOrGrows kept (taken batch)) → StaysOrGrows kept (read_by world taken read)
-read_stage world kept is taken (Err text) each = λ h. is
-read_stage world kept is taken (Ok batch) each = each batch
-
-take_stage : (world : World) (taken : Warehouse → List Fact → Answer) (kept : Kept) (pending : Option (List Fact)) → world.kept ≡ kept → (source : BatchSource)
-    → ((warehouse : Warehouse) (batch : List Fact) → world.kept ≡ Some warehouse → StaysOrGrows (Some warehouse) (taken warehouse batch))
-    → StaysOrGrows kept (take_over world taken kept pending source)
-take_stage world taken None pending is source each = λ h. is
-take_stage world taken (Some warehouse) (Some batch) is source each = λ h. is
-take_stage world taken (Some warehouse) None is source each =
-    read_stage world (Some warehouse) is (taken warehouse) (batch_from warehouse.schema source) (λ batch. each warehouse batch is)
-
-pending_stage : (world : World) (answer : Warehouse → List Fact → Answer) (kept : Kept) (pending : Option (List Fact)) → world.kept ≡ kept
-    → ((warehouse : Warehouse) (batch : List Fact) → world.kept ≡ Some warehouse → StaysOrGrows (Some warehouse) (answer warehouse batch))
-    → StaysOrGrows kept (pending_over world answer kept pending)
-pending_stage world answer None pending is each = λ h. is
-pending_stage world answer (Some warehouse) None is each = λ h. is
-pending_stage world answer (Some warehouse) (Some batch) is each = each warehouse batch is
-
-load_stage : (world : World) (source : BatchSource) → StaysOrGrows world.kept (load world source)
-load_stage world source =
-    take_stage world (accepted world) world.kept world.pending refl source
-    (λ warehouse batch is. unless_stage world (Some warehouse) is (committed warehouse batch) (refusal_of warehouse.schema (warehouse.facts ++ batch)) (committed_stage warehouse batch))
+-- where what is accepted does not grow, it stays
+stays_or_grows : (number : Option ℕ) (before after : Kept) → Outcome number before after → nat_lt (size before) (size after) ≡ false → after ≡ before
+stays_or_grows number before after stays h = refl
+stays_or_grows number before after (declares schema) h = absurd (cc)
+stays_or_grows number before after (commits warehouse batch) h =
+    ap (λ (l : List Fact). Some (record { schema = warehouse.schema; facts = l; last = warehouse.last })) (same_facts warehouse.facts batch h)
+stays_or_grows number before after (counts warehouse x xs turn) h = absurd (grows warehouse.facts x xs h)
 
 pub no_stage : (world : World) (command : Command) → makes_stage world command ≡ false → (act world command).0.kept ≡ world.kept
-unfolding act
-no_stage world (says.Schema block) = declare_stage world world.kept refl block
-no_stage world (says.Load block) = load_stage world (Rows block)
-no_stage world (says.Generate start rows) = load_stage world (Generator start rows)
-no_stage world (says.Begin block) =
-    take_stage world (begun_or_refused world) world.kept world.pending refl (Rows block)
-    (λ warehouse batch is. unless_stage world (Some warehouse) is (begun warehouse batch) (refusal_of warehouse.schema (warehouse.facts ++ batch)) (λ h. refl))
-no_stage world (says.Step n) = pending_stage world (λ warehouse batch. replies_with world (codes "stepped")) world.kept world.pending refl (λ warehouse batch is h. is)
-no_stage world says.Finish = pending_stage world committed world.kept world.pending refl (λ warehouse batch is. committed_stage warehouse batch)
-no_stage world says.Abandon = pending_stage world (λ warehouse batch. (idle warehouse, line (codes "abandoned"))) world.kept world.pending refl (λ warehouse batch is h. refl)
-no_stage world (says.Slice text) = λ h. refl
-no_stage world says.Status = λ h. refl
-no_stage world says.LongLine = λ h. refl
-no_stage world says.OpenBlock = λ h. refl
-no_stage world says.Unknown = λ h. refl
+no_stage world command = stays_or_grows (number_given command) world.kept (act world command).0.kept (outcome world command)
 
 -- ---- what each command does
 
@@ -266,6 +241,10 @@ act_schema world block = refl
 pub act_load : (world : World) (block : Block) → act world (says.Load block) ≡ load world (Rows block)
 unfolding act
 act_load world block = refl
+
+pub act_load_numbered : (world : World) (number : ℕ) (block : Block) → act world (says.LoadNumbered number block) ≡ load_numbered world number block
+unfolding act
+act_load_numbered world number block = refl
 
 pub act_generate : (world : World) (start rows : ℕ) → act world (says.Generate start rows) ≡ load world (Generator start rows)
 unfolding act

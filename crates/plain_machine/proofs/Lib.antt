@@ -1,2 +1,4 @@
 pub mod Acts
+pub mod Histories
+pub mod Outcomes
 pub mod Stages

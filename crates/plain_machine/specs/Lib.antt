@@ -1,3 +1,4 @@
+pub mod Histories
 pub mod Keeps
 pub mod Machine
 pub mod Stages

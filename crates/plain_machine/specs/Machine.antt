@@ -1,5 +1,5 @@
 -- The plain machine: the reply to each command, and what is known behind it.
-use Rattle.std.specs.Prelude.{ℕ, suc, Bool, cond, List, [], ◌∷◌, ◌++◌, codes, length, nat_le, Option, Some, None, Result, Ok, Err}
+use Rattle.std.specs.Prelude.{ℕ, suc, ◌+◌, Bool, cond, List, [], ◌∷◌, ◌++◌, codes, length, nat_le, nat_lt, Option, Some, None, Result, Ok, Err}
 use Rattle.std.specs.List.{list_any}
 use Rattle.cube_schema.specs.declared.schema.Attr.{Attr}
 use Rattle.cube_schema.specs.declared.schema.Schema.{Schema}
@@ -19,7 +19,7 @@ use Rattle.script_lang.specs.declared.command.Block.{Block}
 use Rattle.script_lang.specs.declared.command.Block.TheVariants.{Whole, Long}
 use Rattle.script_lang.specs.declared.command.Command.{Command}
 use Rattle.script_lang.specs.declared.command.Command.TheVariants as says
-use Rattle.reply_text.specs.Replies.{line, committed_text, facts_text, pending_text, schema_text, batch_text, full_text, mass_text, slice_text, answer_text}
+use Rattle.reply_text.specs.Replies.{line, already_text, committed_text, facts_text, gap_text, pending_text, schema_text, batch_text, full_text, mass_text, slice_text, answer_text}
 use Rattle.slice_lang.specs.declared.refusal.SliceRefusal.{SliceRefusal}
 use Rattle.slice_lang.specs.Reading.{slice_of}
 use Rattle.view_route.specs.Routes.{covers}
@@ -43,7 +43,7 @@ fact_limit = 1099511627776
 
 -- a schema without facts
 abbrev pub empty : Schema → Warehouse
-empty schema = record { schema = schema; facts = [] }
+empty schema = record { schema = schema; facts = []; last = 0 }
 
 -- the schema of a block is declared, or the block is refused
 abbrev pub declared : World → Result Schema SchemaRefusal → Answer
@@ -90,10 +90,14 @@ abbrev pub unless : World → Answer → Option (List ℕ) → Answer
 unless world answer None = answer
 unless world answer (Some text) = (world, text)
 
--- the facts of a batch are accepted, and nothing is pending
+-- the facts of a batch are accepted, this is the last number, and nothing is pending
+abbrev pub committed_as : ℕ → Warehouse → List Fact → Answer
+committed_as last warehouse batch =
+    (idle (record { schema = warehouse.schema; facts = warehouse.facts ++ batch; last = last }), committed_text (length (warehouse.facts ++ batch)))
+
+-- without a number
 abbrev pub committed : Warehouse → List Fact → Answer
-committed warehouse batch =
-    (idle (record { schema = warehouse.schema; facts = warehouse.facts ++ batch }), committed_text (length (warehouse.facts ++ batch)))
+committed warehouse batch = committed_as warehouse.last warehouse batch
 
 -- the batch is pending
 abbrev pub begun : Warehouse → List Fact → Answer
@@ -141,6 +145,30 @@ load world source = take_over world (accepted world) world.kept world.pending so
 
 abbrev pub begin : World → Block → Answer
 begin world block = take_over world (begun_or_refused world) world.kept world.pending (Rows block)
+
+-- ---- load with a number
+
+-- the facts of a batch with this number are accepted, where there are some and all then keep the limits
+abbrev pub accepted_as : World → ℕ → Warehouse → List Fact → Answer
+accepted_as world number warehouse [] = replies_with world (codes "refused empty")
+accepted_as world number warehouse (x ∷ xs) =
+    unless world (committed_as number warehouse (x ∷ xs)) (refusal_of warehouse.schema (warehouse.facts ++ x ∷ xs))
+
+-- a batch whose number is not above the last one was accepted before; another has to have the next number
+abbrev pub in_turn : World → ℕ → Warehouse → Block → Answer
+in_turn world number warehouse block =
+    cond (nat_le number warehouse.last) (world, already_text number)
+    (cond (nat_lt (warehouse.last + 1) number) (world, gap_text (warehouse.last + 1))
+    (read_by world (accepted_as world number warehouse) (block_read warehouse.schema block)))
+
+-- where a schema is declared and no batch is pending
+abbrev pub numbered_over : World → ℕ → Kept → Option (List Fact) → Block → Answer
+numbered_over world number None pending block = replies_with world (codes "refused no schema")
+numbered_over world number (Some warehouse) (Some batch) block = replies_with world (codes "refused pending")
+numbered_over world number (Some warehouse) None block = in_turn world number warehouse block
+
+abbrev pub load_numbered : World → ℕ → Block → Answer
+load_numbered world number block = numbered_over world number world.kept world.pending block
 
 -- ---- step, finish and abandon
 
@@ -198,6 +226,7 @@ status_text world = status_over world.kept world.pending
 unfoldable pub act : World → Command → Answer
 act world (says.Schema block) = declare world block
 act world (says.Load block) = load world (Rows block)
+act world (says.LoadNumbered number block) = load_numbered world number block
 act world (says.Generate start rows) = load world (Generator start rows)
 act world (says.Begin block) = begin world block
 act world (says.Step n) = step world

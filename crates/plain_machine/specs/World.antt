@@ -1,5 +1,5 @@
 -- What the plain machine knows: a schema with the facts that it has accepted, and a batch that is pending.
-use Rattle.std.specs.Prelude.{List, Option, Some, None}
+use Rattle.std.specs.Prelude.{ℕ, List, Option, Some, None}
 use Rattle.cube_schema.specs.declared.schema.Schema.{Schema}
 use Rattle.fact_model.specs.declared.fact.Fact.{Fact}
 
@@ -7,6 +7,8 @@ pub record Warehouse : Type 0 where
   pub schema : Schema
   -- the accepted facts
   pub facts : List Fact
+  -- the number of the last numbered batch that was accepted; 0 where none was
+  pub last : ℕ
 
 -- what files keep: no schema is declared, or one is
 abbrev pub Kept : Type 0

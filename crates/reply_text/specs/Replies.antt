@@ -21,6 +21,14 @@ numbered text n = text ++ line (decimal n)
 abbrev pub committed_text : ℕ → List ℕ
 committed_text count = numbered (codes "committed ") count
 
+-- the numbered batch was accepted before
+abbrev pub already_text : ℕ → List ℕ
+already_text n = numbered (codes "already ") n
+
+-- the numbered batch is not the next one, which is due
+abbrev pub gap_text : ℕ → List ℕ
+gap_text due = numbered (codes "refused gap ") due
+
 -- there are so many facts
 abbrev pub facts_text : ℕ → List ℕ
 facts_text count = numbered (codes "facts ") count

@@ -1,6 +1,6 @@
 //! Replies of one line.
 ghost use Rattle.std.specs.Prelude.{◌≡◌, IfOk};
-ghost use Rattle.reply_text.specs.Replies.{line, numbered, committed_text, facts_text, pending_text};
+ghost use Rattle.reply_text.specs.Replies.{line, numbered, committed_text, already_text, facts_text, pending_text};
 
 use fact_model::Memory;
 use std::alloc::Global;
@@ -17,6 +17,13 @@ pub fn committed(alloc: Global, count: u64) -> Result<Vec<u8>, Memory>
     ensures { IfOk result (λ reply. reply.items ≡ committed_text count) }
 {
     numbered(alloc, "committed ", count)
+}
+
+/// The reply to a batch of this number that was accepted before.
+pub fn already(alloc: Global, number: u64) -> Result<Vec<u8>, Memory>
+    ensures { IfOk result (λ reply. reply.items ≡ already_text number) }
+{
+    numbered(alloc, "already ", number)
 }
 
 /// How many facts there are.

@@ -1,7 +1,7 @@
 //! Replies that refuse a schema, a batch or a slice.
 ghost use Rattle.std.specs.Prelude.{◌≡◌, ◌≢◌, ◌++◌, IfOk, OnOk};
 ghost use Rattle.fact_csv.specs.declared.refusal.RowRefusal.TheVariants as rows;
-ghost use Rattle.reply_text.specs.Replies.{line, schema_text, batch_text, full_text, mass_text, slice_text};
+ghost use Rattle.reply_text.specs.Replies.{line, schema_text, batch_text, gap_text, full_text, mass_text, slice_text};
 
 use crate::line::{numbered, plain};
 use cube_schema::SchemaRefusal;
@@ -59,6 +59,13 @@ fn refused_long(alloc: Global, row: u64, field: u64) -> Result<Vec<u8>, Memory>
     ensures { IfOk result (λ reply. reply.items ≡ batch_text (rows.Long row field)) }
 {
     Ok(format!(in alloc; "refused row {row} long {field}\n")?.into_bytes())
+}
+
+/// The refusal of a numbered batch where the one of this number is due.
+pub fn refused_gap(alloc: Global, due: u64) -> Result<Vec<u8>, Memory>
+    ensures { IfOk result (λ reply. reply.items ≡ gap_text due) }
+{
+    numbered(alloc, "refused gap ", due)
 }
 
 /// The refusal of a batch by the names of the attribute of this name.

@@ -1,7 +1,7 @@
 -- Worked examples: the numbers and texts of commands, and the bytes of blocks.
 use Rattle.std.specs.Prelude.{◌≡◌, [], ◌∷◌, ◌++◌, codes, refl}
 use Rattle.script_lang.specs.declared.command.Block.TheVariants.{Whole}
-use Rattle.script_lang.specs.declared.command.Command.TheVariants.{Schema, Load, Begin, Step, Slice, Generate, Unknown}
+use Rattle.script_lang.specs.declared.command.Command.TheVariants.{Schema, Load, LoadNumbered, Begin, Step, Slice, Generate, Unknown}
 use Rattle.script_lang.specs.Script.{commands}
 
 numbers : commands (codes "step 0\nstep 007\r\nstep 18446744073709551615\ngenerate 1 262145\ngenerate 0 0\n")
@@ -17,6 +17,12 @@ texts = refl
 blocks : commands (codes "schema\nattr a text\nend\nload\n1,2\n\n3,4\nend\nbegin\nend\nload\n\"a\nend\nb\"\n")
     ≡ Schema (Whole (codes "attr a text\n")) ∷ Load (Whole (codes "1,2\n\n3,4\n")) ∷ Begin (Whole []) ∷ Load (Whole (codes "\"a\n")) ∷ Unknown ∷ []
 blocks = refl
+
+-- a number of a batch is not 0, and what is no such line begins no block
+numbered : commands (codes "load 7\n1,2\nend\nload 007\nend\nload 18446744073709551615\r\nend\nload 0\nload x\nload 1 \nload \nload  1\nload +1\nload 18446744073709551616\n")
+    ≡ LoadNumbered 7 (Whole (codes "1,2\n")) ∷ LoadNumbered 7 (Whole []) ∷ LoadNumbered 18446744073709551615 (Whole [])
+    ∷ Unknown ∷ Unknown ∷ Unknown ∷ Unknown ∷ Unknown ∷ Unknown ∷ Unknown ∷ []
+numbered = refl
 
 ends : commands (codes "load\n end\nend \nEND\nends\nend\nload\na\r\n\r\nend\r\nload\nend\r\r\nend\r")
     ≡ Load (Whole (codes " end\nend \nEND\nends\n")) ∷ Load (Whole (codes "a\r\n\r\n")) ∷ Load (Whole (codes "end\r\r\n")) ∷ []

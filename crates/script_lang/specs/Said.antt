@@ -19,6 +19,11 @@ is_text text line = pointwise nat_eq line text
 abbrev pub count_in : List ℕ → Option ℕ
 count_in bytes = cond (is_numeral bytes && nat_lt (digits_value 10 bytes) (2 ^ 64)) (Some (digits_value 10 bytes)) None
 
+-- a numbered block begins where there is a number, and it is not 0
+abbrev pub load_in : Option ℕ → Said
+load_in None = Says says.Unknown
+load_in (Some n) = cond (n == 0) (Says says.Unknown) (Opens (opens.Numbered n))
+
 abbrev pub step_in : Option ℕ → Command
 step_in None = says.Unknown
 step_in (Some n) = says.Step n
@@ -37,6 +42,7 @@ said_in line =
     cond (length line == 0) Nothing
     (cond (is_text (codes "schema") line) (Opens opens.Schema)
     (cond (is_text (codes "load") line) (Opens opens.Load)
+    (cond (starts_with nat_eq line (codes "load ")) (load_in (count_in (drop 5 line)))
     (cond (is_text (codes "begin") line) (Opens opens.Begin)
     (cond (is_text (codes "finish") line) (Says says.Finish)
     (cond (is_text (codes "abandon") line) (Says says.Abandon)
@@ -45,7 +51,7 @@ said_in line =
     (cond (starts_with nat_eq line (codes "step ")) (Says (step_in (count_in (drop 5 line))))
     (cond (starts_with nat_eq line (codes "generate "))
     (Says (generate_in (count_in (before_first is_space (drop 9 line))) (count_in (after_first is_space (drop 9 line)))))
-    (Says says.Unknown))))))))))
+    (Says says.Unknown)))))))))))
 
 -- what a line between two blocks says; more than 65,536 bytes are too long
 abbrev pub said_by : List ℕ → Said

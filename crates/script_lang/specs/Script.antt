@@ -39,6 +39,7 @@ empty_block what = record { what = what; content = Whole [] }
 abbrev pub command_with : Opening → Block → Command
 command_with opens.Schema block = says.Schema block
 command_with opens.Load block = says.Load block
+command_with (opens.Numbered n) block = says.LoadNumbered n block
 command_with opens.Begin block = says.Begin block
 
 -- the command of a block that ends
@@ -83,6 +84,7 @@ IsWithin Long = Unit {0}
 abbrev pub KeepsLimit : Command → Type 0
 KeepsLimit (says.Schema block) = IsWithin block
 KeepsLimit (says.Load block) = IsWithin block
+KeepsLimit (says.LoadNumbered n block) = IsWithin block
 KeepsLimit (says.Begin block) = IsWithin block
 KeepsLimit (says.Step count) = Unit {0}
 KeepsLimit says.Finish = Unit {0}

@@ -17,6 +17,13 @@ pub enum Command {
     Schema(Block),
     /// Load the batch of this block.
     Load(Block),
+    /// Load the batch of this block, which counts once however often it is sent.
+    LoadNumbered {
+        /// Which of the numbered batches it is. They count from 1.
+        number: u64,
+        /// Its rows.
+        block: Block,
+    },
     /// Begin to load the batch of this block.
     Begin(Block),
     /// Make so many moves for the pending batch.

@@ -174,6 +174,7 @@ fn command_with(opening: Opening, block: Block) -> Command
     match opening {
         Opening::Schema => Command::Schema(block),
         Opening::Load => Command::Load(block),
+        Opening::Numbered(number) => Command::LoadNumbered { number, block },
         Opening::Begin => Command::Begin(block),
     }
 }

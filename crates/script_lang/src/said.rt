@@ -2,7 +2,7 @@
 ghost use Rattle.std.specs.Prelude.{◌≡◌, IfOk};
 ghost use Rattle.std.specs.List.{before_first, after_first};
 ghost use Rattle.script_lang.specs.Script.{KeepsLimit, SaysNoBlock};
-ghost use Rattle.script_lang.specs.Said.{is_text, said_in, said_by, is_end, is_space, step_in, generate_in, count_in};
+ghost use Rattle.script_lang.specs.Said.{is_text, said_in, said_by, is_end, is_space, load_in, step_in, generate_in, count_in};
 
 use crate::command::Command;
 use crate::count::read_count;
@@ -18,6 +18,8 @@ pub const LONGEST_LINE: usize = 65_536;
 pub enum Opening {
     Schema,
     Load,
+    /// A load with this number.
+    Numbered(u64),
     Begin,
 }
 
@@ -61,6 +63,9 @@ fn said_in(alloc: Global, line: &[u8]) -> Result<Said, Memory>
     if is_text("load", line) {
         return Ok(Said::Opens(Opening::Load));
     }
+    if line.starts_with(b"load ") {
+        return Ok(load(after(line, 5)));
+    }
     if is_text("begin", line) {
         return Ok(Said::Opens(Opening::Begin));
     }
@@ -84,6 +89,17 @@ fn said_in(alloc: Global, line: &[u8]) -> Result<Said, Memory>
         return Ok(Said::Says(generate(after(line, 9))));
     }
     Ok(Said::Says(Command::Unknown))
+}
+
+/// What `load` with this word says.
+fn load(number: &[u8]) -> Said
+    ensures said { result ≡ load_in (count_in number.now) }
+    ensures fits { SaysNoBlock result }
+{
+    match read_count(number) {
+        None | Some(0) => Said::Says(Command::Unknown),
+        Some(number) => Said::Opens(Opening::Numbered(number)),
+    }
 }
 
 /// The command `step` with this word.

@@ -19,29 +19,29 @@ returns-in-Hollow-clause-any_moment g c = λ t world stands.
 pub returns-in-Pending-clause-undamaged : goal.returns-in-Pending-clause-undamaged
 returns-in-Pending-clause-undamaged g c = λ t world stands.
     let is = subst (λ (s : State). Stands s (g.T.Site.disk c.args.site.now) world) c.in-Pending.is stands in
-    c.commit.ensures.undamaged t is.0 is.1 is.3
+    c.commit.ensures.undamaged t is.0.last is.0 is.1 is.3
 
 pub returns-in-Pending-clause-any_moment : goal.returns-in-Pending-clause-any_moment
 returns-in-Pending-clause-any_moment g c = λ t world stands.
     let is = subst (λ (s : State). Stands s (g.T.Site.disk c.args.site.now) world) c.in-Pending.is stands in
-    subst (λ (w : World). Between (g.T.Site.disk c.args.site.now) (g.T.Site.disk c.commit.new.site) w (finish w).0) (sym is.2) (c.commit.ensures.any_moment t is.0 is.1 is.3)
+    subst (λ (w : World). Between (g.T.Site.disk c.args.site.now) (g.T.Site.disk c.commit.new.site) w (finish w).0) (sym is.2) (c.commit.ensures.any_moment t is.0.last is.0 is.1 is.3)
 
 pub returns-in-Pending-clause-answer : goal.returns-in-Pending-clause-answer
 returns-in-Pending-clause-answer g c = λ t world stands.
     let is = subst (λ (s : State). Stands s (g.T.Site.disk c.args.site.now) world) c.in-Pending.is stands in
-    subst (λ (w : World). IfOk c.commit.result (IsAnswer (g.T.Site.disk c.commit.new.site) (finish w))) (sym is.2) (c.commit.ensures.answer t is.0 is.1 is.3)
+    subst (λ (w : World). IfOk c.commit.result (IsAnswer (g.T.Site.disk c.commit.new.site) (finish w))) (sym is.2) (c.commit.ensures.answer t is.0.last is.0 is.1 is.3)
 
 pub returns-in-Pending-clause-cost : goal.returns-in-Pending-clause-cost
 returns-in-Pending-clause-cost g c = λ t world stands.
     let is = subst (λ (s : State). Stands s (g.T.Site.disk c.args.site.now) world) c.in-Pending.is stands in
     subst (λ (w : World). Spends g.T.Site (finish_cost w (moves_made c.args.state) (finish w).0) c.args.site.now c.commit.new.site) (sym is.2)
     (subst (λ (s : State). Spends g.T.Site (finish_cost (begun_with is.0 is.1) (moves_made s) (finish (begun_with is.0 is.1)).0) c.args.site.now c.commit.new.site) (sym c.in-Pending.is)
-    (c.commit.ensures.cost t is.0 is.1 is.3))
+    (c.commit.ensures.cost t is.0.last is.0 is.1 is.3))
 
 pub returns-in-Pending-clause-pages : goal.returns-in-Pending-clause-pages
 returns-in-Pending-clause-pages g c = λ t world stands.
     let is = subst (λ (s : State). Stands s (g.T.Site.disk c.args.site.now) world) c.in-Pending.is stands in
-    subst (λ (w : World). g.T.Site.reads c.commit.new.site ≤ g.T.Site.reads c.args.site.now + pages_over w.kept) (sym is.2) (c.commit.ensures.pages t is.0 is.1 is.3)
+    subst (λ (w : World). g.T.Site.reads c.commit.new.site ≤ g.T.Site.reads c.args.site.now + pages_over w.kept) (sym is.2) (c.commit.ensures.pages t is.0.last is.0 is.1 is.3)
 
 -- ---- what is kept
 

@@ -1,4 +1,4 @@
-use Rattle.std.proofs.Common.{◌≡◌, ◌<◌, inr, length, ap, refl, subst, arith}
+use Rattle.std.proofs.Common.{◌≡◌, ◌<◌, ◌∙◌, inr, length, ap, refl, subst, arith}
 use Rattle.std.proofs.lemmas.Bool.Decides.{nat_tests}
 use Rattle.plain_machine.specs.Machine.{batch_from}
 use Rattle.plain_machine.specs.World.{idle}
@@ -30,7 +30,7 @@ returns-in-Ok-clause-taken g c = λ t warehouse is.
     let batch = c.in-Batch.batch in
     let some : 0 < length batch = grind (arith, nat_tests) in
     begun_pending c.in-Ok.refresh new warehouse c.args.source batch
-    (begin_attends c.args.store old new warehouse batch is c.in-Ok.refresh c.in-Ok.ensures.forest
+    (begin_attends c.args.store old new warehouse batch is c.in-Ok.refresh c.in-Ok.ensures.forest (c.in-Ok.ensures.last ∙ is.last) (omega arith)
     (c.in-Ok.ensures.begun t warehouse.facts is.stored.read) (c.in-Ok.ensures.stable t) some (c.in-Ok.ensures.ready t) c.in-Ok.ensures.goes.1)
     (batch_known c.args.store old warehouse c.args.source c.in_ok-batch.field-0 batch is c.in_ok-batch.ensures.read c.in-Batch.is)
 
@@ -85,7 +85,7 @@ returns-in-Ok-clause-asks g c = λ t warehouse is.
     let some : 0 < length batch = grind (arith, nat_tests) in
     inr (
       begun_fits c.in-Ok.refresh new warehouse c.args.source batch
-          (begin_attends c.args.store old new warehouse batch is c.in-Ok.refresh c.in-Ok.ensures.forest
+          (begin_attends c.args.store old new warehouse batch is c.in-Ok.refresh c.in-Ok.ensures.forest (c.in-Ok.ensures.last ∙ is.last) (omega arith)
           (c.in-Ok.ensures.begun t warehouse.facts is.stored.read) (c.in-Ok.ensures.stable t) some (c.in-Ok.ensures.ready t) c.in-Ok.ensures.goes.1)
           (batch_known c.args.store old warehouse c.args.source c.in_ok-batch.field-0 batch is c.in_ok-batch.ensures.read c.in-Batch.is),
       some,

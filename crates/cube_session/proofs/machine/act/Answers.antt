@@ -1,7 +1,7 @@
 use Rattle.std.proofs.Common.{◌≡◌, ◌∙◌, ℕ, List, IfErr, IfOk, refl, sym, ap, subst, arith}
 use Rattle.script_lang.specs.declared.command.Command.{Command}
 use Rattle.plain_machine.specs.Machine.{Answer, abandon, act, slice}
-use Rattle.plain_machine.proofs.Acts.{act_abandon, act_begin, act_finish, act_generate, act_load, act_long_line, act_open_block, act_schema, act_slice, act_status, act_step, act_unknown}
+use Rattle.plain_machine.proofs.Acts.{act_abandon, act_begin, act_finish, act_generate, act_load, act_load_numbered, act_long_line, act_open_block, act_schema, act_slice, act_status, act_step, act_unknown}
 use Rattle.page_cache.specs.Giving.{Cache}
 use Rattle.cube_state.specs.Cached.{kept_over, live_of}
 use Rattle.cube_state.specs.Moves.{made_behind, moves_made}
@@ -38,13 +38,25 @@ pub returns-in-Load-clause-answer : goal.returns-in-Load-clause-answer
 returns-in-Load-clause-answer g c = λ t world is.
     answers_as c.load.result _ _ _ (sym (ap (act world) c.in-Load.is ∙ act_load world _)) (c.load.ensures.answer t world is)
 
+pub returns-in-LoadNumbered-clause-answer : goal.returns-in-LoadNumbered-clause-answer
+returns-in-LoadNumbered-clause-answer g c = λ t world is.
+    answers_as c.load_numbered.result _ _ _ (sym (ap (act world) c.in-LoadNumbered.is ∙ act_load_numbered world _ _)) (c.load_numbered.ensures.answer t world is)
+
 pub returns-in-Load-clause-any_moment : goal.returns-in-Load-clause-any_moment
 returns-in-Load-clause-any_moment g c = λ t world is.
     between_as _ _ world _ _ (sym (ap (act world) c.in-Load.is ∙ act_load world _)) (c.load.ensures.any_moment t world is)
 
+pub returns-in-LoadNumbered-clause-any_moment : goal.returns-in-LoadNumbered-clause-any_moment
+returns-in-LoadNumbered-clause-any_moment g c = λ t world is.
+    between_as _ _ world _ _ (sym (ap (act world) c.in-LoadNumbered.is ∙ act_load_numbered world _ _)) (c.load_numbered.ensures.any_moment t world is)
+
 pub returns-in-Load-clause-silent : goal.returns-in-Load-clause-silent
 returns-in-Load-clause-silent g c = λ t world is stays none no_move.
     c.load.ensures.unwritten t world is (sym (ap (λ (a : Answer). a.0.kept) (ap (act world) c.in-Load.is ∙ act_load world _)) ∙ stays)
+
+pub returns-in-LoadNumbered-clause-silent : goal.returns-in-LoadNumbered-clause-silent
+returns-in-LoadNumbered-clause-silent g c = λ t world is stays none no_move.
+    c.load_numbered.ensures.unwritten t world is (sym (ap (λ (a : Answer). a.0.kept) (ap (act world) c.in-LoadNumbered.is ∙ act_load_numbered world _ _)) ∙ stays)
 
 pub returns-in-Slice-clause-answer : goal.returns-in-Slice-clause-answer
 returns-in-Slice-clause-answer g c = λ t world is.
@@ -105,6 +117,10 @@ returns-in-Schema-clause-damage g c = λ t.
 pub returns-in-Load-clause-damage : goal.returns-in-Load-clause-damage
 returns-in-Load-clause-damage g c = λ t.
     subst (λ (k : Command). IfErr c.load.result (TellsDamage c.args.state (g.T.Site.disk c.args.site.now).files k)) (sym c.in-Load.is) (c.load.ensures.damage t)
+
+pub returns-in-LoadNumbered-clause-damage : goal.returns-in-LoadNumbered-clause-damage
+returns-in-LoadNumbered-clause-damage g c = λ t.
+    subst (λ (k : Command). IfErr c.load_numbered.result (TellsDamage c.args.state (g.T.Site.disk c.args.site.now).files k)) (sym c.in-LoadNumbered.is) (c.load_numbered.ensures.damage t)
 
 pub returns-in-Slice-clause-damage : goal.returns-in-Slice-clause-damage
 returns-in-Slice-clause-damage g c = λ t.
@@ -197,6 +213,10 @@ pub returns-in-Load-clause-answered : goal.returns-in-Load-clause-answered
 returns-in-Load-clause-answered g c = λ t.
     subst (λ (k : Command). IfOk c.load.result (λ done. Gives c.args.state (g.T.Site.disk c.args.site.now).files k done.reply.items)) (sym c.in-Load.is) (c.load.ensures.answered t)
 
+pub returns-in-LoadNumbered-clause-answered : goal.returns-in-LoadNumbered-clause-answered
+returns-in-LoadNumbered-clause-answered g c = λ t.
+    subst (λ (k : Command). IfOk c.load_numbered.result (λ done. Gives c.args.state (g.T.Site.disk c.args.site.now).files k done.reply.items)) (sym c.in-LoadNumbered.is) (c.load_numbered.ensures.answered t)
+
 pub returns-in-Generate-clause-answered : goal.returns-in-Generate-clause-answered
 returns-in-Generate-clause-answered g c = λ t.
     subst (λ (k : Command). IfOk c.load-in-Generate.result (λ done. Gives c.args.state (g.T.Site.disk c.args.site.now).files k done.reply.items)) (sym c.in-Generate.is) (c.load-in-Generate.ensures.answered t)
@@ -255,9 +275,18 @@ returns-in-Load-clause-moved g c = λ t world is.
     subst (λ (k : Command). IfOk c.load.result (λ done. moves_made done.state ≡ made_behind world (moves_made c.args.state) k)) (sym c.in-Load.is)
     c.load.ensures.moved
 
+pub returns-in-LoadNumbered-clause-moved : goal.returns-in-LoadNumbered-clause-moved
+returns-in-LoadNumbered-clause-moved g c = λ t world is.
+    subst (λ (k : Command). IfOk c.load_numbered.result (λ done. moves_made done.state ≡ made_behind world (moves_made c.args.state) k)) (sym c.in-LoadNumbered.is)
+    c.load_numbered.ensures.moved
+
 pub returns-in-Load-clause-cost : goal.returns-in-Load-clause-cost
 returns-in-Load-clause-cost g c = λ t world cost is costs.
     costs_as g.T.Site c.args.site.now c.load.new.site (sym (subst (λ (k : Command). Costs world (moves_made c.args.state) k cost) c.in-Load.is costs)) (c.load.ensures.cost t world is)
+
+pub returns-in-LoadNumbered-clause-cost : goal.returns-in-LoadNumbered-clause-cost
+returns-in-LoadNumbered-clause-cost g c = λ t world cost is costs.
+    costs_as g.T.Site c.args.site.now c.load_numbered.new.site (sym (subst (λ (k : Command). Costs world (moves_made c.args.state) k cost) c.in-LoadNumbered.is costs)) (c.load_numbered.ensures.cost t world is)
 
 pub returns-in-Generate-clause-moved : goal.returns-in-Generate-clause-moved
 returns-in-Generate-clause-moved g c = λ t world is.
@@ -365,14 +394,26 @@ returns-in-Schema-clause-cache g c = λ no. generation_kept c.declare.result (li
 pub returns-in-Load-clause-saves : goal.returns-in-Load-clause-saves
 returns-in-Load-clause-saves g c = λ t world numbers is goes. absurd (subst (λ (k : Command). GoesTo world k numbers) c.in-Load.is goes)
 
+pub returns-in-LoadNumbered-clause-saves : goal.returns-in-LoadNumbered-clause-saves
+returns-in-LoadNumbered-clause-saves g c = λ t world numbers is goes. absurd (subst (λ (k : Command). GoesTo world k numbers) c.in-LoadNumbered.is goes)
+
 pub returns-in-Load-clause-keeps : goal.returns-in-Load-clause-keeps
 returns-in-Load-clause-keeps g c = λ t world numbers is goes. absurd (subst (λ (k : Command). GoesTo world k numbers) c.in-Load.is goes)
+
+pub returns-in-LoadNumbered-clause-keeps : goal.returns-in-LoadNumbered-clause-keeps
+returns-in-LoadNumbered-clause-keeps g c = λ t world numbers is goes. absurd (subst (λ (k : Command). GoesTo world k numbers) c.in-LoadNumbered.is goes)
 
 pub returns-in-Load-clause-fits : goal.returns-in-Load-clause-fits
 returns-in-Load-clause-fits g c = λ t. c.load.ensures.fits t
 
+pub returns-in-LoadNumbered-clause-fits : goal.returns-in-LoadNumbered-clause-fits
+returns-in-LoadNumbered-clause-fits g c = λ t. c.load_numbered.ensures.fits t
+
 pub returns-in-Load-clause-cache : goal.returns-in-Load-clause-cache
 returns-in-Load-clause-cache g c = λ no. c.load.ensures.cache
+
+pub returns-in-LoadNumbered-clause-cache : goal.returns-in-LoadNumbered-clause-cache
+returns-in-LoadNumbered-clause-cache g c = λ no. c.load_numbered.ensures.cache
 
 pub returns-in-Generate-clause-saves : goal.returns-in-Generate-clause-saves
 returns-in-Generate-clause-saves g c = λ t world numbers is goes. absurd (subst (λ (k : Command). GoesTo world k numbers) c.in-Generate.is goes)

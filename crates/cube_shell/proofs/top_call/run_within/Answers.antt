@@ -6,6 +6,7 @@ use Rattle.cube_shell.specs.declared.exit.Status.TheVariants.{Done}
 use Rattle.cube_shell.specs.Ends.{Faults, EndCause}
 use Rattle.cube_shell.proofs.Costs.{costs_run}
 use Rattle.cube_shell.proofs.Going.{told_front}
+use Rattle.cube_shell.proofs.Histories.{histories_go_on}
 use Rattle.cube_shell.proofs.top_call.run_within.Goals as goal
 
 -- what ends a run is not its end
@@ -39,6 +40,14 @@ returns-in-Err-clause-headline g c = λ s t kept keeps.
       any_stop = run;
       opened = (c.in-Err.ensures.opened s t kept keeps).1;
     }
+
+pub returns-in-Ok-clause-histories : goal.returns-in-Ok-clause-histories
+returns-in-Ok-clause-histories g c = λ s t kept keeps.
+    histories_go_on kept _ _ _ _ _ (g.met.T.Site.read_now c.attempt.new.site t) (returns-in-Ok-clause-headline g c s t kept keeps)
+
+pub returns-in-Err-clause-histories : goal.returns-in-Err-clause-histories
+returns-in-Err-clause-histories g c = λ s t kept keeps.
+    histories_go_on kept _ _ _ _ _ (g.met.T.Site.read_now c.attempt.new.site t) (returns-in-Err-clause-headline g c s t kept keeps)
 
 pub returns-in-Ok-clause-broken : goal.returns-in-Ok-clause-broken
 returns-in-Ok-clause-broken g c = λ t valid place breaks. absurd (c.in-Ok.ensures.broken t valid place breaks).end

@@ -1,5 +1,6 @@
 use Rattle.std.proofs.Common.{◌∙◌, [], sym, subst, ap, length, arith}
 use Rattle.forest_root.specs.Body.{IsBody}
+use Rattle.forest_root.specs.Keeps.{LiveAt}
 use Rattle.forest_root.specs.declared.body.Body.{Body}
 use Rattle.attr_dict.specs.Book.{Book}
 use Rattle.forest_commit.specs.Commit.{slot_of}
@@ -16,7 +17,7 @@ declare-requires-clause-some g c =
 
 pub returns-in_err-declare-clause-any_moment : goal.returns-in_err-declare-clause-any_moment
 returns-in_err-declare-clause-any_moment g c = λ t.
-    c.declare.ensures.any_moment t (held c.args.schema [])
+    c.declare.ensures.any_moment t (held c.args.schema [] 0)
     (first_as c.args.schema c.requires.lawful _ _ c.first_body-body.ensures (c.as_bytes.ensures ∙ c.in_ok-text.ensures.written))
 
 pub invariant_of-forest : goal.invariant_of-forest
@@ -41,11 +42,15 @@ returns-clause-declared g c = λ t.
     let first = first_as c.args.schema c.requires.lawful _ _ c.first_body-body.ensures (c.as_bytes.ensures ∙ c.in_ok-text.ensures.written) in
     record {
       accepted = none_accepted c.args.schema;
-      live = record { slot = 0; at = (c.in_ok-declare.ensures.declared t (held c.args.schema []) first).read };
+      live = record {
+        slot = 0;
+        at = subst (λ n. LiveAt (held c.args.schema [] n) 0 c.first_body-body.result (g.T.Site.disk c.declare.new.site).files) (sym (ap (λ (b : Body). b.last) c.first_body-body.ensures))
+            (c.in_ok-declare.ensures.declared t (held c.args.schema [] 0) first).read;
+      };
       names = shown_none c.args.schema _ _ c.in_ok-dicts.ensures;
     }
 
 pub returns-clause-any_moment : goal.returns-clause-any_moment
 returns-clause-any_moment g c = λ t.
-    c.declare.ensures.any_moment t (held c.args.schema [])
+    c.declare.ensures.any_moment t (held c.args.schema [] 0)
     (first_as c.args.schema c.requires.lawful _ _ c.first_body-body.ensures (c.as_bytes.ensures ∙ c.in_ok-text.ensures.written))

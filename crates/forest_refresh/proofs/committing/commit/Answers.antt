@@ -9,8 +9,8 @@ pub returns-in_err-finish-clause-any_moment : goal.returns-in_err-finish-clause-
 returns-in_err-finish-clause-any_moment g c = λ t accepted all old now fine is text pages.
     let schema = c.args.store.forest.schema in
     let live = c.args.store.forest.body in
-    either_facts schema accepted all _ _ fine (c.finish.ensures.any_moment t (held schema accepted) (held schema all) old live
-    (refresh_of schema accepted all old live c.args.names.now c.args.next _ _ now c.requires.next is text refl refl c.as_bytes.ensures) pages)
+    either_facts schema accepted all live.last c.args.next.last _ _ fine (c.finish.ensures.any_moment t (held schema accepted live.last) (held schema all c.args.next.last) old live
+    (refresh_of schema accepted all live.last c.args.next.last old live c.args.names.now c.args.next _ _ now c.requires.next is text refl refl c.as_bytes.ensures) pages)
 
 -- src/committing.rt:23:1
 pub returns-clause-committed : goal.returns-clause-committed
@@ -19,8 +19,8 @@ returns-clause-committed g c = λ t accepted all old now is text pages.
     let live = c.args.store.forest.body in
     record {
       slot = _;
-      at = (c.in_ok-finish.ensures.committed t (held schema accepted) (held schema all) old live
-          (refresh_of schema accepted all old live c.args.names.now c.args.next _ _ now c.requires.next is text refl refl c.as_bytes.ensures) pages).read;
+      at = (c.in_ok-finish.ensures.committed t (held schema accepted live.last) (held schema all c.args.next.last) old live
+          (refresh_of schema accepted all live.last c.args.next.last old live c.args.names.now c.args.next _ _ now c.requires.next is text refl refl c.as_bytes.ensures) pages).read;
     }
 
 -- src/committing.rt:23:1
@@ -28,8 +28,8 @@ pub returns-clause-any_moment : goal.returns-clause-any_moment
 returns-clause-any_moment g c = λ t accepted all old now fine is text pages.
     let schema = c.args.store.forest.schema in
     let live = c.args.store.forest.body in
-    either_facts schema accepted all _ _ fine (c.finish.ensures.any_moment t (held schema accepted) (held schema all) old live
-    (refresh_of schema accepted all old live c.args.names.now c.args.next _ _ now c.requires.next is text refl refl c.as_bytes.ensures) pages)
+    either_facts schema accepted all live.last c.args.next.last _ _ fine (c.finish.ensures.any_moment t (held schema accepted live.last) (held schema all c.args.next.last) old live
+    (refresh_of schema accepted all live.last c.args.next.last old live c.args.names.now c.args.next _ _ now c.requires.next is text refl refl c.as_bytes.ensures) pages)
 
 pub invariant_of-result-clause-names : goal.invariant_of-result-clause-names
 invariant_of-result-clause-names g c = omega (arith, c.requires.names, shown-all c.args.store.dicts c.lengths-shown.result.at c.lengths-shown.ensures)

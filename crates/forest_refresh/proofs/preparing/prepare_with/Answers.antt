@@ -31,9 +31,9 @@ returns-clause-prepared c =
     let batch = c.args.facts in
     let up : c.in_ok-masses.masses ≡ added store.forest.body.masses batch = c.in_ok-masses.ensures.all in
     subst (λ (n : Body). IsBegun (record { store = store; deltas = c.in_ok-deltas.deltas; entries = c.args.admitted.names; next = n; progress = progress_of c.start_trees.new.room })) (sym c.next_body-next.ensures)
-    (is_begun store batch c.args.admitted.coded c.in_ok-deltas.deltas c.args.admitted.names c.names_len-names_len.result c.args.count c.in_ok-masses.masses
+    (is_begun store batch c.args.admitted.coded c.in_ok-deltas.deltas c.args.admitted.names c.names_len-names_len.result c.args.count c.args.last c.in_ok-masses.masses
     c.requires.batch.agree c.requires.coded (c.in_ok-deltas.ensures.named (names_at store.dicts) c.requires.coded.viewed) c.requires.total c.requires.few up c.in_ok-masses.ensures.within
-    (progress_of c.start_trees.new.room) c.requires.batch.some c.names_len-names_len.ensures (omega (arith, c.names_len-names_len.ensures, names_fit c.args.store.now c.requires.limit, c.requires.names)) c.requires.shown
+    (progress_of c.start_trees.new.room) c.requires.batch.some c.requires.last c.names_len-names_len.ensures (omega (arith, c.names_len-names_len.ensures, names_fit c.args.store.now c.requires.limit, c.requires.names)) c.requires.shown
     (omega (arith, c.names_len-names_len.ensures, c.requires.names)))
 
 pub returns-clause-adds : goal.returns-clause-adds
@@ -42,7 +42,7 @@ returns-clause-adds c = λ accepted files fine live shown names fit adds.
     let batch = c.args.facts in
     let up : c.in_ok-masses.masses ≡ added store.forest.body.masses batch = c.in_ok-masses.ensures.all in
     subst (λ (n : Body). IsRefreshOf (record { store = store; deltas = c.in_ok-deltas.deltas; entries = c.args.admitted.names; next = n; progress = progress_of c.start_trees.new.room }) accepted batch files) (sym c.next_body-next.ensures)
-    (is_refresh store batch c.args.admitted.coded c.in_ok-deltas.deltas c.args.admitted.names c.names_len-names_len.result c.args.count c.in_ok-masses.masses
+    (is_refresh store batch c.args.admitted.coded c.in_ok-deltas.deltas c.args.admitted.names c.names_len-names_len.result c.args.count c.args.last c.in_ok-masses.masses
     c.requires.batch.agree c.requires.coded (c.in_ok-deltas.ensures.named (names_at store.dicts) c.requires.coded.viewed) c.requires.total c.requires.few up c.in_ok-masses.ensures.within
     (progress_of c.start_trees.new.room) accepted files fine live shown names fit adds)
 
@@ -63,7 +63,7 @@ pub start_trees-requires-clause-added : goal.start_trees-requires-clause-added
 start_trees-requires-clause-added c =
     let store = c.args.store.now in (
       c.args.count - store.forest.body.facts,
-      more-added store c.args.facts c.args.admitted.coded c.in_ok-deltas.deltas c.args.admitted.names c.names_len-names_len.result c.args.count c.in_ok-masses.masses
+      more-added store c.args.facts c.args.admitted.coded c.in_ok-deltas.deltas c.args.admitted.names c.names_len-names_len.result c.args.count c.args.last c.in_ok-masses.masses
           c.requires.batch.agree c.requires.coded (c.in_ok-deltas.ensures.named (names_at store.dicts) c.requires.coded.viewed) c.requires.total c.requires.few c.in_ok-masses.ensures.all c.in_ok-masses.ensures.within,
       omega (arith, c.requires.total, c.requires.few),
     )
@@ -72,7 +72,7 @@ pub returns-clause-goes : goal.returns-clause-goes
 returns-clause-goes c =
     let store = c.args.store.now in
     let size : c.args.count - store.forest.body.facts ≡ c.next_body-next.result.facts - store.forest.body.facts = ap (λ (b : Body). b.facts - store.forest.body.facts) (sym c.next_body-next.ensures) in
-    let added = more-added store c.args.facts c.args.admitted.coded c.in_ok-deltas.deltas c.args.admitted.names c.names_len-names_len.result c.args.count c.in_ok-masses.masses
+    let added = more-added store c.args.facts c.args.admitted.coded c.in_ok-deltas.deltas c.args.admitted.names c.names_len-names_len.result c.args.count c.args.last c.in_ok-masses.masses
     c.requires.batch.agree c.requires.coded (c.in_ok-deltas.ensures.named (names_at store.dicts) c.requires.coded.viewed) c.requires.total c.requires.few c.in_ok-masses.ensures.all c.in_ok-masses.ensures.within in
     subst (λ (most : ℕ). GoesOn store.forest c.in_ok-deltas.deltas (slot_of c.next_body-next.result) most (progress_of c.start_trees.new.room)) size
     (subst (λ (s : ℕ). GoesOn store.forest c.in_ok-deltas.deltas s (c.args.count - store.forest.body.facts) (progress_of c.start_trees.new.room)) c.slot.ensures

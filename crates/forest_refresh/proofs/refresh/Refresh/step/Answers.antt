@@ -48,7 +48,7 @@ returns-clause-any_moment g c = λ t accepted batch was.
     let new = g.T.Site.disk c.advance.new.site in
     let r = seen c.self.inside in
     let both = subst (λ (b : Begun). HoldsNow (IsRefreshOf b accepted batch) old) (sym c.self.view_is) was in
-    subst (λ (b : Begun). LeavesOnly old new (λ told files. (told ≡ old.told) × KeepsFacts b.store.forest.schema accepted files)) c.self.view_is
+    subst (λ (b : Begun). LeavesOnly old new (λ told files. (told ≡ old.told) × KeepsFacts b.store.forest.schema accepted b.store.forest.body.last files)) c.self.view_is
     (while_moved r c.self.invariant.begun accepted batch old new both c.slot-side.result c.slot-side.ensures (c.advance.ensures.disk t) (λ told files. g.met.T.Site.only_now c.args.site.now told files t))
 
 pub returns-clause-live : goal.returns-clause-live

@@ -21,5 +21,6 @@ returns c =
     let f7 = number 32 8 40 _ _ c.write_u64-3.new.buf c.args.self.now.facts refl (omega arith) c.write_u64-3.ensures f6 in
     let f8 = more 40 64 104 _ _ c.write_u128_into.new.dst (flat_map (big_bytes 16) c.args.self.now.masses) refl (omega arith) (omega (arith, length-numbers 16 c.args.self.now.masses)) c.write_u128_into.ensures f7 in
     let f9 = more 104 256 360 _ _ c.write_u64_into.new.dst (flat_map (big_bytes 8) c.args.self.now.counts) refl (omega arith) (omega (arith, length-numbers 8 c.args.self.now.counts)) c.write_u64_into.ensures f8 in
-    let f10 = more 360 664 1024 _ _ c.copy_from_slice-2.new.self (replicate 664 0) refl (omega arith) refl c.copy_from_slice-2.ensures.after f9 in
-    ended _ _ f10
+    let f10 = number 360 8 368 _ _ c.write_u64-4.new.buf c.args.self.now.last refl (omega arith) c.write_u64-4.ensures f9 in
+    let f11 = more 368 656 1024 _ _ c.copy_from_slice-2.new.self (replicate 656 0) refl (omega arith) refl c.copy_from_slice-2.ensures.after f10 in
+    ended _ _ f11
