@@ -1,12 +1,13 @@
 -- The parts of a cell in its bytes, one by one, and those of two cells joined.
-use Rattle.std.proofs.Common.{◌≡◌, ◌≤◌, ◌<◌, ◌+◌, ◌-◌, ◌*◌, ℕ, suc, List, [], ◌∷◌, inl, inr, length, drop, get_or, refl, sym, ap, ◌∙◌, arith}
+use Rattle.std.proofs.Common.{◌≡◌, ◌≤◌, ◌<◌, ◌+◌, ◌-◌, ◌*◌, ℕ, zero, suc, List, [], ◌∷◌, inl, inr, length, drop, get_or, refl, rules, sym, ap, subst, ◌∙◌, arith}
 use Rattle.std.specs.Prelude.{replicate}
 use Rattle.std.proofs.lemmas.Bool.{cases_lt}
 use Rattle.std.proofs.lemmas.List.{drop-drop, get_or-replicate, get_or_past, get_or_append_left, get_or-append_right, length-append, length-replicate}
 use Rattle.byte_formats.specs.Formats.{many}
-use Rattle.fact_model.specs.Cell.{each_joined, join_parts}
+use Rattle.fact_model.specs.declared.cell.Cell.{Cell}
+use Rattle.fact_model.specs.Cell.{FitCells, PartFits, SumFitsAt, each_joined, join_parts}
 use Rattle.fact_model.specs.declared.cell.Part.{Part}
-use Rattle.page_fmt.specs.Cells.{cell_of}
+use Rattle.page_fmt.specs.Cells.{EndsInZeros, cell_of}
 use Rattle.page_fmt.specs.Taking.{no_part, part_of}
 use Rattle.page_fmt.proofs.Loops.{many-at, many-long}
 
@@ -47,3 +48,27 @@ each-is (p ∷ ps) [] rs long too each = absurd (omega (arith, long))
 each-is (p ∷ ps) (q ∷ qs) [] long too each = absurd (omega (arith, too))
 each-is (p ∷ ps) (q ∷ qs) (r ∷ rs) long too each =
     λ i. each 0 (omega arith) i ∷ each-is ps qs rs (omega (arith, long)) (omega (arith, too)) (λ m low. each (suc m) (omega (arith, low))) i
+
+-- ---- cells that end in zeros
+
+nothing-fits : PartFits no_part no_part
+nothing-fits = search rules
+
+-- past the measures the sums are zero
+pub sum-past : (c : Cell) (b : List ℕ) (m : ℕ) → EndsInZeros c → c.measures ≤ m → m < 4 → SumFitsAt c (cell_of c.measures b) m
+sum-past c b m ends past low = subst (λ (p : Part). PartFits p (get_or (parts c.measures b) m no_part)) (sym (ends m past low)) (subst (PartFits no_part) (sym (part-none c.measures m b past)) nothing-fits)
+
+-- so those of the measures tell all
+pub every-sum : (c : Cell) (b : List ℕ) → EndsInZeros c → ((m : ℕ) → m < c.measures → SumFitsAt c (cell_of c.measures b) m) → (m : ℕ) → m < 4 → SumFitsAt c (cell_of c.measures b) m
+every-sum c b ends fit m low = elim (cases_lt m c.measures) [ inl lt ↦ fit m lt | inr past ↦ sum-past c b m ends past low ]
+
+pub sum-at : (c d : Cell) → FitCells c d → (m : ℕ) → m < 4 → SumFitsAt c d m
+sum-at c d fit zero low = fit.first
+sum-at c d fit (suc zero) low = fit.second
+sum-at c d fit (suc (suc zero)) low = fit.third
+sum-at c d fit (suc (suc (suc zero))) low = fit.fourth
+sum-at c d fit (suc (suc (suc (suc m)))) low = absurd (omega (arith, low))
+
+-- the parts past the measures are joined as they stay
+pub stays-joined : (c : Cell) (b : List ℕ) (m : ℕ) → EndsInZeros c → c.measures ≤ m → m < 4 → get_or c.parts m no_part ≡ join_parts (get_or c.parts m no_part) (get_or (parts c.measures b) m no_part)
+stays-joined c b m ends past low = ends m past low ∙ (λ i. join_parts (sym (ends m past low) i) (sym (part-none c.measures m b past) i))

@@ -1,11 +1,13 @@
 //! An entry of a leaf where it lies.
 
-ghost use Rattle.std.specs.Prelude.{◌≡◌, ◌↔◌, ◌≤◌, ◌<◌, ◌+◌, ◌++◌, IsTrue, false, take, get_or, length};
+ghost use Rattle.std.specs.Prelude.{◌≡◌, ◌↔◌, ◌≤◌, ◌<◌, ◌+◌, ◌++◌, IsTrue, false, take, get_or, length, slice_index};
 ghost use Rattle.byte_formats.specs.Formats.{IsBytes};
 ghost use Rattle.page_fmt.specs.declared.page.TheConstants.{PAGE};
 ghost use Rattle.cube_point.specs.declared.point.Entry.{Entry};
+ghost use Rattle.cube_point.specs.Boxes.{IsInside};
 ghost use Rattle.cube_point.specs.Points.{point_cmp};
 ghost use Rattle.fact_model.specs.Cell.{FitCells, join};
+ghost use Rattle.page_fmt.specs.Cells.{EndsInZeros};
 ghost use Rattle.page_fmt.specs.Pages.{entry_bytes, entry_size};
 ghost use Rattle.page_fmt.specs.Taking.{entries, entry_of, page_count};
 ghost use Rattle.page_fmt.specs.Lawful.{HasEntries};
@@ -14,9 +16,10 @@ use crate::cell::join_cell;
 use crate::order::compare_with;
 use crate::page::{COORDINATE, HEADER};
 use crate::put::put_bytes;
-use crate::read::{entry_at, point_at};
+use crate::read::{cell_at, coordinate_in, entry_at, point_at};
+use crate::region::lies_in;
 use crate::size::size_of_entry;
-use cube_point::{Entry, Point, Shape};
+use cube_point::{Entry, Point, Region, Shape};
 use fact_model::Cell;
 use std::cmp::Ordering;
 use std::marker::Model;
@@ -75,18 +78,38 @@ impl<'a> Coded<'a> {
         compare_with(self.bytes, self.arity, point)
     }
 
-    /// Its cell, decoded.
-    pub fn cell(&self) -> Cell
-        ensures { result ≡ self.now.cell }
+    /// A coordinate of its point, which is zero past the arity.
+    pub fn coordinate(&self, dimension: usize) -> u64
+        ensures { result ≡ slice_index self.now.point.at dimension }
     {
-        self.entry().cell
+        coordinate_in(self.bytes, self.arity, 0, dimension)
+    }
+
+    /// Whether its point lies in a region. No more coordinates are read than tell it.
+    pub fn is_inside(&self, region: &Region) -> bool
+        ensures { IsTrue result ↔ IsInside self.now.point region.now }
+    {
+        lies_in(self.bytes, self.arity, region)
+    }
+
+    /// Its cell, decoded, which has no part past its measures but zeros.
+    pub fn cell(&self) -> Cell
+        ensures value { result ≡ self.now.cell }
+        ensures zeros { EndsInZeros result }
+    {
+        cell_at(
+            self.bytes,
+            self.shape.measures,
+            self.arity as usize * COORDINATE,
+        )
     }
 
     /// Joins its cell to another, where both have as many measures and add up within their types. False, where they do not join: then the
-    /// other is left as it was. No more parts are read than there are measures.
+    /// other is left as it was. No more parts are read or written than there are measures, so the other has none past them but zeros.
     pub fn join_to(&self, cell: &mut Cell) -> bool
-        ensures joins { IsTrue result ↔ (cell.old.measures ≡ self.now.cell.measures) × FitCells cell.old self.now.cell }
-        ensures joined { IsTrue result → cell.new ≡ join cell.old self.now.cell }
+        ensures joins { EndsInZeros cell.old → IsTrue result ↔ (cell.old.measures ≡ self.now.cell.measures) × FitCells cell.old self.now.cell }
+        ensures joined { EndsInZeros cell.old → IsTrue result → cell.new ≡ join cell.old self.now.cell }
+        ensures zeros { EndsInZeros cell.old → EndsInZeros cell.new }
         ensures same { result ≡ false → cell.new ≡ cell.old }
     {
         if cell.measures != self.shape.measures {

@@ -1,12 +1,13 @@
 //! Reading the entries and children of a page.
 
 ghost use Rattle.std.specs.Prelude.{◌≡◌, ◌≤◌, ◌<◌, ◌+◌, ◌*◌, ◌-◌, ◌++◌, drop, replicate, get_or, slice_index, true, length, ℕ, List};
-ghost use Rattle.page_fmt.specs.declared.page.TheConstants.{COORDINATE, PAGE, PART};
+ghost use Rattle.page_fmt.specs.declared.page.TheConstants.{COORDINATE, COUNT, PAGE, PART};
 ghost use Rattle.cube_point.specs.declared.point.Entry.{Entry};
 ghost use Rattle.byte_formats.specs.Formats.{many};
 ghost use Rattle.byte_formats.specs.Numbers.{number};
 ghost use Rattle.page_fmt.specs.declared.page.Child.{Child};
 ghost use Rattle.page_fmt.specs.Pages.{entry_size, child_size, zeros, leaf_bytes, inner_bytes};
+ghost use Rattle.page_fmt.specs.Cells.{cell_of};
 ghost use Rattle.page_fmt.specs.Taking.{part_of, no_part, entry_of, child_of, entries, children, page_count};
 ghost use Rattle.page_fmt.specs.Lawful.{HasEntries, HasChildren, IsLeaf, IsInner};
 
@@ -17,7 +18,7 @@ use cube_point::{Bounds, Entry, Point, Shape};
 use fact_model::{Cell, Part};
 
 /// The coordinate of a dimension; past the arity it is zero, and not read.
-fn coordinate_in(bytes: &[u8], arity: u8, at: usize, dimension: usize) -> u64
+pub(crate) fn coordinate_in(bytes: &[u8], arity: u8, at: usize, dimension: usize) -> u64
     requires arity { arity ≤ 8 }
     requires place { at + arity * COORDINATE ≤ length bytes.now }
     ensures { result ≡ slice_index (many (number COORDINATE) COORDINATE arity (drop at bytes.now) ++ zeros (8 - arity)) dimension }
@@ -85,6 +86,19 @@ pub(crate) fn point_at(bytes: &[u8], arity: u8, at: usize) -> Point
     }
 }
 
+/// The cell that begins at a place.
+pub(crate) fn cell_at(bytes: &[u8], measures: u8, at: usize) -> Cell
+    requires measures { measures ≤ 4 }
+    requires place { at + (COUNT + measures * PART) ≤ length bytes.now }
+    ensures { result ≡ cell_of measures (drop at bytes.now) }
+{
+    Cell {
+        count: take_u64(bytes, at),
+        measures,
+        parts: parts_at(bytes, measures, at + COUNT),
+    }
+}
+
 /// The entry that begins at a place.
 pub(crate) fn entry_at(bytes: &[u8], shape: &Shape, arity: u8, at: usize) -> Entry
     requires arity { arity ≤ 8 }
@@ -92,17 +106,9 @@ pub(crate) fn entry_at(bytes: &[u8], shape: &Shape, arity: u8, at: usize) -> Ent
     requires place { at + entry_size arity shape.now.measures ≤ length bytes.now }
     ensures { result ≡ entry_of arity shape.now.measures (drop at bytes.now) }
 {
-    let after = at + arity as usize * COORDINATE;
-    let point = point_at(bytes, arity, at);
-    let count = take_u64(bytes, after);
-    let parts = parts_at(bytes, shape.measures, after + COUNT);
     Entry {
-        point,
-        cell: Cell {
-            count,
-            measures: shape.measures,
-            parts,
-        },
+        point: point_at(bytes, arity, at),
+        cell: cell_at(bytes, shape.measures, at + arity as usize * COORDINATE),
     }
 }
 

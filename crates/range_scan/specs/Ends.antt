@@ -1,7 +1,8 @@
 -- What the first and the last point of a leaf tell of those between them.
-use Rattle.std.specs.Prelude.{◌≡◌, ℕ, ◌<◌, ◌≤◌, slice_index}
+use Rattle.std.specs.Prelude.{◌≡◌, ℕ, ◌<◌, ◌≤◌, ◌-◌, List, get_or, length, slice_index}
 use Rattle.cube_point.specs.Boxes.{IsInside}
 use Rattle.cube_point.specs.declared.bounds.Region.{Region}
+use Rattle.cube_point.specs.declared.point.Entry.{Entry}
 use Rattle.cube_point.specs.declared.point.Point.{Point}
 use Rattle.page_fmt.specs.Lawful.{IsNarrow}
 
@@ -18,3 +19,7 @@ pub record TellAll (first last : Point) (region : Region) : Type 0 where
   pub few : apart < 8
   pub same : (i : ℕ) → apart < i → i < 8 → slice_index first.at i ≡ slice_index last.at i
   pub before : IsOpenBefore apart region
+
+-- the first and the last of these entries tell that all lie in the region
+abbrev pub DoEndsTellAll : List Entry → Region → Type 0
+DoEndsTellAll es region = (d : Entry) → TellAll (get_or es 0 d).point (get_or es (length es - 1) d).point region

@@ -1,10 +1,10 @@
 //! Whether a leaf lies whole in the region, by its first and its last point.
 
-ghost use Rattle.std.specs.Prelude.{◌≡◌, ◌<◌, ◌≤◌, ℕ, IsTrue, filter, length, slice_index};
+ghost use Rattle.std.specs.Prelude.{◌≡◌, ◌≢◌, ◌↔◌, ◌<◌, ◌≤◌, ℕ, IsTrue, filter, length, slice_index};
 ghost use Rattle.page_fmt.specs.Lawful.{HasEntries};
 ghost use Rattle.page_fmt.specs.Taking.{entries, page_count};
 ghost use Rattle.page_fmt.specs.Writing.{AreEntries};
-ghost use Rattle.range_scan.specs.Ends.{IsOpenBefore, TellAll};
+ghost use Rattle.range_scan.specs.Ends.{DoEndsTellAll, IsOpenBefore, TellAll};
 ghost use Rattle.range_scan.specs.Meeting.{is_inside};
 
 use cube_point::{Point, Region, Shape, inside};
@@ -18,7 +18,8 @@ pub(crate) fn is_whole(page: &[u8; PAGE], shape: &Shape, count: u16, region: &Re
     requires count { count ≡ length (entries shape.now.measures page.now) }
     requires holds { AreEntries shape.now (entries shape.now.measures page.now) }
 
-    ensures { IsTrue result → filter (is_inside region.now) (entries shape.now.measures page.now) ≡ entries shape.now.measures page.now }
+    ensures whole { IsTrue result → filter (is_inside region.now) (entries shape.now.measures page.now) ≡ entries shape.now.measures page.now }
+    ensures told { IsTrue result ↔ DoEndsTellAll (entries shape.now.measures page.now) region.now }
 {
     let first = lent_entry(page, shape, 0);
     let last = lent_entry(page, shape, count as usize - 1);
@@ -28,7 +29,7 @@ pub(crate) fn is_whole(page: &[u8; PAGE], shape: &Shape, count: u16, region: &Re
 /// Whether all points between two in point order lie in the region. They have the coordinates that both have past the last
 /// dimension in which the two differ, and there one between theirs; before it they may have any.
 fn tell_all(first: &Point, last: &Point, region: &Region) -> bool
-    ensures { IsTrue result → TellAll first.now last.now region.now }
+    ensures { IsTrue result ↔ TellAll first.now last.now region.now }
 {
     inside(first, region) && inside(last, region) && is_open_before(region, last_apart(first, last))
 }
@@ -37,6 +38,7 @@ fn tell_all(first: &Point, last: &Point, region: &Region) -> bool
 fn last_apart(first: &Point, last: &Point) -> usize
     ensures few { result < 8 }
     ensures same { (i : ℕ) → result < i → i < 8 → slice_index first.now.at i ≡ slice_index last.now.at i }
+    ensures apart { 0 < result → slice_index first.now.at result ≢ slice_index last.now.at result }
 {
     for skipped in 0..7 {
         let dimension: usize = 7 - skipped;
@@ -50,7 +52,7 @@ fn last_apart(first: &Point, last: &Point) -> usize
 /// Whether the region holds every used coordinate of a page, in each dimension before this one.
 fn is_open_before(region: &Region, dimension: usize) -> bool
     requires { dimension ≤ 8 }
-    ensures { IsTrue result → IsOpenBefore dimension region.now }
+    ensures { IsTrue result ↔ IsOpenBefore dimension region.now }
 {
     for i in 0..dimension {
         if region.bounds.low[i] > 1 || region.bounds.high[i] < u64::from(u32::MAX) {

@@ -16,7 +16,7 @@ ghost use Rattle.range_scan.specs.Visits.{hits, met, page_of};
 
 use crate::ends::is_whole;
 use crate::walk::{Query, SearchStop};
-use cube_point::{Shape, inside, meets};
+use cube_point::{Shape, meets};
 use fact_model::Memory;
 use page_fmt::{Head, Node, PAGE, inner_entry, lent_entry};
 use point_taker::Taker;
@@ -114,7 +114,7 @@ fn take_inside<G: Taker>(
 {
     for index in 0..count as usize {
         let entry = lent_entry(page, &query.tree.shape, index);
-        if inside(&entry.point(), query.region) {
+        if entry.is_inside(query.region) {
             taker.take(&entry)?;
         }
     }

@@ -6,13 +6,13 @@ ghost use Rattle.cube_point.specs.declared.point.Entry as points;
 ghost use Rattle.view_points.specs.Agree.{among};
 ghost use Rattle.view_points.specs.Light.{KeepMasses};
 ghost use Rattle.view_rows.specs.Grouped.{Answers, HasForm, points_inside, rows_from};
-ghost use Rattle.view_rows.specs.Held.{AreOf, ArePlaced, WereGiven};
-ghost use Rattle.view_rows.specs.Kept.{StaysApart, TookIn, at_point};
+ghost use Rattle.view_rows.specs.Held.{AreKept, AreOf, ArePlaced, WereGiven};
+ghost use Rattle.view_rows.specs.Kept.{StaysApart, TookIn, at_point, kept_entry};
 ghost use Rattle.view_rows.specs.Sound.{GiveRows};
 ghost use Rattle.view_rows.specs.declared.groups.Groups as gatherers;
 ghost use Rattle.view_rows.specs.declared.stop.RowsStop.TheVariants as stops;
 
-use crate::gathering::gather_next;
+use crate::gathering::{gather_next, is_at_last, join_at};
 use crate::grouped::{few_names, rows_by};
 use crate::hints::Hints;
 use crate::indexing::{gather_any, index_of};
@@ -66,7 +66,7 @@ impl Groups {
     /// not join, a grouped coordinate stands for no value, or the cells of some key do not join, unless memory is wanting first; so never
     /// where the points are those of facts.
     pub fn rows<'a>(
-        &self,
+        self,
         alloc: Global,
         names: &'a Dicts,
         view: &'a [u32],
@@ -76,31 +76,56 @@ impl Groups {
         requires group { All (λ a. among view.now a ≡ true) slice.now.group }
 
         // Whatever points they are.
-        ensures grouped { (start : gatherers.Groups) (es : List points.Entry) → AreOf slice.now.group view.now start → WereGiven start es self.now
+        ensures grouped { (start : gatherers.Groups) (es : List points.Entry) → AreOf slice.now.group view.now start → WereGiven start es self
             → IfOk result (λ found. found ≡ rows_from names.now view.now slice.now es) }
         ensures form { IfOk result (All (HasForm names.now slice.now)) }
-        ensures sound { (start : gatherers.Groups) (es : List points.Entry) → AreOf slice.now.group view.now start → WereGiven start es self.now
+        ensures sound { (start : gatherers.Groups) (es : List points.Entry) → AreOf slice.now.group view.now start → WereGiven start es self
             → IfOk result (λ _. GiveRows names.now view.now slice.now.group es) }
-        ensures damaged { (start : gatherers.Groups) (es : List points.Entry) → AreOf slice.now.group view.now start → WereGiven start es self.now
+        ensures damaged { (start : gatherers.Groups) (es : List points.Entry) → AreOf slice.now.group view.now start → WereGiven start es self
             → IfErr result (λ stop. stop ≡ stops.Damaged → GiveRows names.now view.now slice.now.group es → ⊥) }
 
         // Where they are those of facts.
         ensures rows { (start : gatherers.Groups) (measures : ℕ) (facts : List facts.Fact) → AreOf slice.now.group view.now start
-            → Answers names.now view.now slice.now facts → WereGiven start (points_inside names.now measures view.now slice.now facts) self.now
+            → Answers names.now view.now slice.now facts → WereGiven start (points_inside names.now measures view.now slice.now facts) self
             → IfOk result (λ found. found ≡ rows facts slice.now) }
         ensures never { (start : gatherers.Groups) (measures : ℕ) (facts : List facts.Fact) → AreOf slice.now.group view.now start
-            → Answers names.now view.now slice.now facts → WereGiven start (points_inside names.now measures view.now slice.now facts) self.now
+            → Answers names.now view.now slice.now facts → WereGiven start (points_inside names.now measures view.now slice.now facts) self
             → KeepMasses facts → length facts < 2 ^ 64 → IfErr result (λ stop. stop ≡ stops.Memory) }
     {
-        if !self.is_sound {
+        let Groups {
+            items,
+            is_sound,
+            ..
+        } = self;
+        if !is_sound {
             return Err(RowsStop::Damaged);
         }
         few_names(names);
-        rows_by(alloc, names, view, slice, &self.items)
+        rows_by(alloc, names, view, slice, items)
+    }
+
+    /// Takes in a point by its grouped coordinates. Where it has those of the last group, as most do, no more of it is read.
+    fn gather(&mut self, entry: &Coded<'_>) -> Result<(), RowsStop>
+        ensures took { ArePlaced self.old.is_ascending self.old.items.items self.old.index.keys → AreKept self.old.dims self.old.items.items
+            → OnOk result (TookIn self.old.items.items self.new.items.items (kept_entry self.old.dims entry.now)) }
+        ensures placed { ArePlaced self.old.is_ascending self.old.items.items self.old.index.keys → AreKept self.old.dims self.old.items.items
+            → OnOk result (ArePlaced self.new.is_ascending self.new.items.items self.new.index.keys) }
+        ensures damaged { ArePlaced self.old.is_ascending self.old.items.items self.old.index.keys → AreKept self.old.dims self.old.items.items
+            → IfErr result (λ stop. stop ≡ stops.Damaged → StaysApart self.old.items.items (kept_entry self.old.dims entry.now)) }
+        ensures dims { self.new.dims ≡ self.old.dims }
+        ensures still { self.new.is_sound ≡ self.old.is_sound }
+    {
+        if self.is_ascending && is_at_last(&self.items, &self.dims, entry) {
+            let last = self.items.len() - 1;
+            return join_at(&mut self.items, last, entry);
+        }
+        let mut point = entry.point();
+        point.at = kept_place(&self.dims, &point.at);
+        self.gather_point(&point, entry)
     }
 
     /// Takes in a point that has its grouped coordinates alone.
-    fn gather(&mut self, point: &Point, entry: &Coded<'_>) -> Result<(), RowsStop>
+    fn gather_point(&mut self, point: &Point, entry: &Coded<'_>) -> Result<(), RowsStop>
         ensures took { ArePlaced self.old.is_ascending self.old.items.items self.old.index.keys
             → OnOk result (TookIn self.old.items.items self.new.items.items (at_point point.now entry.now)) }
         ensures placed { ArePlaced self.old.is_ascending self.old.items.items self.old.index.keys
@@ -142,9 +167,7 @@ impl Taker for Groups {
         if !self.is_sound {
             return Ok(());
         }
-        let mut point = entry.point();
-        point.at = kept_place(&self.dims, &point.at);
-        match self.gather(&point, entry) {
+        match self.gather(entry) {
             Ok(()) => Ok(()),
             Err(RowsStop::Damaged) => {
                 // A page that is bad further on is told before points that do not join, so the search goes on.

@@ -3,7 +3,7 @@ ghost use Rattle.std.specs.Prelude.{◌≡◌, ◌<◌, IfErr, IfOk, IsTrue, OnO
 ghost use Rattle.cube_point.specs.declared.point.Entry as points;
 ghost use Rattle.view_points.specs.Entries.{pair_of};
 ghost use Rattle.view_rows.specs.Folded.{AllApart};
-ghost use Rattle.view_rows.specs.Held.{IsIndexed};
+ghost use Rattle.view_rows.specs.Held.{AllEndInZeros, IsIndexed};
 ghost use Rattle.view_rows.specs.Kept.{StaysApart, TookIn, at_point, same_place};
 ghost use Rattle.view_rows.specs.declared.stop.RowsStop.TheVariants as stops;
 
@@ -43,10 +43,13 @@ pub(crate) fn gather_any(
     point: &Point,
     entry: &Coded<'_>,
 ) -> Result<(), RowsStop>
-    ensures took { IsIndexed groups.old.items index.old.keys → OnOk result (TookIn groups.old.items groups.new.items (at_point point.now entry.now)) }
-    ensures index { IsIndexed groups.old.items index.old.keys → OnOk result (IsIndexed groups.new.items index.new.keys) }
-    ensures damaged { IsIndexed groups.old.items index.old.keys → IfErr result (λ stop. stop ≡ stops.Damaged
-        → StaysApart groups.old.items (at_point point.now entry.now)) }
+    ensures took { IsIndexed groups.old.items index.old.keys → AllEndInZeros groups.old.items
+        → OnOk result (TookIn groups.old.items groups.new.items (at_point point.now entry.now)) }
+    ensures index { IsIndexed groups.old.items index.old.keys → AllEndInZeros groups.old.items
+        → OnOk result (IsIndexed groups.new.items index.new.keys) }
+    ensures zeros { AllEndInZeros groups.old.items → OnOk result (AllEndInZeros groups.new.items) }
+    ensures damaged { IsIndexed groups.old.items index.old.keys → AllEndInZeros groups.old.items
+        → IfErr result (λ stop. stop ≡ stops.Damaged → StaysApart groups.old.items (at_point point.now entry.now)) }
 {
     let hint = hints.at(&point.at);
     if is_at(groups, hint, &point.at) {

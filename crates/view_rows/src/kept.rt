@@ -1,6 +1,8 @@
 //! The coordinates of grouped attributes.
-ghost use Rattle.std.specs.Prelude.{◌≡◌, ◌≤◌, ℕ, List, length};
+ghost use Rattle.std.specs.Prelude.{◌≡◌, ◌↔◌, ◌≤◌, ℕ, IsTrue, List, length};
 ghost use Rattle.view_rows.specs.Kept.{grouped_dims, kept};
+
+use page_fmt::Coded;
 
 /// Which attributes of a view are grouped.
 pub(crate) fn grouped_dims(view: &[u32], group: &[u32]) -> [bool; 8]
@@ -25,4 +27,25 @@ pub(crate) fn kept_place(dims: &[bool; 8], place: &[u64; 8]) -> [u64; 8]
         }
     }
     kept
+}
+
+/// Shows that a lent point has eight coordinates.
+#[inline(always)]
+fn eight_coordinates(entry: &Coded<'_>)
+    ensures { length entry.now.point.at ≡ 8 }
+{
+    let _point = entry.point();
+}
+
+/// Whether a lent point has these coordinates of a place. No more of them are read than tell it.
+pub(crate) fn is_kept_at(dims: &[bool; 8], place: &[u64; 8], entry: &Coded<'_>) -> bool
+    ensures { IsTrue result ↔ (kept dims.now entry.now.point.at ≡ kept dims.now place.now) }
+{
+    for i in 0..8 {
+        if dims[i] && entry.coordinate(i) != place[i] {
+            return false;
+        }
+    }
+    eight_coordinates(entry);
+    true
 }

@@ -9,6 +9,8 @@ mod indexing;
 mod joining;
 mod kept;
 mod keys;
+mod ordered;
+mod ordering;
 mod ranked;
 mod ranks;
 mod regions;

@@ -1,15 +1,16 @@
 //! Points in the order of their keys, by ranks.
-ghost use Rattle.std.specs.Prelude.{◌≡◌, ◌<◌, All, IfOk, length, map, take};
+ghost use Rattle.std.specs.Prelude.{◌≡◌, ◌<◌, All, IfOk, IsTrue, length, map, take};
 ghost use Rattle.std.specs.List.Sorted.{IsPermutation, IsSortedBy, IsStableBy};
 ghost use Rattle.std.specs.Cmp.Lexicographic.{slice_cmp};
 ghost use Rattle.std.specs.Ordering.{nat_cmp, ordering_then};
 ghost use Rattle.fact_model.specs.Value.{key_cmp};
-ghost use Rattle.view_rows.specs.Grouped.{is_before, key_of_entry, lent};
-ghost use Rattle.view_rows.specs.Keys.{IsRanked, entry_in, ranks_at, rank_nth};
+ghost use Rattle.view_rows.specs.Grouped.{AreNumbers, KeysAscend, is_before, key_of_entry, picked};
+ghost use Rattle.view_rows.specs.Keys.{IsNumbered, IsRanked, RanksAscend, entry_in, number_in, ranks_at, rank_nth};
 ghost use Rattle.view_rows.specs.Ranks.{TellOrder};
 ghost use Rattle.view_rows.specs.declared.ranks.Ranks as tables;
 
 use crate::keys::{compare_keys, coordinate};
+use crate::ordering::Order;
 use crate::ranks::Ranks;
 use attr_dict::Dicts;
 use cube_point::Entry;
@@ -17,30 +18,36 @@ use fact_model::Memory;
 use std::alloc::Global;
 use std::cmp::Ordering;
 
-/// A point with the ranks of its first four grouped values, and zeros behind them where there are fewer.
+/// A point with its number and the ranks of its first four grouped values, and zeros behind them where there are fewer.
 #[derive(Clone, Copy)]
 struct Ranked<'a> {
     ranks: [u64; 4],
+    number: usize,
     entry: &'a Entry,
 }
 
-/// The points in the order of their keys, lent and not moved. Those of one key stay in their order.
-pub(crate) fn sorted_by_ranks<'a>(
+/// The order of points by their keys. Those of one key stay in their order.
+pub(crate) fn order_by_ranks(
     alloc: Global,
     names: &Dicts,
     view: &[u32],
     group: &[u32],
-    points: &'a [Entry],
-) -> Result<Vec<&'a Entry>, Memory>
+    points: &[Entry],
+) -> Result<Order, Memory>
     requires { All (λ a. a < length names.now.kinds) group.now }
-    ensures moved { IfOk result (λ sorted. IsPermutation points.now (lent sorted.items)) }
-    ensures sorted { IfOk result (λ sorted. IsSortedBy (is_before names.now view.now group.now) (lent sorted.items)) }
-    ensures stable { IfOk result (λ sorted. IsStableBy (is_before names.now view.now group.now) points.now (lent sorted.items)) }
+    ensures numbers { IfOk result (λ order. AreNumbers points.now order.numbers.items) }
+    ensures moved { IfOk result (λ order. IsPermutation points.now (picked points.now order.numbers.items)) }
+    ensures sorted { IfOk result (λ order. IsSortedBy (is_before names.now view.now group.now) (picked points.now order.numbers.items)) }
+    ensures stable { IfOk result (λ order. IsStableBy (is_before names.now view.now group.now) points.now (picked points.now order.numbers.items)) }
+    ensures strict { IfOk result (λ order. IsTrue order.is_strict → KeysAscend names.now view.now group.now (picked points.now order.numbers.items)) }
 {
     let ranks = ranks_of_group(alloc, names, view, group, points)?;
     let mut ranked = ranked_points(alloc, names, view, &ranks, points)?;
     ranked.sort_by(|a, b| compare_ranked(names, view, group, a, b))?;
-    lent_points(alloc, &ranked)
+    Ok(Order {
+        numbers: numbers_of(alloc, &ranked)?,
+        is_strict: do_ranked_ascend(names, view, group, &ranked),
+    })
 }
 
 /// The ranks of the first four grouped attributes.
@@ -72,12 +79,14 @@ fn ranked_points<'a>(
 ) -> Result<Vec<Ranked<'a>>, Memory>
     requires { All (λ (r : tables.Ranks). r.attr < length names.now.kinds) ranks.now }
     ensures points { IfOk result (λ ranked. map entry_in ranked.items ≡ points.now) }
+    ensures numbers { IfOk result (λ ranked. All (IsNumbered points.now) ranked.items) }
     ensures ranks { IfOk result (λ ranked. All (IsRanked names.now view.now ranks.now) ranked.items) }
 {
     let mut ranked = Vec::with_capacity(alloc, points.len())?;
-    for entry in points {
+    for (number, entry) in points.iter().enumerate() {
         ranked.push(Ranked {
             ranks: ranks_at(names, view, ranks, &entry.point.at),
+            number,
             entry,
         })?;
     }
@@ -127,13 +136,26 @@ fn compare_ranked(
     }
 }
 
-/// The points alone.
-fn lent_points<'a>(alloc: Global, ranked: &[Ranked<'a>]) -> Result<Vec<&'a Entry>, Memory>
-    ensures { IfOk result (λ points. lent points.items ≡ map entry_in ranked.now) }
+/// Whether each point comes before the next, by its ranks and then by its key.
+fn do_ranked_ascend(names: &Dicts, view: &[u32], group: &[u32], ranked: &[Ranked<'_>]) -> bool
+    requires { All (λ a. a < length names.now.kinds) group.now }
+    ensures { IsTrue result → RanksAscend names.now view.now group.now ranked.now }
 {
-    let mut points = Vec::with_capacity(alloc, ranked.len())?;
-    for point in ranked {
-        points.push(point.entry)?;
+    for i in 1..ranked.len() {
+        if !compare_ranked(names, view, group, &ranked[i - 1], &ranked[i]).is_lt() {
+            return false;
+        }
     }
-    Ok(points)
+    true
+}
+
+/// The numbers alone.
+fn numbers_of(alloc: Global, ranked: &[Ranked<'_>]) -> Result<Vec<usize>, Memory>
+    ensures { IfOk result (λ numbers. numbers.items ≡ map number_in ranked.now) }
+{
+    let mut numbers = Vec::with_capacity(alloc, ranked.len())?;
+    for point in ranked {
+        numbers.push(point.number)?;
+    }
+    Ok(numbers)
 }

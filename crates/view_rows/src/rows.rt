@@ -7,6 +7,7 @@ ghost use Rattle.view_points.specs.Answer.{column_of, row_from};
 ghost use Rattle.view_rows.specs.Grouped.{key_of_entry, keyed, value_at_code};
 
 use crate::keys::coordinate;
+use crate::ordered::OrderedPoints;
 use attr_dict::{Dicts, ValueRef};
 use csv_text::RowWriter;
 use cube_point::Entry;
@@ -20,7 +21,7 @@ pub struct SliceRows<'a> {
     names: &'a Dicts,
     view: &'a [u32],
     slice: &'a Slice,
-    points: Vec<Entry>,
+    points: OrderedPoints,
 }
 
 impl<'a> Model for SliceRows<'a> {
@@ -31,7 +32,7 @@ impl<'a> Model for SliceRows<'a> {
 
     ghost Value = { List Row };
 
-    ghost view = { λ r. map (row_from r.slice.now.columns) (map (keyed r.names.now r.view.now r.slice.now.group) r.points.items) };
+    ghost view = { λ r. map (row_from r.slice.now.columns) (map (keyed r.names.now r.view.now r.slice.now.group) r.points) };
 
     ghost invariant = { λ r. All (λ a. a < length r.names.now.kinds) r.slice.now.group };
 }
@@ -42,10 +43,10 @@ impl<'a> SliceRows<'a> {
         names: &'a Dicts,
         view: &'a [u32],
         slice: &'a Slice,
-        points: Vec<Entry>,
+        points: OrderedPoints,
     ) -> SliceRows<'a>
         requires { All (λ a. a < length names.now.kinds) slice.now.group }
-        ensures { result ≡ map (row_from slice.now.columns) (map (keyed names.now view.now slice.now.group) points.items) }
+        ensures { result ≡ map (row_from slice.now.columns) (map (keyed names.now view.now slice.now.group) points) }
     {
         SliceRows {
             names,
@@ -77,7 +78,7 @@ fn push_rows(
     names: &Dicts,
     view: &[u32],
     slice: &Slice,
-    points: &[Entry],
+    points: &OrderedPoints,
     writer: &mut RowWriter,
 ) -> Result<(), Memory>
     requires group { All (λ a. a < length names.now.kinds) slice.now.group }
@@ -86,8 +87,8 @@ fn push_rows(
         ≡ with_rows writer.old (map row_fields (map (row_from slice.now.columns) (map (keyed names.now view.now slice.now.group) points.now)))) }
     ensures dropped { OnErr result (writer.new ≡ nothing_written) }
 {
-    for entry in points {
-        push_row(names, view, slice, entry, writer)?;
+    for place in 0..points.len() {
+        push_row(names, view, slice, points.at(place), writer)?;
     }
     Ok(())
 }

@@ -1,8 +1,21 @@
-use Rattle.std.proofs.Common.{◌≡◌, ◌≤◌, inl, inr, ℕ, subst, arith}
+use Rattle.std.proofs.Common.{◌≡◌, ◌≤◌, inl, inr, ℕ, refl, subst, arith}
 use Rattle.std.specs.Prelude.{slice_index}
 use Rattle.std.proofs.lemmas.Bool.{cases_lt}
 use Rattle.page_fmt.specs.Lawful.{IsNarrow}
+use Rattle.range_scan.proofs.ends.is_open_before.Goals.{then-region-i-gt1-via-then-region-i-gt1, then-region-i-gt1-via-else-region-i-gt1+then-region-i}
 use Rattle.range_scan.proofs.ends.is_open_before.Goals as goal
+
+pub returns-then-region-i-gt1 : goal.returns-then-region-i-gt1
+returns-then-region-i-gt1 c = (
+  λ no. absurd cc,
+  λ open_before.
+      let here = open_before c.loop-i.i c.loop-i-test.true in
+      elim c.then-region-i-gt1.branch [
+        | then-region-i-gt1-via-then-region-i-gt1 w ↦ absurd (omega (arith, here.0, w.if-region-i-gt1.true))
+        | then-region-i-gt1-via-else-region-i-gt1+then-region-i w ↦
+            absurd (omega (arith, here.1 4294967295 (omega arith), w.from.ensures, w.if-region-i.true))
+      ],
+)
 
 pub loop-i-preserved : goal.loop-i-preserved
 loop-i-preserved c = λ i below. elim (cases_lt i c.loop-i.i) [
@@ -15,4 +28,4 @@ loop-i-preserved c = λ i below. elim (cases_lt i c.loop-i.i) [
 ]
 
 pub returns : goal.returns
-returns c = λ _ i below. c.loop-i.invariant i (omega (arith, below, c.loop-i-test.false))
+returns c = (λ yes. λ i below. c.loop-i.invariant i (omega (arith, below, c.loop-i-test.false)), λ open_before. refl)

@@ -1,6 +1,3 @@
-use Rattle.std.specs.Prelude.{◌↔◌, IsTrue}
-use Rattle.cube_point.specs.Boxes.{IsInside}
-use Rattle.cube_point.specs.declared.point.Point.{Point}
 use Rattle.std.proofs.Common.{◌++◌, ◌+◌, ◌<◌, ◌∙◌, List, filter, length, take, refl, subst, sym, arith}
 use Rattle.cube_point.specs.declared.point.Entry.{Entry}
 use Rattle.page_fmt.specs.Taking.{entries}
@@ -8,7 +5,7 @@ use Rattle.range_scan.specs.Meeting.{is_inside}
 use Rattle.range_scan.proofs.Lists.{keeps, skips}
 use Rattle.range_scan.proofs.Tests.{inside-is}
 use Rattle.range_scan.proofs.page.take_inside.Goals as goal
-use Rattle.range_scan.proofs.page.take_inside.Goals.{then-inside+in_ok-take, else-inside}
+use Rattle.range_scan.proofs.page.take_inside.Goals.{then-is_inside+in_ok-take, else-is_inside}
 
 pub loop-index-preserved : goal.loop-index-preserved
 loop-index-preserved g c = λ start es given.
@@ -17,16 +14,16 @@ loop-index-preserved g c = λ start es given.
     let i = c.loop-index.index in
     let e = c.lent_entry-entry.result in
     let low : i < length all = omega arith in
-    let test = inside-is c.inside.result region e (subst (λ (p : Point). IsTrue c.inside.result ↔ IsInside p region) c.point.ensures c.inside.ensures) in
+    let test = inside-is c.is_inside.result region e c.is_inside.ensures in
     let now : List Entry = es ++ filter (is_inside region) (take i all) in
     let so_far = c.loop-index.invariant start es given in
-    elim c.if-inside.branch [
-      | then-inside+in_ok-take w ↦
+    elim c.if-is_inside.branch [
+      | then-is_inside+in_ok-take w ↦
           subst (λ t. g.G.Taker.was_given start (es ++ filter (is_inside region) (take (i + 1) all)) t) (sym w.taker-is)
-          (subst (λ l. g.G.Taker.was_given start l w.take.new.self) (keeps (is_inside region) all i e es now low c.lent_entry-entry.ensures (sym test ∙ w.if-inside.true) refl)
+          (subst (λ l. g.G.Taker.was_given start l w.take.new.self) (keeps (is_inside region) all i e es now low c.lent_entry-entry.ensures (sym test ∙ w.if-is_inside.true) refl)
           (w.in_ok-take.ensures start now so_far))
-      | else-inside w ↦
+      | else-is_inside w ↦
           subst (λ t. g.G.Taker.was_given start (es ++ filter (is_inside region) (take (i + 1) all)) t) (sym w.taker-is)
-          (subst (λ l. g.G.Taker.was_given start l c.loop-index.taker) (skips (is_inside region) all i e es now low c.lent_entry-entry.ensures (sym test ∙ w.if-inside.false) refl)
+          (subst (λ l. g.G.Taker.was_given start l c.loop-index.taker) (skips (is_inside region) all i e es now low c.lent_entry-entry.ensures (sym test ∙ w.if-is_inside.false) refl)
           so_far)
     ]

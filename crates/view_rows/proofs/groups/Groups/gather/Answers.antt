@@ -1,43 +1,55 @@
-use Rattle.std.proofs.Common.{rules, ℕ, List, ◌≡◌, true, sym, ◌∙◌, ap, subst, map, true≢false, Vec, Global}
-use Rattle.std.specs.Prelude.{OnOk, IfErr}
+use Rattle.std.proofs.Common.{rules, arith, ℕ, ◌≡◌, ◌<◌, ◌-◌, length, sym, ◌∙◌, subst, true≢false, Vec, Global, vec_len}
 use Rattle.std.proofs.lemmas.Result.{MatchResult-weaker}
 use Rattle.cube_point.specs.declared.point.Entry.{Entry}
-use Rattle.view_points.specs.Entries.{pair_of}
-use Rattle.view_rows.specs.Folded.{AllApart}
-use Rattle.view_rows.specs.Held.{IsIndexed}
-use Rattle.view_rows.specs.Kept.{StaysApart, TookIn, at_point, same_place}
-use Rattle.view_rows.specs.declared.stop.RowsStop.TheVariants as stops
-use Rattle.view_rows.proofs.GatheredPlaces.{all-apart}
+use Rattle.cube_point.specs.Points.{point_cmp}
+use Rattle.view_points.specs.Ascends.{Ascends}
+use Rattle.view_rows.specs.Kept.{kept_entry}
+use Rattle.view_rows.proofs.GatheredPlaces.{all-apart, ascends-at, from-both}
+use Rattle.view_rows.proofs.KeptGroups.{last-here}
 use Rattle.view_rows.proofs.groups.Groups.gather.Goals as goal
 
--- the points are as they were, and an index has their places
-now-indexed : (gs next given : List Entry) (keys : List (List ℕ)) → next ≡ gs → given ≡ next → AllApart same_place (map pair_of gs)
-    → (AllApart same_place (map pair_of given) → IsIndexed given keys) → IsIndexed next keys
-now-indexed gs next given keys same is apart to =
-    subst (λ (l : List Entry). IsIndexed l keys) is (to (subst (λ (l : List Entry). AllApart same_place (map pair_of l)) (sym (is ∙ same)) apart))
+long : (v : Vec Entry Global) (n : ℕ) → n ≡ vec_len v → n ≡ length v.items
+long v n is = search (rules, is)
 
-pub returns-clause-took : goal.returns-clause-took
-returns-clause-took c = λ was.
-    let ascending : c.args.self.now.is_ascending ≡ true = search rules in
-    let same = ap (λ (v : Vec Entry Global). v.items) (c.in_ok-gather_next.ensures.same c.if-branch.false) in
-    let indexed = now-indexed c.args.self.now.items.items c.gather_next.new.groups.items c.deref.result.now c.in_ok-self-2.field-0.keys same c.deref.ensures.value
-    (all-apart c.args.self.now.items.items (was.ascend ascending)) c.in_ok-self-2.ensures in
-    subst (λ (l : List Entry). OnOk c.gather_any-2.result (TookIn l c.gather_any-2.new.groups.items (at_point c.args.point.now c.args.entry.now))) same (c.gather_any-2.ensures.took indexed)
+pub overflow_sub-last : goal.overflow_sub-last
+overflow_sub-last c =
+    let told = (c.is_at_last.ensures (kept_entry c.args.self.now.dims c.args.entry.now)).0 c.if-is_at_last.true in
+    omega (arith, told.0, c.deref.ensures.len, c.len-last.ensures)
 
-pub returns-clause-placed : goal.returns-clause-placed
-returns-clause-placed c = λ was.
-    let ascending : c.args.self.now.is_ascending ≡ true = search rules in
-    let same = ap (λ (v : Vec Entry Global). v.items) (c.in_ok-gather_next.ensures.same c.if-branch.false) in
-    let indexed = now-indexed c.args.self.now.items.items c.gather_next.new.groups.items c.deref.result.now c.in_ok-self-2.field-0.keys same c.deref.ensures.value
-    (all-apart c.args.self.now.items.items (was.ascend ascending)) c.in_ok-self-2.ensures in
-    MatchResult-weaker c.gather_any-2.result (c.gather_any-2.ensures.index indexed)
-    (λ u is. record { ascend = λ up. absurd (true≢false (sym up)); indexed = λ not. is })
-    (λ stop u. u)
+pub join_at-requires : goal.join_at-requires
+join_at-requires c =
+    let told = (c.is_at_last.ensures (kept_entry c.args.self.now.dims c.args.entry.now)).0 c.if-is_at_last.true in
+    record { within = omega (arith, told.0, c.deref.ensures.len, c.len-last.ensures) }
 
-pub returns-clause-damaged : goal.returns-clause-damaged
-returns-clause-damaged c = λ was.
-    let ascending : c.args.self.now.is_ascending ≡ true = search rules in
-    let same = ap (λ (v : Vec Entry Global). v.items) (c.in_ok-gather_next.ensures.same c.if-branch.false) in
-    let indexed = now-indexed c.args.self.now.items.items c.gather_next.new.groups.items c.deref.result.now c.in_ok-self-2.field-0.keys same c.deref.ensures.value
-    (all-apart c.args.self.now.items.items (was.ascend ascending)) c.in_ok-self-2.ensures in
-    subst (λ (l : List Entry). IfErr c.gather_any-2.result (λ stop. stop ≡ stops.Damaged → StaysApart l (at_point c.args.point.now c.args.entry.now))) same (c.gather_any-2.ensures.damaged indexed)
+pub returns-then-is_at_last-clause-took : goal.returns-then-is_at_last-clause-took
+returns-then-is_at_last-clause-took c = λ was are.
+    let gs = c.args.self.now.items.items in
+    let k = kept_entry c.args.self.now.dims c.args.entry.now in
+    let many = long c.args.self.now.items c.len-last.result c.len-last.ensures in
+    let here = last-here c.args.self.now.dims gs c.deref.result.now c.len-last.result c.args.entry.now many c.deref.ensures.value are
+    ((c.is_at_last.ensures k).0 c.if-is_at_last.true) in
+    c.join_at.ensures.took k.point here (all-apart gs (was.ascend c.if-self.true)) was.zeros
+
+pub returns-then-is_at_last-clause-placed : goal.returns-then-is_at_last-clause-placed
+returns-then-is_at_last-clause-placed c = λ was are.
+    let gs = c.args.self.now.items.items in
+    let k = kept_entry c.args.self.now.dims c.args.entry.now in
+    let many = long c.args.self.now.items c.len-last.result c.len-last.ensures in
+    let told = (c.is_at_last.ensures k).0 c.if-is_at_last.true in
+    let here = last-here c.args.self.now.dims gs c.deref.result.now c.len-last.result c.args.entry.now many c.deref.ensures.value are told in
+    let low : c.len-last.result - 1 < length gs = omega (arith, many, told.0, c.deref.ensures.len, c.len-last.ensures) in
+    from-both c.join_at.result (returns-then-is_at_last-clause-took c was are) (c.join_at.ensures.zeros was.zeros)
+    (λ took zeros. record {
+      ascend = λ up. subst (Ascends point_cmp) (sym took.items) (ascends-at gs k (c.len-last.result - 1) low here (was.ascend up));
+      indexed = λ not. absurd (true≢false (sym c.if-self.true ∙ not));
+      zeros = zeros;
+    })
+
+pub returns-then-is_at_last-clause-damaged : goal.returns-then-is_at_last-clause-damaged
+returns-then-is_at_last-clause-damaged c = λ was are.
+    let gs = c.args.self.now.items.items in
+    let k = kept_entry c.args.self.now.dims c.args.entry.now in
+    let many = long c.args.self.now.items c.len-last.result c.len-last.ensures in
+    let here = last-here c.args.self.now.dims gs c.deref.result.now c.len-last.result c.args.entry.now many c.deref.ensures.value are
+    ((c.is_at_last.ensures k).0 c.if-is_at_last.true) in
+    MatchResult-weaker c.join_at.result (c.join_at.ensures.apart k.point here was.zeros) (λ u unit. unit) (λ stop apart to. apart)

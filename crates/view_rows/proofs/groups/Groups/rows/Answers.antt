@@ -10,28 +10,28 @@ use Rattle.view_rows.proofs.GatheredSound.{facts-give}
 use Rattle.view_rows.proofs.GivenRows.{broken-gives, given-items, gives-sound, sound-gives}
 use Rattle.view_rows.proofs.groups.Groups.rows.Goals as goal
 
-pub returns-then-not-self-clause-never : goal.returns-then-not-self-clause-never
-returns-then-not-self-clause-never c = λ start measures facts of are was masses few.
+pub returns-then-not-is_sound-clause-never : goal.returns-then-not-is_sound-clause-never
+returns-then-not-is_sound-clause-never c = λ start measures facts of are was masses few.
     let b = c.args.names.now in
     let view = c.args.view.now in
     let s = c.args.slice.now in
-    let broken : c.args.self.now.is_sound ≡ false = search rules in
-    absurd (broken-gives b s.group view start c.args.self.now (points_inside b measures view s facts) of was broken (facts-give b view s measures facts are masses few))
+    let broken : c.args.self.is_sound ≡ false = search rules in
+    absurd (broken-gives b s.group view start c.args.self (points_inside b measures view s facts) of was broken (facts-give b view s measures facts are masses few))
 
-pub returns-then-not-self-clause-damaged : goal.returns-then-not-self-clause-damaged
-returns-then-not-self-clause-damaged c = λ start es of was is.
-    let broken : c.args.self.now.is_sound ≡ false = search rules in
-    broken-gives c.args.names.now c.args.slice.now.group c.args.view.now start c.args.self.now es of was broken
+pub returns-then-not-is_sound-clause-damaged : goal.returns-then-not-is_sound-clause-damaged
+returns-then-not-is_sound-clause-damaged c = λ start es of was is.
+    let broken : c.args.self.is_sound ≡ false = search rules in
+    broken-gives c.args.names.now c.args.slice.now.group c.args.view.now start c.args.self es of was broken
 
 pub returns-clause-grouped : goal.returns-clause-grouped
 returns-clause-grouped c = λ start es of was.
     let b = c.args.names.now in
     let view = c.args.view.now in
     let s = c.args.slice.now in
-    let sound : c.args.self.now.is_sound ≡ true = search rules in
-    let items = ap (map pair_of) c.deref.ensures.value ∙ given-items b s.group view start c.args.self.now es of was sound in
+    let sound : c.args.self.is_sound ≡ true = search rules in
+    let items = given-items b s.group view start c.args.self es of was sound in
     MatchResult-weaker c.rows_by.result c.rows_by.ensures.grouped
-    (λ found to. to ∙ rows-gathered b view s es c.deref.result.now items)
+    (λ found to. to ∙ rows-gathered b view s es c.args.self.items.items items)
     (λ stop u. u)
 
 pub returns-clause-sound : goal.returns-clause-sound
@@ -39,9 +39,9 @@ returns-clause-sound c = λ start es of was.
     let b = c.args.names.now in
     let view = c.args.view.now in
     let group = c.args.slice.now.group in
-    let sound : c.args.self.now.is_sound ≡ true = search rules in
+    let sound : c.args.self.is_sound ≡ true = search rules in
     MatchResult-weaker c.rows_by.result c.rows_by.ensures.sound
-    (λ found are. sound-gives b group view start c.args.self.now es of was sound (subst (AreSound b view group) c.deref.ensures.value are))
+    (λ found are. sound-gives b group view start c.args.self es of was sound are)
     (λ stop u. u)
 
 pub returns-clause-damaged : goal.returns-clause-damaged
@@ -49,10 +49,10 @@ returns-clause-damaged c = λ start es of was.
     let b = c.args.names.now in
     let view = c.args.view.now in
     let group = c.args.slice.now.group in
-    let sound : c.args.self.now.is_sound ≡ true = search rules in
+    let sound : c.args.self.is_sound ≡ true = search rules in
     MatchResult-weaker c.rows_by.result c.rows_by.ensures.damaged
     (λ found u. u)
-    (λ stop damaged to give. damaged to (subst (AreSound b view group) (sym c.deref.ensures.value) (gives-sound b group view start c.args.self.now es of was sound give)))
+    (λ stop damaged to give. damaged to (gives-sound b group view start c.args.self es of was sound give))
 
 pub returns-clause-rows : goal.returns-clause-rows
 returns-clause-rows c = λ start measures facts of are was.
