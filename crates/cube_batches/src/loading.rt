@@ -43,8 +43,8 @@ pub fn load<T: Site>(
         → Spends T.Site (load_cost world (load world source).0) site.old site.new }
     ensures damage { IsTrue T.tells → IfErr result (LoadTells state (T.disk site.old).files source) }
     ensures answered { IsTrue T.tells → IfOk result (λ done. LoadGives state (T.disk site.old).files source done.reply.items) }
-    ensures unwritten { IsTrue T.tells → (world : World) → Stands state (T.disk site.old) world
-        → (load world source).0.kept ≡ world.kept → OnOk result (T.writes site.new ≡ T.writes site.old) }
+    ensures untouched { IsTrue T.tells → (world : World) → Stands state (T.disk site.old) world
+        → (load world source).0.kept ≡ world.kept → OnOk result (site.new ≡ site.old) }
 
     ensures moved { IfOk result (λ done. moves_made done.state ≡ moves_made state) }
     ensures runs { IfOk result (λ done. RunsOn T.Site site.new done.state) }

@@ -53,8 +53,8 @@ pub fn load_numbered<T: Site>(
         → Spends T.Site (load_cost world (load_numbered world number block).0) site.old site.new }
     ensures damage { IsTrue T.tells → IfErr result (NumberedTells state (T.disk site.old).files number block) }
     ensures answered { IsTrue T.tells → IfOk result (λ done. NumberedGives state (T.disk site.old).files number block done.reply.items) }
-    ensures unwritten { IsTrue T.tells → (world : World) → Stands state (T.disk site.old) world
-        → (load_numbered world number block).0.kept ≡ world.kept → OnOk result (T.writes site.new ≡ T.writes site.old) }
+    ensures untouched { IsTrue T.tells → (world : World) → Stands state (T.disk site.old) world
+        → (load_numbered world number block).0.kept ≡ world.kept → OnOk result (site.new ≡ site.old) }
 
     ensures moved { IfOk result (λ done. moves_made done.state ≡ moves_made state) }
     ensures runs { IfOk result (λ done. RunsOn T.Site site.new done.state) }
@@ -94,8 +94,8 @@ fn take_turn<T: Site>(
         → Spends T.Site (load_cost (idle warehouse) (in_turn (idle warehouse) number warehouse block).0) site.old site.new }
     ensures damage { IsTrue T.tells → IfErr result (TurnTells store (T.disk site.old).files number block) }
     ensures answered { IsTrue T.tells → IfOk result (λ done. TurnGives store (T.disk site.old).files number block done.reply.items) }
-    ensures unwritten { IsTrue T.tells → (warehouse : Warehouse) → Belongs store (T.disk site.old) warehouse
-        → (in_turn (idle warehouse) number warehouse block).0.kept ≡ (idle warehouse).kept → OnOk result (T.writes site.new ≡ T.writes site.old) }
+    ensures untouched { IsTrue T.tells → (warehouse : Warehouse) → Belongs store (T.disk site.old) warehouse
+        → (in_turn (idle warehouse) number warehouse block).0.kept ≡ (idle warehouse).kept → OnOk result (site.new ≡ site.old) }
 
     ensures moved { IfOk result (λ done. moves_made done.state ≡ 0) }
     ensures runs { IfOk result (λ done. RunsOn T.Site site.new done.state) }
@@ -140,8 +140,8 @@ fn take_next<T: Site>(
         → Spends T.Site (load_cost (idle warehouse) (next_read warehouse (block_read warehouse.schema block)).0) site.old site.new }
     ensures damage { IsTrue T.tells → IfErr result (TellsReadDamage store (T.disk site.old).files (block_read store.forest.schema block)) }
     ensures answered { IsTrue T.tells → IfOk result (λ done. GivesNext store (T.disk site.old).files (block_read store.forest.schema block) done.reply.items) }
-    ensures unwritten { IsTrue T.tells → (warehouse : Warehouse) → Belongs store (T.disk site.old) warehouse
-        → (next_read warehouse (block_read warehouse.schema block)).0.kept ≡ (idle warehouse).kept → OnOk result (T.writes site.new ≡ T.writes site.old) }
+    ensures untouched { IsTrue T.tells → (warehouse : Warehouse) → Belongs store (T.disk site.old) warehouse
+        → (next_read warehouse (block_read warehouse.schema block)).0.kept ≡ (idle warehouse).kept → OnOk result (site.new ≡ site.old) }
 
     ensures moved { IfOk result (λ done. moves_made done.state ≡ 0) }
     ensures runs { IfOk result (λ done. RunsOn T.Site site.new done.state) }
@@ -188,8 +188,8 @@ fn take_batch<T: Site>(
         → Spends T.Site (load_cost (idle warehouse) (next_accepted warehouse batch).0) site.old site.new }
     ensures damage { IsTrue T.tells → IfErr result (TellsBatchDamage store (T.disk site.old).files batch) }
     ensures answered { IsTrue T.tells → IfOk result (λ done. GivesBatch store (T.disk site.old).files batch done.reply.items) }
-    ensures unwritten { IsTrue T.tells → (warehouse : Warehouse) → Belongs store (T.disk site.old) warehouse
-        → (next_accepted warehouse batch).0.kept ≡ (idle warehouse).kept → OnOk result (T.writes site.new ≡ T.writes site.old) }
+    ensures untouched { IsTrue T.tells → (warehouse : Warehouse) → Belongs store (T.disk site.old) warehouse
+        → (next_accepted warehouse batch).0.kept ≡ (idle warehouse).kept → OnOk result (site.new ≡ site.old) }
 
     ensures moved { IfOk result (λ done. moves_made done.state ≡ 0) }
     ensures runs { IfOk result (λ done. RunsOn T.Site site.new done.state) }

@@ -46,8 +46,8 @@ pub fn begin<T: Site>(
     ensures damage { IfErr result IsNoDamage }
     ensures answered { IfOk result (λ done. BeginGives state block done.reply.items) }
     ensures moved { IfOk result (λ done. moves_made done.state ≡ moves_made state) }
-    ensures silent { IsTrue T.tells → (world : World) → Stands state (T.disk site.old) world
-        → begins world (begin world block).0 ≡ 0 → OnOk result (T.writes site.new ≡ T.writes site.old) }
+    ensures untouched { IsTrue T.tells → (world : World) → Stands state (T.disk site.old) world
+        → begins world (begin world block).0 ≡ 0 → OnOk result (site.new ≡ site.old) }
     ensures live { IfOk result (λ done. live_of done.state ≡ live_of state) }
     ensures side { IsTrue T.tells → OnOk result (SideStays (live_of state) (T.disk site.old).files (T.disk site.new).files) }
     ensures runs { IfOk result (λ done. RunsOn T.Site site.new done.state) }
@@ -80,8 +80,8 @@ pub fn step<T: Site>(
         → IfOk result (λ done. moves_made done.state ≡ made_behind world (moves_made state) (says.Step moves)) }
     ensures cost { IsTrue T.tells → (world : World) → Stands state (T.disk site.old) world
         → Spends T.Site (step_cost world (moves_made state) moves) site.old site.new }
-    ensures silent { IsTrue T.tells → (world : World) → Stands state (T.disk site.old) world → HasNoFact world.pending
-        → OnOk result (T.writes site.new ≡ T.writes site.old) }
+    ensures untouched { IsTrue T.tells → (world : World) → Stands state (T.disk site.old) world → HasNoFact world.pending
+        → OnOk result (site.new ≡ site.old) }
 
     // Whatever the files hold.
     ensures damage { IsTrue T.tells → IfErr result (FinishTells state (T.disk site.old).files) }
@@ -121,8 +121,8 @@ fn move_on<T: Site>(state: &mut State, moves: u64, site: &mut T) -> Result<(), S
         → OnOk result (moves_made state.new ≡ made_behind world (moves_made state.old) (says.Step moves)) }
     ensures cost { IsTrue T.tells → (world : World) → Stands state.old (T.disk site.old) world
         → Spends T.Site (step_cost world (moves_made state.old) moves) site.old site.new }
-    ensures silent { IsTrue T.tells → (world : World) → Stands state.old (T.disk site.old) world → HasNoFact world.pending
-        → OnOk result (T.writes site.new ≡ T.writes site.old) }
+    ensures untouched { IsTrue T.tells → (world : World) → Stands state.old (T.disk site.old) world → HasNoFact world.pending
+        → OnOk result (site.new ≡ site.old) }
 
     // Whatever the files hold.
     ensures damage { IsTrue T.tells → IfErr result (FinishTells state.old (T.disk site.old).files) }
@@ -191,8 +191,8 @@ pub fn finish<T: Site>(
         → T.reads site.new ≤ T.reads site.old + pages_over world.kept }
     ensures damage { IsTrue T.tells → IfErr result (FinishTells state (T.disk site.old).files) }
     ensures answered { IsTrue T.tells → IfOk result (λ done. FinishGives state (T.disk site.old).files done.reply.items) }
-    ensures unwritten { IsTrue T.tells → (world : World) → Stands state (T.disk site.old) world
-        → (finish world).0.kept ≡ world.kept → OnOk result (T.writes site.new ≡ T.writes site.old) }
+    ensures untouched { IsTrue T.tells → (world : World) → Stands state (T.disk site.old) world
+        → (finish world).0.kept ≡ world.kept → OnOk result (site.new ≡ site.old) }
 
     ensures moved { IfOk result (λ done. moves_made done.state ≡ 0) }
     ensures runs { IfOk result (λ done. RunsOn T.Site site.new done.state) }

@@ -1,5 +1,5 @@
 -- What a session knows of the warehouse without a call.
-use Rattle.std.proofs.Common.{◌≡◌, ℕ, List, length, Result, Ok, Err, IfOk, refl, sym, ◌∙◌, ap, subst, arith, length-append}
+use Rattle.std.proofs.Common.{◌≡◌, ℕ, List, length, Result, Ok, Err, IfOk, OnOk, refl, sym, ◌∙◌, ap, subst, arith, length-append}
 use Rattle.site_core.specs.Disk.{Disk}
 use Rattle.site_core.specs.declared.site.Site.{Ghosts}
 use Rattle.forest_refresh.specs.Begun.{batch_size}
@@ -46,3 +46,8 @@ same_moves (Err stop) state is = tt
 -- another way of saying a cost
 pub costs_as : {S : Type 0} (T : Ghosts S) (old new : S) {one other : Cost} → one ≡ other → Spends T one old new → Spends T other old new
 costs_as T old new same = subst (λ (c : Cost). Spends T c old new) same
+
+-- a command that asks nothing writes nothing
+pub same_writes : {S : Type 0} (T : Ghosts S) (old new : S) (result : Result Answered Stop) → OnOk result (new ≡ old) → OnOk result (T.writes new ≡ T.writes old)
+same_writes T old new (Ok done) is = ap T.writes is
+same_writes T old new (Err stop) is = is

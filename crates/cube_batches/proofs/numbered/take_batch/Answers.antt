@@ -70,8 +70,8 @@ returns-in-Ok-clause-answered g c = λ t.
     (begun_takes c.args.store c.args.batch c.in-Ok.refresh c.requires.batch.some c.in-Ok.ensures.forest c.in-Ok.ensures.points)
     (record { writes = c.begin.ensures.calls.writes; others = λ tells. c.in-Ok.ensures.others tells }) c.commit.result (c.commit.ensures.answered t)
 
-pub returns-in-Ok-clause-unwritten : goal.returns-in-Ok-clause-unwritten
-returns-in-Ok-clause-unwritten g c = λ t warehouse is same.
+pub returns-in-Ok-clause-untouched : goal.returns-in-Ok-clause-untouched
+returns-in-Ok-clause-untouched g c = λ t warehouse is same.
     let old = g.T.Site.disk c.args.site.now in
     let mid = g.T.Site.disk c.begin.new.site in
     let some = c.requires.batch.some in

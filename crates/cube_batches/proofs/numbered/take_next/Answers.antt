@@ -44,7 +44,7 @@ returns-clause-cost g c = λ t warehouse is.
     let read = batch_known c.args.store (g.T.Site.disk c.args.site.now) warehouse (Rows c.args.block) c.in_ok-batch.field-0 c.in-Batch.batch is c.in_ok-batch.ensures.read c.in-Batch.is in
     subst (λ (a : Answer). Spends g.T.Site (load_cost (idle warehouse) a.0) c.args.site.now c.take_batch.new.site) (sym (ap (next_read warehouse) read)) (c.take_batch.ensures.cost t warehouse is)
 
-pub returns-clause-unwritten : goal.returns-clause-unwritten
-returns-clause-unwritten g c = λ t warehouse is same.
+pub returns-clause-untouched : goal.returns-clause-untouched
+returns-clause-untouched g c = λ t warehouse is same.
     let read = batch_known c.args.store (g.T.Site.disk c.args.site.now) warehouse (Rows c.args.block) c.in_ok-batch.field-0 c.in-Batch.batch is c.in_ok-batch.ensures.read c.in-Batch.is in
-    c.take_batch.ensures.unwritten t warehouse is (sym (ap (λ (a : Answer). a.0.kept) (ap (next_read warehouse) read)) ∙ same)
+    c.take_batch.ensures.untouched t warehouse is (sym (ap (λ (a : Answer). a.0.kept) (ap (next_read warehouse) read)) ∙ same)

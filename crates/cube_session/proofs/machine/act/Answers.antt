@@ -18,7 +18,7 @@ use Rattle.cube_session.specs.Costs.{AsksNoMove, Costs}
 use Rattle.cube_session.specs.Gives.{Gives}
 use Rattle.cube_session.specs.Told.{TellsDamage}
 use Rattle.cube_session.specs.Visits.{GoesTo, asks_pages}
-use Rattle.cube_session.proofs.Known.{abandon_known, costs_as, same_moves, status_known, told_only}
+use Rattle.cube_session.proofs.Known.{abandon_known, costs_as, same_moves, same_writes, status_known, told_only}
 use Rattle.cube_session.proofs.Told.{memory_tells}
 use Rattle.cube_session.proofs.machine.act.Goals as goal
 
@@ -52,11 +52,13 @@ returns-in-LoadNumbered-clause-any_moment g c = λ t world is.
 
 pub returns-in-Load-clause-silent : goal.returns-in-Load-clause-silent
 returns-in-Load-clause-silent g c = λ t world is stays none no_move.
-    c.load.ensures.unwritten t world is (sym (ap (λ (a : Answer). a.0.kept) (ap (act world) c.in-Load.is ∙ act_load world _)) ∙ stays)
+    same_writes g.T.Site c.args.site.now c.load.new.site c.load.result
+    (c.load.ensures.untouched t world is (sym (ap (λ (a : Answer). a.0.kept) (ap (act world) c.in-Load.is ∙ act_load world _)) ∙ stays))
 
 pub returns-in-LoadNumbered-clause-silent : goal.returns-in-LoadNumbered-clause-silent
 returns-in-LoadNumbered-clause-silent g c = λ t world is stays none no_move.
-    c.load_numbered.ensures.unwritten t world is (sym (ap (λ (a : Answer). a.0.kept) (ap (act world) c.in-LoadNumbered.is ∙ act_load_numbered world _ _)) ∙ stays)
+    same_writes g.T.Site c.args.site.now c.load_numbered.new.site c.load_numbered.result
+    (c.load_numbered.ensures.untouched t world is (sym (ap (λ (a : Answer). a.0.kept) (ap (act world) c.in-LoadNumbered.is ∙ act_load_numbered world _ _)) ∙ stays))
 
 pub returns-in-Slice-clause-answer : goal.returns-in-Slice-clause-answer
 returns-in-Slice-clause-answer g c = λ t world is.
@@ -108,7 +110,8 @@ returns-in-Generate-clause-any_moment g c = λ t world is.
 
 pub returns-in-Generate-clause-silent : goal.returns-in-Generate-clause-silent
 returns-in-Generate-clause-silent g c = λ t world is stays none no_move.
-    c.load-in-Generate.ensures.unwritten t world is (sym (ap (λ (a : Answer). a.0.kept) (ap (act world) c.in-Generate.is ∙ act_generate world _ _)) ∙ stays)
+    same_writes g.T.Site c.args.site.now c.load-in-Generate.new.site c.load-in-Generate.result
+    (c.load-in-Generate.ensures.untouched t world is (sym (ap (λ (a : Answer). a.0.kept) (ap (act world) c.in-Generate.is ∙ act_generate world _ _)) ∙ stays))
 
 pub returns-in-Schema-clause-damage : goal.returns-in-Schema-clause-damage
 returns-in-Schema-clause-damage g c = λ t.
@@ -151,7 +154,8 @@ returns-in-Begin-clause-any_moment g c = λ t world is.
 
 pub returns-in-Begin-clause-silent : goal.returns-in-Begin-clause-silent
 returns-in-Begin-clause-silent g c = λ t world is stays none no_move.
-    c.begin.ensures.silent t world is (sym (ap (λ (a : Answer). begins world a.0) (ap (act world) c.in-Begin.is ∙ act_begin world _)) ∙ none)
+    same_writes g.T.Site c.args.site.now c.begin.new.site c.begin.result
+    (c.begin.ensures.untouched t world is (sym (ap (λ (a : Answer). begins world a.0) (ap (act world) c.in-Begin.is ∙ act_begin world _)) ∙ none))
 
 pub returns-in-Begin-clause-damage : goal.returns-in-Begin-clause-damage
 returns-in-Begin-clause-damage g c = λ t.
@@ -167,7 +171,8 @@ returns-in-Step-clause-any_moment g c = λ t world is.
 
 pub returns-in-Step-clause-silent : goal.returns-in-Step-clause-silent
 returns-in-Step-clause-silent g c = λ t world is stays none no_move.
-    c.step.ensures.silent t world is (subst (AsksNoMove world) c.in-Step.is no_move)
+    same_writes g.T.Site c.args.site.now c.step.new.site c.step.result
+    (c.step.ensures.untouched t world is (subst (AsksNoMove world) c.in-Step.is no_move))
 
 pub returns-in-Step-clause-damage : goal.returns-in-Step-clause-damage
 returns-in-Step-clause-damage g c = λ t.
@@ -183,7 +188,8 @@ returns-in-Finish-clause-any_moment g c = λ t world is.
 
 pub returns-in-Finish-clause-silent : goal.returns-in-Finish-clause-silent
 returns-in-Finish-clause-silent g c = λ t world is stays none no_move.
-    c.finish.ensures.unwritten t world is (sym (ap (λ (a : Answer). a.0.kept) (ap (act world) c.in-Finish.is ∙ act_finish world)) ∙ stays)
+    same_writes g.T.Site c.args.site.now c.finish.new.site c.finish.result
+    (c.finish.ensures.untouched t world is (sym (ap (λ (a : Answer). a.0.kept) (ap (act world) c.in-Finish.is ∙ act_finish world)) ∙ stays))
 
 pub returns-in-Finish-clause-damage : goal.returns-in-Finish-clause-damage
 returns-in-Finish-clause-damage g c = λ t.
