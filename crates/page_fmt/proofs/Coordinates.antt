@@ -10,7 +10,8 @@ use Rattle.std.proofs.lemmas.Bool.{cases_eq, lt-ltb, le-ltb}
 use Rattle.std.proofs.lemmas.List.{drop_at, drop-drop, get_or_append_left, length-append, length-replicate, take_at}
 use Rattle.byte_formats.specs.Formats.{many}
 use Rattle.byte_formats.specs.Numbers.{number}
-use Rattle.cube_point.proofs.PointOrder.{cmp_down}
+use Rattle.cube_point.specs.Points.{point_cmp}
+use Rattle.cube_point.proofs.PointOrder.{cmp_down, cmp-down}
 use Rattle.page_fmt.specs.Pages.{zeros}
 use Rattle.page_fmt.proofs.Entries.{tail-zero}
 use Rattle.page_fmt.proofs.Loops.{many-at, many-long}
@@ -99,6 +100,12 @@ down-past (suc n) a b k arity le lt some none =
         by Less m = refl
         by Equal m = absurd (not (sym m))
         by Greater m = absurd (omega (arith, m))
+
+-- the walk over the used coordinates tells it
+pub walk : (arity : ℕ) (left right : List ℕ) → arity ≤ 8 → cmp_down arity (coordinates arity left) (coordinates arity right) ≡ point_cmp (coordinates arity left) (coordinates arity right)
+walk arity left right le =
+    sym (down-tail 8 (coordinates arity left) (coordinates arity right) arity le (λ i past lt. unused-at arity i left past ∙ sym (unused-at arity i right past)))
+    ∙ cmp-down (coordinates arity left) (coordinates arity right) (eight arity left le) (eight arity right le)
 
 pub below-is : (x y : ℕ) → is_lt (nat_cmp x y) ≡ nat_lt x y
 below-is x y = by (nat_cmp x y) (ranks x y)

@@ -4,6 +4,7 @@ pub mod Children
 pub mod Coordinates
 pub mod Entries
 pub mod Fields
+pub mod Following
 pub mod Images
 pub mod Judged
 pub mod Laws

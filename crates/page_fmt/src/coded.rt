@@ -7,7 +7,7 @@ ghost use Rattle.cube_point.specs.declared.point.Entry.{Entry};
 ghost use Rattle.cube_point.specs.Boxes.{IsInside};
 ghost use Rattle.cube_point.specs.Points.{point_cmp};
 ghost use Rattle.fact_model.specs.Cell.{FitCells, join};
-ghost use Rattle.page_fmt.specs.Cells.{EndsInZeros};
+ghost use Rattle.page_fmt.specs.Cells.{EndsInZeros, IsJoined};
 ghost use Rattle.page_fmt.specs.Pages.{entry_bytes, entry_size};
 ghost use Rattle.page_fmt.specs.Taking.{entries, entry_of, page_count};
 ghost use Rattle.page_fmt.specs.Lawful.{HasEntries};
@@ -57,9 +57,10 @@ pub fn lent_entry<'a>(bytes: &'a [u8; 4096], shape: &Shape, index: usize) -> Cod
 }
 
 impl<'a> Coded<'a> {
-    /// The arity of its point.
+    /// The arity of its point, which has eight coordinates, whatever that is.
     pub fn arity(&self) -> u8
-        ensures { result ≡ self.now.point.arity }
+        ensures arity { result ≡ self.now.point.arity }
+        ensures eight { length self.now.point.at ≡ 8 }
     {
         self.arity
     }
@@ -105,10 +106,12 @@ impl<'a> Coded<'a> {
     }
 
     /// Joins its cell to another, where both have as many measures and add up within their types. False, where they do not join: then the
-    /// other is left as it was. No more parts are read or written than there are measures, so the other has none past them but zeros.
+    /// other is left as it was. No more parts are read or written than there are measures, so what the other has past them stays; where
+    /// that is zeros, as in the cells of facts, it is the join of both.
     pub fn join_to(&self, cell: &mut Cell) -> bool
-        ensures joins { EndsInZeros cell.old → IsTrue result ↔ (cell.old.measures ≡ self.now.cell.measures) × FitCells cell.old self.now.cell }
-        ensures joined { EndsInZeros cell.old → IsTrue result → cell.new ≡ join cell.old self.now.cell }
+        ensures joins { IsTrue result ↔ (cell.old.measures ≡ self.now.cell.measures) × FitCells cell.old self.now.cell }
+        ensures joined { IsTrue result → IsJoined cell.old self.now.cell cell.new }
+        ensures whole { EndsInZeros cell.old → IsTrue result → cell.new ≡ join cell.old self.now.cell }
         ensures zeros { EndsInZeros cell.old → EndsInZeros cell.new }
         ensures same { result ≡ false → cell.new ≡ cell.old }
     {

@@ -7,7 +7,7 @@ ghost use Rattle.page_fmt.specs.declared.page.TheConstants.{HEADER, PAGE, PART};
 ghost use Rattle.page_fmt.specs.Pages.{entry_size, child_size};
 ghost use Rattle.page_fmt.specs.Taking.{part_of, entry_of, child_of, is_cell, is_part, are_lawful_children, are_lawful_entries};
 
-use crate::order::{are_coordinates_positive, is_next_point};
+use crate::order::is_next_positive;
 use crate::page::{COORDINATE, COUNT, HEADER, PART};
 use crate::read::{child_at, part_at};
 use crate::rules::{has_lawful_box, is_below};
@@ -47,8 +47,7 @@ fn is_cell_lawful(page: &[u8; 4096], shape: &Shape, arity: u8, at: usize) -> boo
     take_u64(page, count) > 0 && are_parts_lawful(page, shape.measures, count + COUNT)
 }
 
-/// Whether all entries of a leaf are lawful. Nothing is copied of the page, and of two points no more coordinates are compared than tell
-/// their order. It stands apart, so that its loop has all registers.
+/// Whether all entries of a leaf are lawful. Nothing is copied of the page, and of two points each coordinate is read once. It stands apart, so that its loop has all registers.
 #[inline(never)]
 pub(crate) fn are_entries_lawful(page: &[u8; 4096], shape: &Shape, arity: u8, count: u16) -> bool
     requires arity { arity ≤ 8 }
@@ -59,10 +58,7 @@ pub(crate) fn are_entries_lawful(page: &[u8; 4096], shape: &Shape, arity: u8, co
     let size = size_of_entry(arity, shape.measures);
     for i in 0..count as usize {
         let at = HEADER + i * size;
-        if !are_coordinates_positive(page, arity, at) {
-            return false;
-        }
-        if !is_next_point(page, arity, size, i) {
+        if !is_next_positive(page, arity, size, i) {
             return false;
         }
         if !is_cell_lawful(page, shape, arity, at) {

@@ -1,6 +1,6 @@
 //! Points where their bytes lie: their coordinates and their order.
 
-ghost use Rattle.std.specs.Prelude.{◌≡◌, ◌≤◌, ◌<◌, ◌+◌, ◌-◌, ◌*◌, ◌==◌, ◌||◌, ℕ, IsTrue, drop, false, length, slice_index};
+ghost use Rattle.std.specs.Prelude.{◌≡◌, ◌≤◌, ◌<◌, ◌+◌, ◌-◌, ◌*◌, ◌==◌, ◌&&◌, ◌||◌, ℕ, IsTrue, drop, false, length, slice_index, true};
 ghost use Rattle.cube_point.specs.Points.{comes_before, point_cmp};
 ghost use Rattle.page_fmt.specs.declared.page.TheConstants.{COORDINATE, HEADER, PAGE};
 ghost use Rattle.page_fmt.specs.Taking.{entry_before, entry_of, is_positive};
@@ -106,4 +106,45 @@ pub(crate) fn are_coordinates_positive(page: &[u8; 4096], arity: u8, at: usize) 
         }
     }
     true
+}
+
+/// Whether all used coordinates of the entry at one place are positive, and its point comes after that of the entry at another, whose are. What
+/// equals a positive coordinate or is greater is one too, so the others alone are looked at for it.
+fn is_positive_after(page: &[u8; 4096], arity: u8, last: usize, at: usize) -> bool
+    requires arity { arity ≤ 8 }
+    requires last { last + arity * COORDINATE ≤ PAGE }
+    requires place { at + arity * COORDINATE ≤ PAGE }
+    requires positive { (measures : ℕ) → is_positive (entry_of arity measures (drop last page.now)) ≡ true }
+    ensures { (measures : ℕ) → result ≡ (is_positive (entry_of arity measures (drop at page.now))
+        && comes_before (entry_of arity measures (drop last page.now)).point (entry_of arity measures (drop at page.now)).point) }
+{
+    for skipped in 0..arity as usize {
+        let dimension = arity as usize - 1 - skipped;
+        let a = coordinate_at(page, last, dimension);
+        let b = coordinate_at(page, at, dimension);
+        if a != b {
+            if b < a {
+                return false;
+            }
+            return are_coordinates_positive(page, dimension as u8, at);
+        }
+    }
+    false
+}
+
+/// Whether all used coordinates of the entry at an index of a leaf are positive, and its point comes after that of the one before it, if there
+/// is one.
+pub(crate) fn is_next_positive(page: &[u8; 4096], arity: u8, size: usize, index: usize) -> bool
+    requires arity { arity ≤ 8 }
+    requires coordinates { arity * COORDINATE ≤ size }
+    requires place { HEADER + index * size + size ≤ PAGE }
+    requires positive { (measures : ℕ) → 0 < index → is_positive (entry_of arity measures (drop (HEADER + (index - 1) * size) page.now)) ≡ true }
+    ensures { (measures : ℕ) → result ≡ (is_positive (entry_of arity measures (drop (HEADER + index * size) page.now))
+        && (index == 0 || entry_before (entry_of arity measures (drop (HEADER + (index - 1) * size) page.now)) (entry_of arity measures (drop (HEADER + index * size) page.now)))) }
+{
+    if index == 0 {
+        return are_coordinates_positive(page, arity, HEADER);
+    }
+    let last = HEADER + (index - 1) * size;
+    is_positive_after(page, arity, last, last + size)
 }

@@ -1,16 +1,9 @@
-use Rattle.std.proofs.Common.{◌≡◌, ◌≢◌, ◌≤◌, ◌+◌, ◌-◌, ℕ, suc, List, drop, sym, ap, ◌∙◌, arith}
+use Rattle.std.proofs.Common.{◌≡◌, ◌≢◌, ◌+◌, ◌-◌, ℕ, suc, drop, sym, ap, ◌∙◌, arith}
 use Rattle.std.specs.Ordering.{is_lt}
 use Rattle.std.specs.Prelude.{nat_lt, slice_index}
-use Rattle.cube_point.specs.Points.{point_cmp}
-use Rattle.cube_point.proofs.PointOrder.{cmp_down, cmp-down}
-use Rattle.page_fmt.proofs.Coordinates.{below-is, coordinates, down-differ, down-same, down-tail, eight, unused-at}
+use Rattle.cube_point.proofs.PointOrder.{cmp_down}
+use Rattle.page_fmt.proofs.Coordinates.{below-is, coordinates, down-differ, down-same, walk}
 use Rattle.page_fmt.proofs.order.is_before.Goals as goal
-
--- the walk over the used coordinates tells it
-walk : (arity : ℕ) (left right : List ℕ) → arity ≤ 8 → cmp_down arity (coordinates arity left) (coordinates arity right) ≡ point_cmp (coordinates arity left) (coordinates arity right)
-walk arity left right le =
-    sym (down-tail 8 (coordinates arity left) (coordinates arity right) arity le (λ i past lt. unused-at arity i left past ∙ sym (unused-at arity i right past)))
-    ∙ cmp-down (coordinates arity left) (coordinates arity right) (eight arity left le) (eight arity right le)
 
 pub returns-then-a-b : goal.returns-then-a-b
 returns-then-a-b c = λ measures.

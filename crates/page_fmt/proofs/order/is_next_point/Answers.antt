@@ -1,18 +1,11 @@
-use Rattle.std.proofs.Common.{◌≡◌, ◌<◌, ◌+◌, ◌-◌, ◌*◌, ℕ, suc, Bool, drop, sym, ap, ◌∙◌, arith}
+use Rattle.std.proofs.Common.{◌≡◌, ◌+◌, ◌-◌, ◌*◌, ℕ, Bool, drop, sym, ap, ◌∙◌, arith}
 use Rattle.std.specs.Prelude.{◌||◌}
 use Rattle.std.proofs.lemmas.Bool.{ne_eqb}
 use Rattle.cube_point.specs.declared.point.Entry.{Entry}
 use Rattle.cube_point.specs.Points.{comes_before}
 use Rattle.page_fmt.specs.Taking.{entry_before, entry_of}
-use Rattle.page_fmt.proofs.Passes.{before-is}
+use Rattle.page_fmt.proofs.Passes.{before-is, next-place}
 use Rattle.page_fmt.proofs.order.is_next_point.Goals as goal
-
-next-place : (i size : ℕ) → 0 < i → (i - 1) * size + size ≡ i * size
-next-place i size some =
-    let j = i - 1 in
-    let next : suc j ≡ i = omega (arith, some) in
-    let times : j * size + size ≡ suc j * size = omega arith in
-    times ∙ ap (λ (k : ℕ). k * size) next
 
 pub returns : goal.returns
 returns c = λ measures.
