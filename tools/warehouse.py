@@ -36,12 +36,11 @@ def program():
 
 
 class Run:
-    """A run of the program in a folder, which takes commands and gives the replies to them as lines."""
+    """A run of the program in the folder of these turns, which takes commands and gives the replies to them as lines."""
 
-    def __init__(self, folder):
-        if not os.path.isdir(folder):
-            raise Fault(f"no such folder: {folder}")
-        self.process = subprocess.Popen([program()], cwd=folder, stdin=subprocess.PIPE, stdout=subprocess.PIPE)
+    def __init__(self, turns):
+        locks = turns.descriptors()
+        self.process = subprocess.Popen([program()], cwd=turns.folder, stdin=subprocess.PIPE, stdout=subprocess.PIPE, pass_fds=locks)
 
     def send(self, command):
         try:
