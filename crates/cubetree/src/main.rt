@@ -1,19 +1,11 @@
 //! The program: a script from standard input, the replies to standard output, the files in the current folder.
 #![tactic(auto)]
 
-mod current_folder;
-mod data_file;
-mod faults;
-mod open_files;
-mod standard_input;
-#[cfg(test)]
-mod tests;
 mod words;
 
 use cube_shell::{Status, run};
-use current_folder::CurrentFolder;
+use real_host::{CurrentFolder, StandardInput};
 use site_folder::{FolderSite, Input};
-use standard_input::StandardInput;
 use std::io;
 use std::io::Print;
 use std::process::ExitCode;

@@ -1,6 +1,6 @@
 //! The files of the folder that are open, in single calls of std.
 ghost use Rattle.std.specs.Prelude.{◌≡◌, ◌≢◌, ◌<◌, ◌≤◌, ◌↔◌, ℕ, length, IfOk, IsSome, IsTrue, OnOk, Some};
-ghost use Rattle.cubetree.specs.Slots.{file_in};
+ghost use Rattle.real_host.specs.Slots.{file_in};
 
 use crate::data_file::DataFile;
 use crate::faults::taken;

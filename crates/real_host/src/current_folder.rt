@@ -3,8 +3,8 @@ ghost use Rattle.std.specs.Prelude.{◌≡◌, ◌<◌, ◌≤◌, ℕ, length, 
 ghost use Rattle.std.specs.Fs.{new_options, with_create, with_read, with_write};
 ghost use Rattle.site_core.specs.Silent.{no_disk, no_left};
 ghost use Rattle.site_folder.specs.Names.{file_name};
-ghost use Rattle.cubetree.specs.Silent.{ledger_of};
-ghost use Rattle.cubetree.specs.Slots.{file_in};
+ghost use Rattle.real_host.specs.Silent.{ledger_of};
+ghost use Rattle.real_host.specs.Slots.{file_in};
 
 use crate::faults::{counted, taken};
 use crate::open_files::OpenFiles;

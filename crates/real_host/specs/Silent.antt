@@ -1,8 +1,8 @@
 -- A host that says of its files which are open, and nothing of their bytes and its output.
 use Rattle.std.specs.Prelude.{true, List, Option, is_some}
 use Rattle.site_folder.specs.Ledger.{Ledger}
-use Rattle.cubetree.specs.declared.data_file.DataFile.{DataFile}
-use Rattle.cubetree.specs.Slots.{file_in}
+use Rattle.real_host.specs.declared.data_file.DataFile.{DataFile}
+use Rattle.real_host.specs.Slots.{file_in}
 
 -- what is open; the rest stands where nothing is said of what is synced, and no sync is counted
 abbrev pub ledger_of : List (Option DataFile) → Ledger
