@@ -22,7 +22,7 @@ use Rattle.forest_store.specs.Held.{AreAccepted, HasNames}
 use Rattle.forest_store.proofs.Schemas.{few_measures}
 use Rattle.plain_machine.specs.Machine.{fact_limit, first_full, first_heavy, full_refusal, heavy_refusal, refusal_of}
 use Rattle.plain_machine.specs.World.{Warehouse}
-use Rattle.cube_batches.specs.Refusals.{refusal_text}
+use Rattle.cube_state.specs.Batches.{refusal_text}
 
 -- ---- the first attribute with too many names
 

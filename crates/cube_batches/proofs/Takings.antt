@@ -1,261 +1,378 @@
--- What a batch that is taken in makes of the plain machine's world.
-use Rattle.std.proofs.Common.{◌≡◌, IsTrue, ◌<◌, ◌≤◌, ◌+◌, ◌*◌, ◌++◌, ℕ, List, [], length, inl, inr, Some, Result, Ok, Err, IfOk, refl, sym, ◌∙◌, ap, arith, subst, take, length-append}
-use Rattle.std.proofs.lemmas.List.Elements.{All-append}
-use Rattle.std.specs.List.{All}
-use Rattle.std.specs.Prelude.{slice_index}
-use Rattle.site_core.specs.Disk.{Files, Disk}
-use Rattle.site_core.specs.Moments.{LeavesOnly, IsStable}
+-- What becomes of the batch of a source, at each end of taking it in.
+use Rattle.std.proofs.Common.{◌≡◌, ◌∙◌, ◌<◌, ◌+◌, ◌%◌, ◌++◌, ◌⊎◌, IsTrue, Global, Vec, ℕ, inl, inr, List, [], length, Option, Some, Result, Ok, Err, refl, sym, ap, subst}
+use Rattle.std.specs.Prelude.{◌≢◌, codes}
+use Rattle.std.specs.Result.{IsErrAnd}
+use Rattle.site_core.specs.Disk.{Disk, Files}
+use Rattle.site_core.specs.Frames.{CallsOnly}
+use Rattle.site_core.specs.Moments.{HoldsNow, IsStable, LeavesOnly}
 use Rattle.site_core.specs.declared.site.Site.{Ghosts}
-use Rattle.site_core.proofs.Run.{holds_to, joined, stable_holds, wider}
-use Rattle.cube_schema.specs.Agreeing.{Agrees}
+use Rattle.attr_dict.specs.Admitting.{names_with}
 use Rattle.cube_schema.specs.declared.schema.Schema.{Schema}
 use Rattle.fact_model.specs.declared.fact.Fact.{Fact}
-use Rattle.forest_refresh.specs.Back.{IsBack}
-use Rattle.packing.specs.Moves.{written}
-use Rattle.forest_moves.specs.Forest.{bytes_after, forest_moves}
-use Rattle.forest_refresh.specs.Begun.{Begun, IsReady, IsRefreshOf, StandsAt, next_side}
+use Rattle.forest_refresh.specs.Back.{BeginCause, IsBack}
+use Rattle.forest_refresh.specs.Begun.{Begun, IsGoing, IsReady, IsRefreshOf}
 use Rattle.forest_refresh.specs.Limits.{TellsLimit}
-use Rattle.forest_refresh.specs.Refreshed as refreshes
+use Rattle.forest_refresh.specs.Next.{last_behind}
+use Rattle.forest_refresh.specs.Trees.{deltas_by}
+use Rattle.forest_refresh.specs.declared.stop.BeginFault.{BeginFault}
 use Rattle.forest_refresh.specs.declared.stop.BeginStop.{BeginStop}
 use Rattle.forest_refresh.specs.declared.stop.BeginStop.TheVariants as begins
-use Rattle.forest_refresh.specs.declared.stop.RefreshStop.{RefreshStop}
-use Rattle.forest_refresh.specs.declared.stop.RefreshStop.TheVariants as ends
+use Rattle.forest_root.specs.Root.{ClosesGate}
 use Rattle.forest_root.specs.declared.forest.Forest.{Forest}
 use Rattle.forest_root.specs.declared.forest.Store.{Store}
-use Rattle.forest_store.specs.Held.{AreAccepted, IsLive, KeepsFacts}
-use Rattle.forest_store.specs.Opened.{IsOpened}
-use Rattle.forest_store.specs.Stored.{IsStoreOf, IsWhole}
-use Rattle.reply_text.specs.Replies.{committed_text}
-use Rattle.plain_machine.specs.Keeps.{IsLawful}
+use Rattle.forest_store.specs.Held.{AreAccepted, KeepsFacts}
+use Rattle.forest_store.specs.Stored.{IsStoreOf}
+use Rattle.reply_text.specs.Replies.{line}
 use Rattle.plain_machine.specs.declared.batch_source.BatchSource.{BatchSource}
-use Rattle.plain_machine.specs.Machine.{Answer, abandon, batch_from, committed, committed_as, finish, load, refusal_of, unless}
-use Rattle.plain_machine.specs.World.{Warehouse, World, begun_with, idle}
-use Rattle.cube_state.specs.declared.answered.Answered.{Answered}
+use Rattle.plain_machine.specs.Machine.{Answer, Given, batch_from, refusal_of, take_over, unless}
+use Rattle.plain_machine.proofs.Acts.{nothing_added}
+use Rattle.plain_machine.specs.World.{Kept, Warehouse, World}
 use Rattle.cube_state.specs.declared.state.State.{State}
-use Rattle.cube_state.specs.declared.state.State.TheVariants.{Hollow, Idle, Pending}
+use Rattle.cube_state.specs.declared.state.State.TheVariants.{Empty, Idle, Hollow, Pending}
 use Rattle.cube_state.specs.declared.stop.Stop.{Stop}
+use Rattle.cube_state.specs.declared.stop.Stop.TheVariants as stops
+use Rattle.cube_state.specs.Batches.{given_to, refusal_text}
+use Rattle.cube_state.specs.Costs.{Spends}
 use Rattle.cube_state.specs.Frames.{RunsOn}
-use Rattle.cube_state.specs.Stops.{IsNoDamage, refresh_stop}
-use Rattle.cube_state.specs.Session.{Attends, AttendsAs, Belongs, Between, IsAnswer, KeepsEither, Stands}
-use Rattle.cube_state.proofs.Answering.{answers, between_as}
-use Rattle.cube_batches.specs.Refusals.{refusal_text}
-use Rattle.cube_batches.specs.Taking.{IsFitting, IsPending, IsTaken}
-use Rattle.cube_batches.specs.declared.taking.Taken.TheVariants.{Refused}
-use Rattle.cube_batches.proofs.BatchReads.{answer_fitting, answer_read}
-use Rattle.cube_batches.proofs.Limits.{empty_fits, none_refused, one_refused}
+use Rattle.cube_state.specs.Session.{AttendsAs, Belongs, Between, Stands}
+use Rattle.cube_state.specs.Stops.{IsNoDamage, StopCause}
+use Rattle.cube_state.proofs.Answering.{OnlyNow, quiet}
+use Rattle.cube_state.proofs.Looking.{quiet_here, quiet_nowhere}
+use Rattle.cube_batches.specs.Reading.{IsBatchFor, IsRead}
+use Rattle.cube_batches.specs.Taking.{AsksFor, IsAsBefore, IsFitting, IsSentBy, MaySend, OnlyRefuses, RefusesBy, RefusesGiven, TakesIn, answer_by, begin_stop}
+use Rattle.cube_batches.specs.declared.batch.Read.{Read}
+use Rattle.cube_batches.specs.declared.batch.Read.TheVariants.{Batch, Refused as NotRead}
+use Rattle.cube_batches.specs.declared.taking.Taken.{Taken}
+use Rattle.cube_batches.specs.declared.taking.Taken.TheVariants.{Refused, Empty as Nothing, Begun as Began}
+use Rattle.cube_batches.proofs.Begins.{all_fine, back_before, begin_attends, begin_moments, by_limit, last_due, no_fault}
+use Rattle.cube_batches.proofs.Limits.{empty_fits, none_refused}
+use Rattle.cube_batches.proofs.Sources.{answer_limited, answer_read, empty_last}
 
--- ---- one run behind another
+-- it is all as before
+same_before : {S : Type 0} (T : Ghosts S) (site : S) (state : State) → RunsOn T site state → IsAsBefore T site state state
+same_before T site state runs = record { stands = λ t world is. is; live = refl; moved = refl; runs = runs }
 
-pub between_then : (old mid new : Disk) (world next : World) → mid.told ≡ old.told → Between old mid world next → Between mid new world next → Between old new world next
-between_then old mid new world next quiet first second =
-    joined old mid new (λ told files. (told ≡ old.told) × KeepsEither world next files) first
-    (wider mid new _ _ (λ told files both. (both.0 ∙ quiet, both.1)) second)
+-- ---- no call was made
 
--- what the warehouse's world keeps is what this one keeps
-pub moments_as : (old new : Disk) (world : World) (warehouse : Warehouse) (next : World) → world ≡ idle warehouse → Between old new (idle warehouse) next
-    → Between old new world next
-moments_as old new world warehouse next same run = subst (λ (w : World). Between old new w next) (sym same) run
-
--- ---- a batch that is to begin
-
--- no move is made
-none_moved : (r : Begun) (files : Files) (facts batch : List Fact) → r.progress.taken ≡ 0 → StandsAt r facts batch files
-none_moved r files facts batch none = record {
-  within = omega (arith, none);
-  pages = (λ i. take (4096 * written (none i) (forest_moves r.store.forest.schema facts batch)) (files (next_side r.store.forest.body)))
-      ∙ (λ i. bytes_after r.store.forest.schema facts batch (sym none i));
-}
-
-module _ (store : Store) (old new : Disk) (warehouse : Warehouse) (batch : List Fact) (is : Belongs store old warehouse) where
-  -- at every moment the files keep what they kept
-  pub begin_moments : (next : World) → LeavesOnly old new (λ told files. (told ≡ old.told) × KeepsFacts store.forest.schema warehouse.facts store.forest.body.last files)
-      → Between old new (idle warehouse) next
-  begin_moments next run = wider old new _ _
-      (λ told files both. (
-        both.0,
-        inl (record {
-          lawful = is.lawful;
-          kept = subst (λ (s : Schema). KeepsFacts s warehouse.facts warehouse.last files) is.schema (subst (λ n. KeepsFacts store.forest.schema warehouse.facts n files) is.last both.1);
-        }),
-      )) run
-
-  -- it has begun
-  pub begin_attends : {last : ℕ} (r : Begun) → r.store.forest ≡ store.forest → r.next.last ≡ last → last ≤ warehouse.last + 1 → IsRefreshOf r warehouse.facts batch new.files
-      → IsStable new → 0 < length batch → IsReady r new → r.progress.taken ≡ 0 → AttendsAs last r new warehouse batch
-  begin_attends r same next due adds stable some ready none = record {
-    lawful = is.lawful;
-    schema = ap (λ (f : Forest). f.schema) same ∙ is.schema;
-    last = ap (λ (f : Forest). f.body.last) same ∙ is.last;
-    next = next;
-    due = due;
-    adds = stable_holds (IsRefreshOf r warehouse.facts batch) new stable adds;
-    some = some;
-    ready = ready;
-    moved = none_moved r new.files warehouse.facts batch none;
+module _ {S : Type 0} (T : Ghosts S) (source : BatchSource) (state : State) (site : S) (runs : RunsOn T site state) (only : IsTrue T.tells → OnlyNow (T.disk site)) where
+  -- memory runs out
+  pub wants : TakesIn T source state state site site (Err stops.Memory)
+  wants = record {
+    by_world = λ t world stands. record { any_moment = λ after. quiet state (T.disk site) world after stands (only t); asks = inl refl; taken = tt };
+    taken = tt;
+    undamaged = tt;
+    quiet = quiet_nowhere T site;
   }
 
--- so it is pending, and all facts keep the limits
-pub all_fine : {last : ℕ} (r : Begun) (new : Disk) (warehouse : Warehouse) (batch : List Fact) → AttendsAs last r new warehouse batch → AreAccepted warehouse.schema (warehouse.facts ++ batch)
-all_fine r new warehouse batch is = subst (λ (s : Schema). AreAccepted s (warehouse.facts ++ batch)) is.schema is.adds.read.all
+  pub wants_as : (result : Result Taken Stop) → IsErrAnd result (λ stop. stop ≡ stops.Memory) → TakesIn T source state state site site result
+  wants_as (Ok taken) is = absurd is
+  wants_as (Err stop) is = subst (λ (s : Stop). TakesIn T source state state site site (Err s)) (sym is) wants
 
-abbrev pub begun_fits : (r : Begun) (new : Disk) (warehouse : Warehouse) (source : BatchSource) (batch : List Fact) → Attends r new warehouse batch
-    → batch_from warehouse.schema source ≡ Ok batch → IsFitting (idle warehouse) source
-begun_fits r new warehouse source batch is read = record {
-  warehouse = warehouse;
-  batch = batch;
-  idle = refl;
-  read = read;
-  fits = none_refused warehouse batch is.lawful.schema (all_fine r new warehouse batch is);
-}
+  -- it is refused
+  pub refuses : (reply : Vec ℕ Global) → (IsTrue T.tells → (world : World) → Stands state (T.disk site) world
+      → (after : Warehouse → List Fact → ℕ → Answer) → answer_by world after source ≡ (world, reply.items))
+      → RefusesBy state source reply.items → TakesIn T source state state site site (Ok (Refused reply))
+  refuses reply answers said = record {
+    by_world = λ t world stands. record { any_moment = λ after. quiet state (T.disk site) world after stands (only t); asks = inl refl; taken = answers t world stands };
+    taken = record { same = refl; before = same_before T site state runs; said = said };
+    undamaged = tt;
+    quiet = quiet_here T site;
+  }
 
-pub begun_pending : (r : Begun) (new : Disk) (warehouse : Warehouse) (source : BatchSource) (batch : List Fact) → Attends r new warehouse batch
-    → batch_from warehouse.schema source ≡ Ok batch → IsPending new (idle warehouse) source (Pending r)
-begun_pending r new warehouse source batch is read = record { fitting = begun_fits r new warehouse source batch is read; stands = (warehouse, batch, refl, is) }
+  -- with this line
+  refuses_line : (text : List ℕ) (result : Result Taken Stop) → ((world : World) → IsTrue T.tells → Stands state (T.disk site) world
+      → (after : Warehouse → List Fact → ℕ → Answer) → answer_by world after source ≡ (world, line text))
+      → RefusesBy state source (line text) → OnlyRefuses text result → TakesIn T source state state site site result
+  refuses_line text (Ok (Refused reply)) answers by is =
+      refuses reply (λ t world stands after. answers world t stands after ∙ ap (λ (r : List ℕ). (world, r)) (sym is)) (subst (RefusesBy state source) (sym is) by)
+  refuses_line text (Ok Nothing) answers by is = absurd is
+  refuses_line text (Ok (Began r)) answers by is = absurd is
+  refuses_line text (Err stop) answers by is = subst (λ (s : Stop). TakesIn T source state state site site (Err s)) (sym is) wants
 
--- so is an empty one
-pub empty_pending : (store : Store) (disk : Disk) (warehouse : Warehouse) (source : BatchSource) (batch : List Fact) → Belongs store disk warehouse
-    → batch_from warehouse.schema source ≡ Ok batch → batch ≡ [] → IsPending disk (idle warehouse) source (Hollow store)
-empty_pending store disk warehouse source batch is read none = record {
-  fitting = record { warehouse = warehouse; batch = batch; idle = refl; read = read; fits = empty_fits warehouse batch is.lawful.schema is.lawful.accepted none };
-  stands = (warehouse, ap (begun_with warehouse) none, is);
-}
+-- without a schema, and while another is pending
+module _ {S : Type 0} (T : Ghosts S) (source : BatchSource) (site : S) (only : IsTrue T.tells → OnlyNow (T.disk site)) where
+  abbrev over : World → (Warehouse → List Fact → ℕ → Answer) → Kept → Option (List Fact) → Answer
+  over world after kept pending =
+      take_over world (λ warehouse batch last. unless world (after warehouse batch last) (refusal_of warehouse.schema (warehouse.facts ++ batch))) kept pending source
 
--- the store is handed back
-pub back_belongs : (store back : Store) (disk : Disk) (warehouse : Warehouse) → IsBack store back → Belongs store disk warehouse → Belongs back disk warehouse
-back_belongs store back disk warehouse same is = record {
-  lawful = is.lawful;
-  schema = ap (λ (f : Forest). f.schema) same.forest ∙ is.schema;
-  last = ap (λ (f : Forest). f.body.last) same.forest ∙ is.last;
-  stored = holds_to (IsStoreOf store warehouse.facts) (IsStoreOf back warehouse.facts) disk (λ files stored. record {
-    accepted = subst (λ (f : Forest). AreAccepted f.schema warehouse.facts) (sym same.forest) stored.accepted;
-    live = subst (λ (f : Forest). IsLive f.schema f.body warehouse.facts files) (sym same.forest) stored.live;
-    names = λ a. (λ i. take (slice_index (same.shown i).at a) (same.names a i)) ∙ stored.names a;
-  }) is.stored;
-  opened = subst (λ (f : Forest). IsOpened f.body disk) (sym same.forest) is.opened;
-}
+  pub empty_refuses : (state : State) → state ≡ Empty → RunsOn T site state → (result : Result Taken Stop) → OnlyRefuses (codes "refused no schema") result → TakesIn T source state state site site result
+  empty_refuses state empty runs result is =
+      let runs_so : RunsOn T site Empty = subst (RunsOn T site) empty runs in
+      subst (λ (s : State). TakesIn T source s s site site result) (sym empty)
+      (refuses_line T source Empty site runs_so only (codes "refused no schema") result
+      (λ world t stands after. (λ i. over world after (stands.0.kept i) (stands.0.pending i))) refl is)
 
--- a refusal has a limit as its cause
-pub no_fault : (schema : Schema) (why : BeginStop) (text : List ℕ) → refusal_text schema why ≡ Some text → why ≡ begins.Disk → ⊥
-no_fault schema why text refused is = let none : refusal_text schema begins.Disk ≡ Some text = subst (λ (w : BeginStop). refusal_text schema w ≡ Some text) is refused in absurd (cc)
+  hollow_refuses : (state : State) (store : Store) → state ≡ Hollow store → RunsOn T site state → (result : Result Taken Stop) → OnlyRefuses (codes "refused pending") result
+      → TakesIn T source state state site site result
+  hollow_refuses state store hollow runs result is =
+      let runs_so : RunsOn T site (Hollow store) = subst (RunsOn T site) hollow runs in
+      subst (λ (s : State). TakesIn T source s s site site result) (sym hollow)
+      (refuses_line T source (Hollow store) site runs_so only (codes "refused pending") result
+      (λ world t stands after. (λ i. over world after (stands.1.kept i) (stands.1.pending i))) refl is)
 
--- a batch that is refused has made no call, and the session goes on
-pub refused_runs : {S : Type 0} (T : Ghosts S) (old new : S) (store back : Store) (why : BeginStop) (done : Answered) → IsWhole store
-    → (IsTrue T.tells → IsOpened store.forest.body (T.disk old)) → IsBack store back → ((why ≡ begins.Disk → ⊥) → new ≡ old) → done.state ≡ Idle back
-    → refusal_text back.forest.schema why ≡ Some done.reply.items → RunsOn T new done.state
-refused_runs {S = S} T old new store back why done whole opened same unchanged state reply =
-    let here : new ≡ old = unchanged (no_fault back.forest.schema why done.reply.items reply) in
-    subst (RunsOn T new) (sym state) (record {
-      running = λ a. (λ i. slice_index (same.shown i).at a) ∙ (whole a ∙ sym (ap length (same.names a)));
-      fit = λ t. subst (λ (f : Forest). IsOpened f.body (T.disk new)) (sym same.forest) (subst (λ (s : S). IsOpened store.forest.body (T.disk s)) (sym here) (opened t));
+  pending_refuses : (state : State) (r : Begun) → state ≡ Pending r → RunsOn T site state → (result : Result Taken Stop) → OnlyRefuses (codes "refused pending") result
+      → TakesIn T source state state site site result
+  pending_refuses state r pending runs result is =
+      let runs_so : RunsOn T site (Pending r) = subst (RunsOn T site) pending runs in
+      subst (λ (s : State). TakesIn T source s s site site result) (sym pending)
+      (refuses_line T source (Pending r) site runs_so only (codes "refused pending") result
+      (λ world t stands after. (λ i. over world after (stands.2.kept i) (stands.2.pending i))) refl is)
+
+  pub busy_refuses : (state : State) → ((store : Store) × (state ≡ Hollow store)) ⊎ ((r : Begun) × (state ≡ Pending r)) → RunsOn T site state → (result : Result Taken Stop)
+      → OnlyRefuses (codes "refused pending") result → TakesIn T source state state site site result
+  busy_refuses state (inl hollow) runs result is = hollow_refuses state hollow.0 hollow.1 runs result is
+  busy_refuses state (inr pending) runs result is = pending_refuses state pending.0 pending.1 runs result is
+
+-- ---- a schema is declared, and nothing is pending
+
+-- what was given by the schema of the store is given by that of the warehouse
+known : (store : Store) (disk : Disk) (warehouse : Warehouse) (source : BatchSource) (given : Given) → Belongs store disk warehouse → given_to store source ≡ given
+    → batch_from warehouse.schema warehouse.last source ≡ given
+known store disk warehouse source given is read = (λ i. batch_from (sym is.schema i) (sym is.last i) source) ∙ read
+
+-- the text that was read as the refusal
+read_none : (schema : Schema) (last : ℕ) (given : Given) (reply : Vec ℕ Global) → IsRead schema last given (NotRead reply) → given ≡ Err reply.items
+read_none schema last (Ok given) reply is = absurd is
+read_none schema last (Err text) reply is = ap Err (sym is)
+
+-- the batch that was read
+read_batch : (store : Store) (source : BatchSource) (given : Given) (batch : List Fact) (number : Option ℕ) → given_to store source ≡ given
+    → IsRead store.forest.schema store.forest.body.last given (Batch batch number) → given_to store source ≡ Ok (batch, last_behind store.forest.body.last number)
+read_batch store source (Ok given) batch number same is = same ∙ (λ i. Ok (is.facts i, is.next i))
+read_batch store source (Err text) batch number same is = absurd is
+
+read_fits : (store : Store) (given : Given) (batch : List Fact) (number : Option ℕ) → IsRead store.forest.schema store.forest.body.last given (Batch batch number)
+    → IsBatchFor store.forest.schema store.forest.body.last batch number
+read_fits store (Ok given) batch number is = is.fits
+read_fits store (Err text) batch number is = absurd is
+
+module _ {S : Type 0} (T : Ghosts S) (source : BatchSource) (store : Store) (site : S) (runs : RunsOn T site (Idle store)) (only : IsTrue T.tells → OnlyNow (T.disk site)) where
+  -- the source gives none
+  pub source_refuses : (read : Read) (reply : Vec ℕ Global) → IsRead store.forest.schema store.forest.body.last (given_to store source) read → read ≡ NotRead reply
+      → TakesIn T source (Idle store) (Idle store) site site (Ok (Refused reply))
+  source_refuses read reply is same =
+      let none = read_none store.forest.schema store.forest.body.last (given_to store source) reply (subst (IsRead store.forest.schema store.forest.body.last (given_to store source)) same is) in
+      refuses T source (Idle store) site runs only reply
+      (λ t world stands after. answer_read world source after stands.0 (Err reply.items) stands.1 (known store (T.disk site) stands.0 source (Err reply.items) stands.2 none))
+      (subst (λ (g : Given). RefusesGiven store g reply.items) (sym none) refl)
+
+  -- it is empty
+  pub takes_none : (batch : List Fact) (last : ℕ) → batch ≡ [] → given_to store source ≡ Ok (batch, last) → TakesIn T source (Idle store) (Idle store) site site (Ok Nothing)
+  takes_none batch last none given =
+      let empty : given_to store source ≡ Ok ([], last) = given ∙ ap (λ (b : List Fact). Ok (b, last)) none in
+      let same = empty_last store.forest.schema store.forest.body.last last source empty in
+      let exact : given_to store source ≡ Ok ([], store.forest.body.last) = empty ∙ ap (λ (n : ℕ). Ok ([], n)) same in
+      record {
+        by_world = λ t world stands. record {
+          any_moment = λ after. quiet (Idle store) (T.disk site) world after stands (only t);
+          asks = inl refl;
+          taken = record {
+            warehouse = stands.0;
+            store = store;
+            is = refl;
+            belongs = stands.2;
+            fitting = record {
+              knows = stands.1;
+              read = known store (T.disk site) stands.0 source (Ok ([], store.forest.body.last)) stands.2 exact ∙ ap (λ (n : ℕ). Ok ([], n)) stands.2.last;
+              fits = empty_fits stands.0 [] stands.2.lawful.schema stands.2.lawful.accepted refl;
+            };
+          };
+        };
+        taken = record { same = refl; stays = refl; store = store; idle = refl; given = exact };
+        undamaged = tt;
+        quiet = quiet_here T site;
+      }
+
+-- ---- it has a fact
+
+-- what a call that begins has done, whatever it answered
+pub record Begins {S : Type 0} (T : Ghosts S) (store : Store) (old new : S) (result : Result Begun BeginFault) : Type 0 where
+  pub any_moment : IsTrue T.tells → (accepted : List Fact) → HoldsNow (IsStoreOf store accepted) (T.disk old)
+      → LeavesOnly (T.disk old) (T.disk new) (λ told files. (told ≡ (T.disk old).told) × KeepsFacts store.forest.schema accepted store.forest.body.last files)
+  pub told : IsTrue T.tells → (T.disk new).told ≡ (T.disk old).told
+  pub calls : CallsOnly T BeginCause 1 1 old new result
+
+module _ {S : Type 0} (T : Ghosts S) (source : BatchSource) (store : Store) (batch : List Fact) (number : Option ℕ) (old new : S) (some : 0 < length batch)
+    (fits : IsBatchFor store.forest.schema store.forest.body.last batch number) (given : given_to store source ≡ Ok (batch, last_behind store.forest.body.last number)) where
+  abbrev last : ℕ
+  last = last_behind store.forest.body.last number
+
+  -- it begins
+  module _ (r : Begun) (is : Begins T store old new (Ok r)) (adds : IsTrue T.tells → (accepted : List Fact) → IsStoreOf store accepted (T.disk old).files → IsRefreshOf r accepted batch (T.disk new).files)
+      (next : r.next.last ≡ last_behind store.forest.body.last number) (ready : IsTrue T.tells → IsReady r (T.disk new)) (goes : IsGoing r) (none : r.progress.taken ≡ 0)
+      (stable : IsTrue T.tells → IsStable (T.disk new)) (points : r.deltas ≡ deltas_by (names_with store.dicts batch) store.forest.schema batch)
+      (closes : IsTrue T.tells → ClosesGate ((store.forest.body.generation + 1) % 2) (T.disk old).files (T.disk new).files) (forest : r.store.forest ≡ store.forest) where
+    spent : Spends T (record { reads = 1; writes = 1 }) old new
+    spent = record { reads = is.calls.reads; writes = is.calls.writes }
+
+    attended : IsTrue T.tells → (warehouse : Warehouse) → Belongs store (T.disk old) warehouse → AttendsAs last r (T.disk new) warehouse batch
+    attended t warehouse belongs =
+        begin_attends store (T.disk old) (T.disk new) warehouse batch belongs last r forest next (last_due store.forest.body.last number fits.due) (adds t warehouse.facts belongs.stored.read)
+        (stable t) some (ready t) none
+
+    fitted : IsTrue T.tells → (world : World) (stands : Stands (Idle store) (T.disk old) world) → IsFitting world source stands.0 batch last
+    fitted t world stands = record {
+      knows = stands.1;
+      read = known store (T.disk old) stands.0 source (Ok (batch, last)) stands.2 given;
+      fits = none_refused stands.0 batch stands.2.lawful.schema (all_fine r (T.disk new) stands.0 batch (attended t stands.0 stands.2));
+    }
+
+    pub starts : (final : State) → TakesIn T source (Idle store) final old new (Ok (Began r))
+    starts final = record {
+      by_world = λ t world stands. record {
+        any_moment = λ after. begin_moments store (T.disk old) (T.disk new) stands.0 batch stands.2 world after stands.1.kept (is.any_moment t stands.0.facts stands.2.stored);
+        asks = inr (record { warehouse = stands.0; batch = batch; last = last; fitting = fitted t world stands; some = some; spent = spent });
+        taken = (stands.0, batch, last, fitted t world stands, attended t stands.0 stands.2);
+      };
+      taken = record {
+        store = store;
+        batch = batch;
+        last = last;
+        idle = refl;
+        given = given;
+        some = some;
+        forest = forest;
+        points = points;
+        none_made = none;
+        goes = goes;
+        ready = ready;
+        closes = closes;
+      };
+      undamaged = tt;
+      quiet = record { told = is.told; cause = tt; disk_faults = is.calls.cause.ok; told_faults = is.calls.told_faults };
+    }
+
+  -- it does not
+  module _ (fault : BeginFault) (is : Begins T store old new (Err fault))
+      (limit : (accepted : List Fact) (files : Files) → IsStoreOf store accepted files → TellsLimit store.forest.schema (accepted ++ batch) fault.why)
+      (back : IsBack store fault.store) (unchanged : fault.why ≢ begins.Disk → new ≡ old) (runs : RunsOn T old (Idle store)) where
+    -- it asked for nothing where a limit is why; where a file failed it keeps the limits
+    asked : (world : World) (stands : Stands (Idle store) (T.disk old) world) (why : BeginStop) → TellsLimit store.forest.schema (stands.0.facts ++ batch) why
+        → (why ≢ begins.Disk → new ≡ old) → AsksFor T old new world source
+    asked world stands begins.FactsFull told same = inl (same (λ e. cc))
+    asked world stands (begins.NamesFull a) told same = inl (same (λ e. cc))
+    asked world stands (begins.Mass m) told same = inl (same (λ e. cc))
+    asked world stands begins.Memory told same = inl (same (λ e. cc))
+    asked world stands begins.Disk told same = inr (record {
+      warehouse = stands.0;
+      batch = batch;
+      last = last;
+      fitting = record {
+        knows = stands.1;
+        read = known store (T.disk old) stands.0 source (Ok (batch, last)) stands.2 given;
+        fits = none_refused stands.0 batch stands.2.lawful.schema (subst (λ (s : Schema). AreAccepted s (stands.0.facts ++ batch)) stands.2.schema told);
+      };
+      some = some;
+      spent = record { reads = is.calls.reads; writes = is.calls.writes };
     })
 
-module _ (store back : Store) (old new : Disk) (warehouse : Warehouse) (batch : List Fact) (why : BeginStop) (is : Belongs store old warehouse)
-    (each : All (Agrees store.forest.schema) batch) (limit : TellsLimit store.forest.schema (warehouse.facts ++ batch) why)
-    (same : IsBack store back) (unchanged : (why ≡ begins.Disk → ⊥) → new ≡ old) where
-  agree : All (Agrees warehouse.schema) (warehouse.facts ++ batch)
-  agree = All-append (Agrees warehouse.schema) warehouse.facts batch is.lawful.accepted.each (subst (λ (s : Schema). All (Agrees s) batch) is.schema each)
+    moments : IsTrue T.tells → (world : World) (stands : Stands (Idle store) (T.disk old) world) → (after : World) → Between (T.disk old) (T.disk new) world after
+    moments t world stands after = begin_moments store (T.disk old) (T.disk new) stands.0 batch stands.2 world after stands.1.kept (is.any_moment t stands.0.facts stands.2.stored)
 
-  pub by_limit : (text : List ℕ) → refusal_text back.forest.schema why ≡ Some text → refusal_of warehouse.schema (warehouse.facts ++ batch) ≡ Some text
-  by_limit text refused =
-      one_refused warehouse batch is.lawful.schema agree why text
-      (subst (λ (s : Schema). TellsLimit s (warehouse.facts ++ batch) why) is.schema limit)
-      (subst (λ (s : Schema). refusal_text s why ≡ Some text) (ap (λ (f : Forest). f.schema) same.forest ∙ is.schema) refused)
+    asks : (world : World) (stands : Stands (Idle store) (T.disk old) world) → AsksFor T old new world source
+    asks world stands = asked world stands fault.why (limit stands.0.facts (T.disk old).files stands.2.stored.read) unchanged
 
-  -- where a limit is passed the plain machine refuses so, whatever would follow
-  pub refused_taken : (source : BatchSource) (done : Answered) → batch_from warehouse.schema source ≡ Ok batch → done.state ≡ Idle back
-      → refusal_text back.forest.schema why ≡ Some done.reply.items → IsTaken new (idle warehouse) source (Refused done)
-  refused_taken source done read state reply = λ next.
-      let belongs = back_belongs store back new warehouse same (subst (λ (d : Disk). Belongs store d warehouse) (sym (unchanged (no_fault back.forest.schema why done.reply.items reply))) is) in
-      subst (λ (a : Answer). IsAnswer new a done)
-      (sym (answer_read warehouse source batch next read ∙ ap (unless (idle warehouse) (next warehouse batch)) (by_limit done.reply.items reply)))
-      (record { stands = subst (λ (s : State). Stands s new (idle warehouse)) (sym state) (warehouse, refl, belongs); reply = refl })
+    -- a limit is why
+    limit_refuses : (reply : Vec ℕ Global) → refusal_text fault.store.forest.schema fault.why ≡ Some reply.items
+        → TakesIn T source (Idle store) (Idle fault.store) old new (Ok (Refused reply))
+    limit_refuses reply refused =
+        let here : refusal_text store.forest.schema fault.why ≡ Some reply.items = subst (λ (f : Forest). refusal_text f.schema fault.why ≡ Some reply.items) back.forest refused in
+        let same = unchanged (no_fault store.forest.schema fault.why reply.items here) in
+        record {
+          by_world = λ t world stands. record {
+            any_moment = moments t world stands;
+            asks = inl same;
+            taken = λ after. answer_limited world source after stands.0 batch last reply.items stands.1
+                (known store (T.disk old) stands.0 source (Ok (batch, last)) stands.2 given)
+                (by_limit store (T.disk old) stands.0 batch fault.why stands.2 fits.agree (limit stands.0.facts (T.disk old).files stands.2.stored.read) reply.items here);
+          };
+          taken = record {
+            same = same;
+            before = back_before T old store fault.store back runs;
+            said = subst (λ (g : Given). RefusesGiven store g reply.items) (sym given) (some, (fault.why, here));
+          };
+          undamaged = tt;
+          quiet = record { told = is.told; cause = tt; disk_faults = ap T.disk_faults same; told_faults = is.calls.told_faults };
+        }
 
--- ---- a batch that has begun is committed
+    pub limit_refuses_as : (final : State) → final ≡ Idle fault.store → (reply : Vec ℕ Global) → refusal_text fault.store.forest.schema fault.why ≡ Some reply.items
+        → TakesIn T source (Idle store) final old new (Ok (Refused reply))
+    limit_refuses_as final same reply refused = subst (λ (s : State). TakesIn T source (Idle store) s old new (Ok (Refused reply))) (sym same) (limit_refuses reply refused)
 
-module _ (last : ℕ) (r : Begun) (old new : Disk) (warehouse : Warehouse) (batch : List Fact) (is : AttendsAs last r old warehouse batch) where
-  abbrev next : Warehouse
-  next = record { schema = warehouse.schema; facts = warehouse.facts ++ batch; last = last }
+    -- none is, or memory is wanting
+    no_damage : (why : BeginStop) → IsNoDamage (begin_stop why)
+    no_damage begins.FactsFull = tt
+    no_damage (begins.NamesFull a) = tt
+    no_damage (begins.Mass m) = tt
+    no_damage begins.Memory = tt
+    no_damage begins.Disk = tt
 
-  all_lawful : IsLawful next
-  all_lawful = record {
-    schema = is.lawful.schema;
-    accepted = all_fine r old warehouse batch is;
-    last = omega (arith, is.due, is.lawful.last, is.some, length-append warehouse.facts batch);
-  }
+    cause_of : (why : BeginStop) → (why ≡ begins.Disk → StopCause (T.disk_faults old) (T.disk_faults new) (T.told_faults old) (T.told_faults new) stops.Disk)
+        → (why ≢ begins.Disk → new ≡ old) → StopCause (T.disk_faults old) (T.disk_faults new) (T.told_faults old) (T.told_faults new) (begin_stop why)
+    cause_of begins.FactsFull failed same = (ap T.disk_faults (same (λ e. cc)), is.calls.told_faults)
+    cause_of (begins.NamesFull a) failed same = (ap T.disk_faults (same (λ e. cc)), is.calls.told_faults)
+    cause_of (begins.Mass m) failed same = (ap T.disk_faults (same (λ e. cc)), is.calls.told_faults)
+    cause_of begins.Memory failed same = (ap T.disk_faults (same (λ e. cc)), is.calls.told_faults)
+    cause_of begins.Disk failed same = failed refl
 
-  -- the numbers that are kept are those of the warehouse and of the next one
-  same_numbers : (P : ℕ → ℕ → Type 0) → P r.store.forest.body.last r.next.last → P warehouse.last last
-  same_numbers P is_so = subst (λ n. P n last) is.last (subst (P r.store.forest.body.last) is.next is_so)
+    starts_not : (final : State) (stop : Stop) → stop ≡ begin_stop fault.why → TakesIn T source (Idle store) final old new (Err stop)
+    starts_not final stop why = record {
+      by_world = λ t world stands. record { any_moment = moments t world stands; asks = asks world stands; taken = tt };
+      taken = tt;
+      undamaged = subst IsNoDamage (sym why) (no_damage fault.why);
+      quiet = record {
+        told = is.told;
+        cause = subst (StopCause (T.disk_faults old) (T.disk_faults new) (T.told_faults old) (T.told_faults new)) (sym why)
+            (cause_of fault.why (λ disk. ((is.calls.cause.failed disk, is.calls.cause.once), is.calls.told_faults)) unchanged);
+        disk_faults = tt;
+        told_faults = is.calls.told_faults;
+      };
+    }
 
-  -- the files keep the facts without the batch, or all of them
-  pub commit_moments : LeavesOnly old new (λ told files. (told ≡ old.told) × refreshes.KeepsEither r.store.forest.schema warehouse.facts r.store.forest.body.last (warehouse.facts ++ batch) r.next.last files)
-      → Between old new (idle warehouse) (committed_as last warehouse batch).0
-  commit_moments run =
-      wider old new _ _
-      (λ told files both. (
-        both.0,
-        by files (subst (λ (s : Schema). refreshes.KeepsEither s warehouse.facts warehouse.last (warehouse.facts ++ batch) last files) is.schema
-            (same_numbers (λ n m. refreshes.KeepsEither r.store.forest.schema warehouse.facts n (warehouse.facts ++ batch) m files) both.1)),
-      )) run
-    where
-      by : (files : Files) → refreshes.KeepsEither warehouse.schema warehouse.facts warehouse.last (warehouse.facts ++ batch) last files → KeepsEither (idle warehouse) (committed_as last warehouse batch).0 files
-      by files (inl kept) = inl (record { lawful = is.lawful; kept = kept })
-      by files (inr both) = inr (record { lawful = all_lawful; kept = both.1 })
+    pub starts_not_as : (final : State) (stop : Stop) → stop ≡ begin_stop fault.why → (result : Result Taken Stop) → IsErrAnd result (λ s. s ≡ stop)
+        → TakesIn T source (Idle store) final old new result
+    starts_not_as final stop why (Ok taken) same = absurd same
+    starts_not_as final stop why (Err other) same = starts_not final other (same ∙ why)
 
-  module _ (now : Store) (schema : now.forest.schema ≡ r.store.forest.schema) (number : now.forest.body.last ≡ r.next.last) (stored : IsStoreOf now (warehouse.facts ++ batch) new.files) (stable : IsStable new) (opened : IsOpened now.forest.body new) where
-    committed_belongs : Belongs now new next
-    committed_belongs = record { lawful = all_lawful; schema = schema ∙ is.schema; last = number ∙ is.next; stored = stable_holds (IsStoreOf now (warehouse.facts ++ batch)) new stable stored; opened = opened }
+-- ---- a state in which nothing is pending
 
-    pub committed_answer : (result : Result Answered Stop) → IfOk result (λ done. done.state ≡ Idle now)
-        → IfOk result (λ done. done.reply.items ≡ committed_text now.forest.body.facts) → IfOk result (IsAnswer new (committed_as last warehouse batch))
-    committed_answer result state reply =
-        answers result (Idle now) (committed_text now.forest.body.facts) new (committed_as last warehouse batch) state reply (next, refl, committed_belongs)
-        (ap committed_text stored.live.at.body_is.facts)
+-- an empty batch
+module _ {S : Type 0} (T : Ghosts S) (site : S) (only : IsTrue T.tells → OnlyNow (T.disk site)) (batch : List Fact) (number : Option ℕ) (source : BatchSource) where
+  pub takes_empty : (state : State) → RunsOn T site state → IsSentBy state source batch number → length batch ≡ 0 → TakesIn T source state state site site (Ok Nothing)
+  takes_empty Empty runs sent none = absurd sent
+  takes_empty (Idle store) runs sent none = takes_none T source store site runs only batch (last_behind store.forest.body.last number) (nothing_added batch none) sent
+  takes_empty (Hollow store) runs sent none = absurd sent
+  takes_empty (Pending r) runs sent none = absurd sent
 
--- a batch that is pending is committed at once, which is a load
-module _ (mid new : Disk) (world : World) (source : BatchSource) (state : State) (is : IsPending mid world source state) where
-  abbrev pending : World
-  pending = begun_with is.fitting.warehouse is.fitting.batch
+module _ (state : State) (store : Store) (idle : state ≡ Idle store) (batch : List Fact) (number : Option ℕ) where
+  pub idle_fits : MaySend state batch number → IsBatchFor store.forest.schema store.forest.body.last batch number
+  idle_fits may = subst (λ (s : State). MaySend s batch number) idle may
 
-  same_answer : finish pending ≡ load world source
-  same_answer = sym (answer_fitting world source is.fitting committed)
+  pub idle_given : (source : BatchSource) → IsSentBy state source batch number → given_to store source ≡ Ok (batch, last_behind store.forest.body.last number)
+  idle_given source sent = subst (λ (s : State). IsSentBy s source batch number) idle sent
 
-  pub load_moments : Between mid new (begun_with is.fitting.warehouse is.fitting.batch) (finish (begun_with is.fitting.warehouse is.fitting.batch)).0 → Between mid new world (load world source).0
-  load_moments run =
-      moments_as mid new world is.fitting.warehouse (load world source).0 is.fitting.idle
-      (between_as mid new (idle is.fitting.warehouse) (finish pending) (load world source) same_answer run)
+pub idle_takes : {S : Type 0} (T : Ghosts S) (source : BatchSource) (state final : State) (old new : S) (store : Store) (result : Result Taken Stop) → state ≡ Idle store
+    → TakesIn T source (Idle store) final old new result → TakesIn T source state final old new result
+idle_takes T source state final old new store result idle takes = subst (λ (s : State). TakesIn T source s final old new result) (sym idle) takes
 
--- ---- a batch that has begun is dropped
+pub idle_runs : {S : Type 0} (T : Ghosts S) (site : S) (state : State) (store : Store) → state ≡ Idle store → RunsOn T site state → RunsOn T site (Idle store)
+idle_runs T site state store idle runs = subst (RunsOn T site) idle runs
 
-pub abandoned : (r : Begun) (store : Store) (disk : Disk) (world : World) (result : Result Answered Stop) → store.forest ≡ r.store.forest
-    → ((accepted batch : List Fact) (files : Files) → IsRefreshOf r accepted batch files → IsStoreOf store accepted files)
-    → Stands (Pending r) disk world → IfOk result (λ done. done.state ≡ Idle store) → IfOk result (λ done. Stands done.state disk (abandon world).0)
-abandoned r store disk world (Err stop) same given is state = tt
-abandoned r store disk world (Ok done) same given is state =
-    let belongs : Belongs store disk is.0 = record {
-      lawful = is.3.lawful;
-      schema = ap (λ (f : Forest). f.schema) same ∙ is.3.schema;
-      last = ap (λ (f : Forest). f.body.last) same ∙ is.3.last;
-      stored = holds_to (IsRefreshOf r is.0.facts is.1) (IsStoreOf store is.0.facts) disk (given is.0.facts is.1) is.3.adds;
-      opened = subst (λ (f : Forest). IsOpened f.body disk) (sym same) is.3.ready.opened;
-    } in
-    subst (λ (s : State). Stands s disk (abandon world).0) (sym state) (is.0, ap (λ (w : World). (abandon w).0) is.2, belongs)
+-- ---- what was read for it
 
--- a refresh that tells no damage is told as a stop that tells none
-pub same_damage : (stop : RefreshStop) → refreshes.IsNoDamage stop → IsNoDamage (refresh_stop stop)
-same_damage ends.Disk none = tt
-same_damage (ends.Damaged file offset) none = none
+-- the source gives none
+pub source_refuses_as : {S : Type 0} (T : Ghosts S) (source : BatchSource) (state : State) (store : Store) (site : S) → state ≡ Idle store → RunsOn T site state
+    → (IsTrue T.tells → OnlyNow (T.disk site)) → (read : Read) (reply : Vec ℕ Global) → IsRead store.forest.schema store.forest.body.last (given_to store source) read → read ≡ NotRead reply
+    → TakesIn T source state state site site (Ok (Refused reply))
+source_refuses_as T source state store site idle runs only read reply is same =
+    subst (λ (s : State). TakesIn T source s s site site (Ok (Refused reply))) (sym idle)
+    (source_refuses T source store site (idle_runs T site state store idle runs) only read reply is same)
 
--- ---- moves of a refresh
-
--- at every moment the files keep what they kept
-pub step_moments : (r : Begun) (old new : Disk) (warehouse : Warehouse) (batch : List Fact) → Attends r old warehouse batch
-    → LeavesOnly old new (λ told files. (told ≡ old.told) × KeepsFacts r.store.forest.schema warehouse.facts r.store.forest.body.last files) → Between old new (begun_with warehouse batch) (begun_with warehouse batch)
-step_moments r old new warehouse batch is run = wider old new _ _
-    (λ told files both. (
-      both.0,
-      inl (record {
-        lawful = is.lawful;
-        kept = subst (λ (s : Schema). KeepsFacts s warehouse.facts warehouse.last files) is.schema (subst (λ n. KeepsFacts r.store.forest.schema warehouse.facts n files) is.last both.1);
-      }),
-    )) run
+-- it gives this batch
+pub read_sends : (state : State) (store : Store) (source : BatchSource) (read : Read) (batch : List Fact) (number : Option ℕ) → state ≡ Idle store
+    → IsRead store.forest.schema store.forest.body.last (given_to store source) read → read ≡ Batch batch number → MaySend state batch number × IsSentBy state source batch number
+read_sends state store source read batch number idle is same =
+    let its = subst (IsRead store.forest.schema store.forest.body.last (given_to store source)) same is in (
+      subst (λ (s : State). MaySend s batch number) (sym idle) (read_fits store (given_to store source) batch number its),
+      subst (λ (s : State). IsSentBy s source batch number) (sym idle) (read_batch store source (given_to store source) batch number refl its),
+    )

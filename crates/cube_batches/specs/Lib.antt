@@ -1,6 +1,4 @@
-pub mod Costs
-pub mod Gives
+pub mod Committing
+pub mod Dropping
 pub mod Reading
-pub mod Refusals
 pub mod Taking
-pub mod Told

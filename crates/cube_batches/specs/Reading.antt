@@ -1,24 +1,29 @@
--- What a batch is read or made as.
-use Rattle.std.specs.Prelude.{◌≡◌, ◌≤◌, ℕ, List, length, Result, Ok, Err}
+-- What a source gives, as it was read or made.
+use Rattle.std.specs.Prelude.{◌≡◌, ◌≤◌, ◌+◌, ℕ, List, IfSome, length, Option, Ok, Err}
 use Rattle.std.specs.List.{All}
 use Rattle.cube_schema.specs.Agreeing.{Agrees}
 use Rattle.cube_schema.specs.declared.schema.Schema.{Schema}
 use Rattle.fact_model.specs.declared.fact.Fact.{Fact}
+use Rattle.forest_refresh.specs.Next.{last_behind}
+use Rattle.plain_machine.specs.Machine.{Given}
 use Rattle.cube_batches.specs.declared.batch.Read.{Read}
 use Rattle.cube_batches.specs.declared.batch.Read.TheVariants.{Batch, Refused}
 
--- the facts, or the refusal
-abbrev pub IsRead : Result (List Fact) (List ℕ) → Read → Type 0
-IsRead (Ok facts) (Batch batch) = batch ≡ facts
-IsRead (Ok facts) (Refused reply) = ⊥
-IsRead (Err text) (Batch batch) = ⊥
-IsRead (Err text) (Refused reply) = reply.items ≡ text
-
--- the facts are of the schema, and not too many for a batch
-pub record IsRows (schema : Schema) (batch : List Fact) : Type 0 where
+-- the facts are of the schema, not too many for a batch, and have the number behind the last one, or none
+pub record IsBatchFor (schema : Schema) (last : ℕ) (batch : List Fact) (number : Option ℕ) : Type 0 where
   pub few : length batch ≤ 262144
   pub agree : All (Agrees schema) batch
+  pub due : IfSome number (λ n. n ≡ last + 1)
 
-abbrev pub IsOfSchema : Schema → Read → Type 0
-IsOfSchema schema (Batch batch) = IsRows schema batch
-IsOfSchema schema (Refused reply) = Unit {0}
+-- it is the batch that was given, with the last number behind it
+pub record IsGiven (schema : Schema) (last : ℕ) (given : List Fact × ℕ) (batch : List Fact) (number : Option ℕ) : Type 0 where
+  pub facts : given.0 ≡ batch
+  pub next : given.1 ≡ last_behind last number
+  pub fits : IsBatchFor schema last batch number
+
+-- the batch, or the refusal
+abbrev pub IsRead : Schema → ℕ → Given → Read → Type 0
+IsRead schema last (Ok given) (Batch batch number) = IsGiven schema last given batch number
+IsRead schema last (Ok given) (Refused reply) = ⊥
+IsRead schema last (Err text) (Batch batch number) = ⊥
+IsRead schema last (Err text) (Refused reply) = reply.items ≡ text

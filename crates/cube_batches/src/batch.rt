@@ -1,8 +1,8 @@
 //! A batch is read from a block of rows, or made by the generator.
-ghost use Rattle.std.specs.Prelude.{◌≡◌, IfOk, IfErr};
+ghost use Rattle.std.specs.Prelude.{◌≡◌, ℕ, IfOk, IfErr};
 ghost use Rattle.cube_schema.specs.Lawful.{IsSchema};
-ghost use Rattle.plain_machine.specs.Machine.{batch_from, block_read, generated_within};
-ghost use Rattle.cube_batches.specs.Reading.{IsOfSchema, IsRead};
+ghost use Rattle.plain_machine.specs.Machine.{batch_from, block_read, generated_within, in_turn, with_last, with_number};
+ghost use Rattle.cube_batches.specs.Reading.{IsRead};
 
 use cube_schema::Schema;
 use cube_state::Stop;
@@ -13,32 +13,36 @@ use plain_machine::BatchSource;
 use script_lang::Block;
 use std::alloc::Global;
 
-/// What a batch is read or made as.
+/// What a source gives.
 #[derive(Drop)]
 pub enum Read {
-    /// These facts.
-    Batch(Batch),
+    /// These facts, and the number of the batch, where it has one.
+    Batch(Batch, Option<u64>),
     /// None, and the reply that says why.
     Refused(Vec<u8>),
 }
 
-/// The facts of a batch by the schema.
-pub fn read_source(alloc: Global, schema: &Schema, source: BatchSource) -> Result<Read, Stop>
+/// The batch of a source by the schema and the number of the last numbered batch. An error is want of memory.
+pub fn read_source(
+    alloc: Global,
+    schema: &Schema,
+    last: u64,
+    source: BatchSource,
+) -> Result<Read, Stop>
     requires lawful { IsSchema schema.now }
-    ensures read { IfOk result (IsRead (batch_from schema.now source)) }
-    ensures agree { IfOk result (IsOfSchema schema.now) }
+    ensures read { IfOk result (IsRead schema.now last (batch_from schema.now last source)) }
     ensures memory { IfErr result (λ stop. stop ≡ Stop.Memory) }
 {
     match source {
         BatchSource::Rows(block) => read_block(alloc, schema, block),
+        BatchSource::Numbered { number, block } => read_next(alloc, schema, last, number, block),
         BatchSource::Generator { start, rows } => make_batch(alloc, schema, start, rows),
     }
 }
 
-/// Reads the facts of a block by the schema.
-pub fn read_block(alloc: Global, schema: &Schema, block: Block) -> Result<Read, Stop>
-    ensures read { IfOk result (IsRead (block_read schema.now block)) }
-    ensures agree { IfOk result (IsOfSchema schema.now) }
+/// The facts of a block by the schema, as a batch without a number.
+fn read_block(alloc: Global, schema: &Schema, block: Block) -> Result<Read, Stop>
+    ensures read { (last : ℕ) → IfOk result (IsRead schema.now last (with_last last (block_read schema.now block))) }
     ensures memory { IfErr result (λ stop. stop ≡ Stop.Memory) }
 {
     let Block::Whole(text) = block else {
@@ -46,7 +50,7 @@ pub fn read_block(alloc: Global, schema: &Schema, block: Block) -> Result<Read, 
         return Ok(Read::Refused(reply));
     };
     match read_batch(alloc, schema, text.as_bytes()) {
-        Ok(batch) => Ok(Read::Batch(batch)),
+        Ok(batch) => Ok(Read::Batch(batch, None)),
         Err(refusal) => {
             let reply = reply_text::refused_batch(alloc, refusal)?;
             Ok(Read::Refused(reply))
@@ -54,11 +58,40 @@ pub fn read_block(alloc: Global, schema: &Schema, block: Block) -> Result<Read, 
     }
 }
 
-/// Makes so many facts of the schema from a start, unless they are too many for a batch.
+/// The batch of a block with this number, where it is the next one behind the last.
+fn read_next(
+    alloc: Global,
+    schema: &Schema,
+    last: u64,
+    number: u64,
+    block: Block,
+) -> Result<Read, Stop>
+    ensures read { IfOk result (IsRead schema.now last (in_turn last number (with_number number (block_read schema.now block)))) }
+    ensures memory { IfErr result (λ stop. stop ≡ Stop.Memory) }
+{
+    if number <= last {
+        let reply = reply_text::already(alloc, number)?;
+        return Ok(Read::Refused(reply));
+    }
+    if number > last + 1 {
+        let reply = reply_text::refused_gap(alloc, last + 1)?;
+        return Ok(Read::Refused(reply));
+    }
+    let batch = match read_block(alloc, schema, block)? {
+        Read::Batch(batch, _) => batch,
+        Read::Refused(reply) => return Ok(Read::Refused(reply)),
+    };
+    if batch.is_empty() {
+        let reply = reply_text::plain(alloc, "refused empty")?;
+        return Ok(Read::Refused(reply));
+    }
+    Ok(Read::Batch(batch, Some(number)))
+}
+
+/// So many facts of the schema from a start, unless they are too many for a batch.
 fn make_batch(alloc: Global, schema: &Schema, start: u64, rows: u64) -> Result<Read, Stop>
     requires lawful { IsSchema schema.now }
-    ensures read { IfOk result (IsRead (generated_within schema.now start rows)) }
-    ensures agree { IfOk result (IsOfSchema schema.now) }
+    ensures read { (last : ℕ) → IfOk result (IsRead schema.now last (with_last last (generated_within schema.now start rows))) }
     ensures memory { IfErr result (λ stop. stop ≡ Stop.Memory) }
 {
     if rows > MOST_ROWS {
@@ -66,5 +99,5 @@ fn make_batch(alloc: Global, schema: &Schema, start: u64, rows: u64) -> Result<R
         return Ok(Read::Refused(reply));
     }
     let batch = generate(alloc, schema, start, rows)?;
-    Ok(Read::Batch(batch))
+    Ok(Read::Batch(batch, None))
 }

@@ -3,11 +3,10 @@
 #![tactic(auto)]
 
 mod batch;
+mod committing;
 mod loading;
-mod numbered;
 mod pending;
 mod taking;
 
 pub use loading::load;
-pub use numbered::load_numbered;
 pub use pending::{abandon, begin, finish, step};

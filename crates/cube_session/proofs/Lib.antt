@@ -1,6 +1,5 @@
 pub mod Commanded
 pub mod Declarings
-pub mod Gives
 pub mod Known
 pub mod Openings
 pub mod Told

@@ -1,91 +1,139 @@
--- Stops that tell no damage.
-use Rattle.std.proofs.Common.{◌≡◌, inl, ℕ, List, Result, Ok, Err, IfErr, sym, subst}
+-- A command that was carried out and its reply told.
+use Rattle.std.proofs.Common.{◌≡◌, ◌≤◌, ◌+◌, ◌∙◌, ◌++◌, ℕ, IsTrue, Global, Vec, List, Option, Some, None, Result, Ok, Err, refl, sym, ap, subst, arith}
+use Rattle.std.specs.Result.{IsErrAnd}
+use Rattle.site_core.specs.Calls.{Emits}
+use Rattle.site_core.specs.Causes.{HasCause, RoseOnce}
 use Rattle.site_core.specs.Disk.{Files}
-use Rattle.fact_model.specs.declared.fact.Fact.{Fact}
-use Rattle.fact_model.specs.declared.slice.Slice.{Slice}
-use Rattle.forest_root.specs.declared.forest.Store.{Store}
-use Rattle.forest_refresh.specs.Begun.{Begun}
-use Rattle.script_lang.specs.declared.command.Block.{Block}
+use Rattle.site_core.specs.declared.site.Site.{Ghosts}
+use Rattle.page_cache.specs.Giving.{Cache}
 use Rattle.script_lang.specs.declared.command.Command.{Command}
-use Rattle.script_lang.specs.declared.command.Command.TheVariants as says
-use Rattle.slice_lang.specs.Reading.{slice_of}
-use Rattle.slice_lang.specs.declared.refusal.SliceRefusal.{SliceRefusal}
-use Rattle.plain_machine.specs.declared.batch_source.BatchSource.{BatchSource}
-use Rattle.plain_machine.specs.declared.batch_source.BatchSource.TheVariants.{Rows, Generator}
-use Rattle.plain_machine.specs.Machine.{batch_from}
-use Rattle.cube_state.specs.declared.answered.Answered.{Answered}
+use Rattle.plain_machine.specs.Machine.{act}
+use Rattle.plain_machine.specs.World.{World}
 use Rattle.cube_state.specs.declared.state.State.{State}
-use Rattle.cube_state.specs.declared.state.State.TheVariants.{Empty, Idle, Hollow, Pending}
 use Rattle.cube_state.specs.declared.stop.Stop.{Stop}
 use Rattle.cube_state.specs.declared.stop.Stop.TheVariants as stops
-use Rattle.cube_state.specs.Stops.{IsNoDamage}
-use Rattle.cube_slices.specs.Sliced.{TellsSliceDamage, SliceTells}
-use Rattle.cube_batches.specs.Told.{FinishTells, LoadTells, NumberedTells, TellsBatchDamage, TellsReadDamage, TellsRefreshDamage}
-use Rattle.cube_session.specs.Told.{TellsDamage}
+use Rattle.cube_state.specs.Cached.{Fits, Saves, live_file, live_of}
+use Rattle.cube_state.specs.Carried.{CarriesOut}
+use Rattle.cube_state.specs.Costs.{Cost, Spends}
+use Rattle.cube_state.proofs.Standing.{emits_left, fit_on, stands_on}
+use Rattle.cube_state.proofs.Told.{tells_none}
+use Rattle.cube_session.specs.Session.{Answers, unless_stopped}
+use Rattle.cube_session.proofs.Commanded.{telling, untold}
 
-slice_none : (kept : Store) (files : Files) (read : Result Slice SliceRefusal) (stop : Stop) → IsNoDamage stop → TellsSliceDamage kept files read stop
-slice_none kept files read stops.Disk is = tt
-slice_none kept files read stops.Output is = tt
-slice_none kept files read (stops.Damaged file offset) is = absurd is
-slice_none kept files read stops.Memory is = tt
+module _ {S : Type 0} (T : Ghosts S) (command : Command) (state next : State) (old mid : S) (before after : Cache) where
+  -- a stop is handed on
+  pub stopped : (stop : Stop) → CarriesOut T command state next old mid before after (Err stop) → Answers T command state None old mid before after (Err stop)
+  stopped stop is = record {
+    by_world = λ t world stands.
+        let known = is.by_world t world stands in
+        record {
+          stands = tt;
+          told = tt;
+          any_moment = untold world command (T.disk old) (T.disk mid) known.any_moment;
+          undamaged = known.undamaged;
+          moved = tt;
+          cost = known.cost;
+          saves = known.saves;
+          keeps = λ numbers goes. tt;
+        };
+    any_files = λ t. record {
+      damage = (is.any_files t).damage;
+      answered = tt;
+      spared = (is.any_files t).spared;
+      looks = λ none. ((is.any_files t).looks none).files;
+    };
+    goes_on = record {
+      stopped = refl;
+      runs = tt;
+      cache = λ none. tt;
+      capacity = is.goes_on.capacity;
+      unwritten = is.goes_on.unwritten;
+      stops = record { cause = is.goes_on.quiet.cause; disk_faults = tt; told_faults = tt };
+    };
+  }
 
-batch_none : (kept : Store) (files : Files) (batch : List Fact) (stop : Stop) → IsNoDamage stop → TellsBatchDamage kept files batch stop
-batch_none kept files batch stops.Disk is = tt
-batch_none kept files batch stops.Output is = tt
-batch_none kept files batch (stops.Damaged file offset) is = absurd is
-batch_none kept files batch stops.Memory is = tt
+  -- a reply is told, or a part of it
+  module _ (new : S) (reply : Vec ℕ Global) (bytes : List ℕ) (same : bytes ≡ reply.items) (is : CarriesOut T command state next old mid before after (Ok reply))
+      (emits : IsTrue T.tells → Emits bytes (T.disk mid) (T.disk new)) (disk_faults : T.disk_faults new ≡ T.disk_faults mid)
+      (reads : T.reads new ≡ T.reads mid) (writes : T.writes new ≡ T.writes mid) where
+    spends_on : (cost : Cost) → Spends T cost old mid → Spends T cost old new
+    spends_on cost spent = record { reads = omega (arith, spent.reads, reads); writes = omega (arith, spent.writes, writes) }
 
-refresh_none : (r : Begun) (files : Files) (stop : Stop) → IsNoDamage stop → TellsRefreshDamage r files stop
-refresh_none r files stops.Disk is = tt
-refresh_none r files stops.Output is = tt
-refresh_none r files (stops.Damaged file offset) is = absurd is
-refresh_none r files stops.Memory is = tt
+    saves_on : (file : ℕ) (numbers : List ℕ) → Saves before file numbers (T.reads old) (T.reads mid) → Saves before file numbers (T.reads old) (T.reads new)
+    saves_on file numbers = subst (λ (n : ℕ). Saves before file numbers (T.reads old) n) (sym reads)
 
-read_none : (kept : Store) (files : Files) (read : Result (List Fact) (List ℕ)) (stop : Stop) → IsNoDamage stop → TellsReadDamage kept files read stop
-read_none kept files (Ok batch) stop is = batch_none kept files batch stop is
-read_none kept files (Err text) stop is = is
+    pub answered : (told : IsTrue T.tells → (T.disk new).told ≡ (T.disk mid).told ++ bytes) (told_faults : T.told_faults new ≡ T.told_faults mid)
+        → Answers T command state (Some next) old new before after (Ok tt)
+    answered told told_faults = record {
+      by_world = λ t world stands.
+          let known = is.by_world t world stands in
+          record {
+            stands = stands_on (T.disk mid) (T.disk new) (emits t).files (emits_left bytes (T.disk mid) (T.disk new) (emits t)) next (act world command).0 known.answer.stands;
+            told = told t ∙ ap (λ (l : List ℕ). l ++ bytes) (is.goes_on.quiet.told t) ∙ ap (λ (l : List ℕ). (T.disk old).told ++ l) (same ∙ known.answer.said);
+            any_moment = telling world command (T.disk old) (T.disk mid) known.any_moment (T.disk new) next bytes (is.goes_on.quiet.told t) known.answer.stands (same ∙ known.answer.said) (emits t);
+            undamaged = tt;
+            moved = known.moved;
+            cost = λ cost costs. spends_on cost (known.cost cost costs);
+            saves = λ numbers goes. saves_on (live_file (live_of state)) numbers (known.saves numbers goes);
+            keeps = known.keeps;
+          };
+      any_files = λ t. record {
+        damage = tt;
+        answered = record {
+          reply = reply.items;
+          told = told t ∙ ap (λ (l : List ℕ). l ++ bytes) (is.goes_on.quiet.told t) ∙ ap (λ (l : List ℕ). (T.disk old).told ++ l) same;
+          right = (is.any_files t).answered;
+        };
+        spared = tt;
+        looks = λ none. (emits t).files ∙ ((is.any_files t).looks none).files;
+      };
+      goes_on = record {
+        stopped = tt;
+        runs = record {
+          runs = record {
+            running = is.goes_on.runs.running;
+            fit = λ t. fit_on (T.disk mid) (T.disk new) (emits t).files (emits_left bytes (T.disk mid) (T.disk new) (emits t)) next (is.goes_on.runs.fit t);
+          };
+          fits = λ t. subst (λ (files : Files). Fits next files after) (sym (emits t).files) (is.any_files t).fits;
+        };
+        cache = is.goes_on.cache;
+        capacity = is.goes_on.capacity;
+        unwritten = λ none. writes ∙ is.goes_on.unwritten none;
+        stops = record { cause = tt; disk_faults = disk_faults ∙ is.goes_on.quiet.disk_faults; told_faults = told_faults ∙ is.goes_on.quiet.told_faults };
+      };
+    }
 
-load_none : (state : State) (files : Files) (source : BatchSource) (stop : Stop) → IsNoDamage stop → LoadTells state files source stop
-load_none Empty files source stop is = is
-load_none (Idle kept) files source stop is = read_none kept files (batch_from kept.forest.schema source) stop is
-load_none (Hollow kept) files source stop is = is
-load_none (Pending r) files source stop is = is
-
-numbered_none : (state : State) (files : Files) (number : ℕ) (block : Block) (stop : Stop) → IsNoDamage stop → NumberedTells state files number block stop
-numbered_none Empty files number block stop is = is
-numbered_none (Idle kept) files number block stop is = inl is
-numbered_none (Hollow kept) files number block stop is = is
-numbered_none (Pending r) files number block stop is = is
-
-finish_none : (state : State) (files : Files) (stop : Stop) → IsNoDamage stop → FinishTells state files stop
-finish_none Empty files stop is = is
-finish_none (Idle kept) files stop is = is
-finish_none (Hollow kept) files stop is = is
-finish_none (Pending r) files stop is = refresh_none r files stop is
-
-text_none : (state : State) (files : Files) (text : List ℕ) (stop : Stop) → IsNoDamage stop → SliceTells state files text stop
-text_none Empty files text stop is = is
-text_none (Idle kept) files text stop is = slice_none kept files (slice_of kept.forest.schema text) stop is
-text_none (Hollow kept) files text stop is = slice_none kept files (slice_of kept.forest.schema text) stop is
-text_none (Pending r) files text stop is = slice_none r.store files (slice_of r.store.forest.schema text) stop is
-
-pub tells_none : (state : State) (files : Files) (command : Command) (stop : Stop) → IsNoDamage stop → TellsDamage state files command stop
-tells_none state files (says.Slice text) stop is = text_none state files text stop is
-tells_none state files (says.Load block) stop is = load_none state files (Rows block) stop is
-tells_none state files (says.LoadNumbered number block) stop is = numbered_none state files number block stop is
-tells_none state files (says.Generate start rows) stop is = load_none state files (Generator start rows) stop is
-tells_none state files (says.Schema block) stop is = is
-tells_none state files says.Status stop is = is
-tells_none state files says.LongLine stop is = is
-tells_none state files says.OpenBlock stop is = is
-tells_none state files (says.Begin block) stop is = is
-tells_none state files (says.Step n) stop is = finish_none state files stop is
-tells_none state files says.Finish stop is = finish_none state files stop is
-tells_none state files says.Abandon stop is = is
-tells_none state files says.Unknown stop is = is
-
--- want of memory alone
-pub memory_tells : (result : Result Answered Stop) (state : State) (files : Files) (command : Command) → IfErr result (λ stop. stop ≡ stops.Memory)
-    → IfErr result (TellsDamage state files command)
-memory_tells (Ok done) state files command is = tt
-memory_tells (Err stop) state files command is = subst (TellsDamage state files command) (sym is) (tells_none state files command stops.Memory tt)
+    -- the output failed
+    pub unheard : RoseOnce (T.told_faults mid) (T.told_faults new) → Answers T command state None old new before after (Err stops.Output)
+    unheard rose = record {
+      by_world = λ t world stands.
+          let known = is.by_world t world stands in
+          record {
+            stands = tt;
+            told = tt;
+            any_moment = telling world command (T.disk old) (T.disk mid) known.any_moment (T.disk new) next bytes (is.goes_on.quiet.told t) known.answer.stands (same ∙ known.answer.said) (emits t);
+            undamaged = tt;
+            moved = tt;
+            cost = λ cost costs. spends_on cost (known.cost cost costs);
+            saves = λ numbers goes. saves_on (live_file (live_of state)) numbers (known.saves numbers goes);
+            keeps = λ numbers goes. tt;
+          };
+      any_files = λ t. record {
+        damage = tells_none state (T.disk old).files command stops.Output tt;
+        answered = tt;
+        spared = tt;
+        looks = λ none. (emits t).files ∙ ((is.any_files t).looks none).files;
+      };
+      goes_on = record {
+        stopped = refl;
+        runs = tt;
+        cache = λ none. tt;
+        capacity = is.goes_on.capacity;
+        unwritten = λ none. writes ∙ is.goes_on.unwritten none;
+        stops = record {
+          cause = (subst (λ (n : ℕ). RoseOnce n (T.told_faults new)) is.goes_on.quiet.told_faults rose, disk_faults ∙ is.goes_on.quiet.disk_faults);
+          disk_faults = tt;
+          told_faults = tt;
+        };
+      };
+    }

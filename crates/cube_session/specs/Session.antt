@@ -1,23 +1,40 @@
--- A session, which has nothing once it has stopped.
-use Rattle.std.specs.Prelude.{ℕ, IsTrue, Option, Some, None}
+-- A session, which has nothing once it has stopped, and what a command does to it, said once.
+use Rattle.std.specs.Prelude.{◌≡◌, ◌≢◌, ◌≤◌, ◌+◌, ◌++◌, ℕ, IsTrue, IsErrOf, false, List, [], Option, Some, None, Result, Ok, Err, IfOk, IfErr, OnErr, OnOk}
 use Rattle.std.specs.Option.{IsSomeAnd}
-use Rattle.site_core.specs.Disk.{Disk}
+use Rattle.site_core.specs.Calls.{Settles, Stays}
+use Rattle.site_core.specs.Disk.{Disk, Files}
+use Rattle.site_core.specs.Moments.{LeavesOnly}
 use Rattle.site_core.specs.declared.site.Site.{Ghosts}
-use Rattle.plain_machine.specs.World.{World}
+use Rattle.forest_open.specs.Breaks.{BreaksAt}
+use Rattle.forest_open.specs.Opening.{Place}
+use Rattle.forest_root.specs.declared.body.Body.{Body}
+use Rattle.forest_root.specs.declared.forest.Store.{Store}
 use Rattle.page_cache.specs.Giving.{Cache}
-use Rattle.cube_state.specs.Cached.{Fits}
-use Rattle.cube_state.specs.Frames.{RunsOn}
-use Rattle.cube_state.specs.Moves.{moves_made}
+use Rattle.script_lang.specs.declared.command.Command.{Command}
+use Rattle.plain_machine.specs.Keeps.{Keeps}
+use Rattle.plain_machine.specs.Machine.{act}
+use Rattle.plain_machine.specs.Stages.{Meanwhile}
+use Rattle.plain_machine.specs.World.{Kept, World, bare}
+use Rattle.cube_state.specs.Cached.{KeepsUp, Saves, kept_over, live_file, live_of}
+use Rattle.cube_state.specs.Carried.{IsReadyFor, MayWrite, Spares}
+use Rattle.cube_state.specs.Commands.{Costs, Gives, TellsDamage}
+use Rattle.cube_state.specs.Costs.{Cost, Spends}
+use Rattle.cube_state.specs.Frames.{IsQuiet, StopsFor}
+use Rattle.cube_state.specs.Moves.{made_behind, moves_made}
 use Rattle.cube_state.specs.Session.{Stands}
+use Rattle.cube_state.specs.Stops.{IsNoDamage}
+use Rattle.cube_state.specs.Visits.{GoesTo, asks_pages}
 use Rattle.cube_state.specs.declared.state.State.{State}
+use Rattle.cube_state.specs.declared.state.State.TheVariants.{Empty, Idle}
+use Rattle.cube_state.specs.declared.stop.Stop.{Stop}
+use Rattle.cube_state.specs.declared.stop.Stop.TheVariants as stops
+use Rattle.cube_session.specs.Costs.{open_cost}
+use Rattle.cube_session.specs.Damage.{StopsAt, TellsBreak}
+use Rattle.cube_session.specs.declared.session.Session.{Session}
 
 -- it has not stopped, on this site, and the kept pages fit
-pub record RunsWith {S : Type 0} (T : Ghosts S) (site : S) (cache : Cache) (state : State) : Type 0 where
-  pub runs : RunsOn T site state
-  pub fits : IsTrue T.tells → Fits state (T.disk site).files cache
-
 abbrev pub Runs : {S : Type 0} → Ghosts S → S → Option State → Cache → Type 0
-Runs T site state cache = IsSomeAnd state (RunsWith T site cache)
+Runs T site state cache = IsSomeAnd state (IsReadyFor T site cache)
 
 -- it has not stopped, and stands for this world
 abbrev pub StandsFor : Option State → Disk → World → Type 0
@@ -27,3 +44,85 @@ StandsFor state disk world = IsSomeAnd state (λ s. Stands s disk world)
 abbrev pub moves_for : Option State → ℕ
 moves_for None = 0
 moves_for (Some state) = moves_made state
+
+-- what is live for it
+abbrev pub live_for : Option State → Option Body
+live_for None = None
+live_for (Some state) = live_of state
+
+-- ---- the start
+
+-- what it has of files that were opened
+abbrev pub opened_state : Option Store → State
+opened_state None = Empty
+opened_state (Some store) = Idle store
+
+-- The files are opened, for a session that may keep so many pages between slices: what there is then, on a site as it was and is.
+pub record Starts {S : Type 0} (T : Ghosts S) (most : ℕ) (old new : S) (result : Result Session Stop) : Type 0 where
+  -- what the files keep is opened, and no damage is told
+  pub opened : IsTrue T.tells → (kept : Kept) → Keeps (T.disk old).files kept → IfOk result (λ session. StandsFor session.state (T.disk new) (bare kept))
+  pub undamaged : IsTrue T.tells → (kept : Kept) → Keeps (T.disk old).files kept → IfErr result IsNoDamage
+  -- damage is told where a rule of opening is broken, and there alone
+  pub broken : IsTrue T.tells → (place : Place) → BreaksAt (T.disk old).files place → IfErr result (StopsAt place) × OnOk result ⊥
+  pub damaged : IsTrue T.tells → IfErr result (TellsBreak (T.disk old).files)
+  pub cost : IsTrue T.tells → (kept : Kept) → Keeps (T.disk old).files kept → T.reads new ≤ T.reads old + open_cost kept
+  pub runs : IfOk result (λ session. Runs T new session.state session.pages)
+  pub moved : IfOk result (λ session. moves_for session.state ≡ 0)
+  pub cache : IfOk result (λ session. session.pages.capacity ≡ most)
+  pub empty : IfOk result (λ session. session.pages.kept ≡ [])
+  -- nothing is changed, also after an error; where no file failed, a read gives what it gave before
+  pub disk : IsTrue T.tells → Settles Stays (T.disk old) (T.disk new) result
+  pub unchanged : IsTrue T.tells → IfErr result (λ stop. stop ≢ stops.Disk → (T.disk new).files ≡ (T.disk old).files)
+  pub quiet : IsQuiet T old new result
+  pub no_output : IsErrOf result stops.Output → ⊥
+  pub writes : T.writes new ≡ T.writes old
+
+-- ---- a command and its reply
+
+-- what it has behind this result: nothing once it has stopped
+abbrev pub unless_stopped : State → Result (Unit {0}) Stop → Option State
+unless_stopped state (Ok answered) = Some state
+unless_stopped state (Err stop) = None
+
+-- a reply to the command was told, and it is one that it gives
+pub record RepliesTo (state : State) (files : Files) (command : Command) (before now : List ℕ) : Type 0 where
+  pub reply : List ℕ
+  pub told : now ≡ before ++ reply
+  pub right : Gives state files command reply
+
+-- the world that the session stood for before the command
+pub record AnswersByWorld {S : Type 0} (T : Ghosts S) (command : Command) (world : World) (state : State) (has : Option State) (old new : S) (before after : Cache) (result : Result (Unit {0}) Stop) : Type 0 where
+  pub stands : OnOk result (StandsFor has (T.disk new) (act world command).0)
+  pub told : OnOk result ((T.disk new).told ≡ (T.disk old).told ++ (act world command).1)
+  pub any_moment : LeavesOnly (T.disk old) (T.disk new) (Meanwhile world command (T.disk old).told)
+  pub undamaged : IfErr result IsNoDamage
+  pub moved : OnOk result (moves_for has ≡ made_behind world (moves_made state) command)
+  pub cost : (cost : Cost) → Costs world (moves_made state) command cost → Spends T cost old new
+  -- a slice reads of its pages those alone that are not kept, where there is room, and keeps them
+  pub saves : (numbers : List ℕ) → GoesTo world command numbers → Saves before (live_file (live_of state)) numbers (T.reads old) (T.reads new)
+  pub keeps : (numbers : List ℕ) → GoesTo world command numbers → OnOk result (KeepsUp before after (live_file (live_of state)) numbers)
+
+-- the files hold what they may
+pub record AnswersAnyFiles {S : Type 0} (T : Ghosts S) (command : Command) (state : State) (old new : S) (result : Result (Unit {0}) Stop) : Type 0 where
+  -- damage that is told is there, and is no reply; it leaves what counts
+  pub damage : IfErr result (TellsDamage state (T.disk old).files command)
+  pub answered : OnOk result (RepliesTo state (T.disk old).files command (T.disk old).told (T.disk new).told)
+  pub spared : IfErr result (Spares (live_of state) (T.disk old).files (T.disk new).files)
+  -- what writes nothing changes nothing
+  pub looks : (MayWrite command → ⊥) → (T.disk new).files ≡ (T.disk old).files
+
+-- whatever the site tells
+pub record AnswersOn {S : Type 0} (T : Ghosts S) (command : Command) (state : State) (has : Option State) (old new : S) (before after : Cache) (result : Result (Unit {0}) Stop) : Type 0 where
+  pub stopped : OnErr result (has ≡ None)
+  pub runs : OnOk result (Runs T new has after)
+  -- none is kept over a new generation, and no other command but a slice changes them
+  pub cache : asks_pages state command ≡ false → OnOk result (after ≡ kept_over (live_of state) (live_for has) before)
+  pub capacity : after.capacity ≡ before.capacity
+  pub unwritten : (MayWrite command → ⊥) → T.writes new ≡ T.writes old
+  pub stops : StopsFor T old new result
+
+-- A session that had this state carries out a command and tells its reply: what it has then, on a site as it was and is, with the kept pages.
+pub record Answers {S : Type 0} (T : Ghosts S) (command : Command) (state : State) (has : Option State) (old new : S) (before after : Cache) (result : Result (Unit {0}) Stop) : Type 0 where
+  pub by_world : IsTrue T.tells → (world : World) → Stands state (T.disk old) world → AnswersByWorld T command world state has old new before after result
+  pub any_files : IsTrue T.tells → AnswersAnyFiles T command state old new result
+  pub goes_on : AnswersOn T command state has old new before after result

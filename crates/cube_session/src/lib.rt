@@ -1,6 +1,7 @@
 //! A session: the files are opened, and each command is carried out and its reply emitted.
 #![tactic(auto)]
 
+mod answering;
 mod declaring;
 mod machine;
 mod session;

@@ -1,28 +1,11 @@
 //! A session: the files are opened, and each command is carried out and its reply emitted.
-ghost use Rattle.std.specs.Prelude.{◌≡◌, ◌≤◌, ◌+◌, ◌++◌, ◌↔◌, ℕ, List, [], IsTrue, IsErrOf, None, false, OnOk, OnErr, IfOk, IfErr, IfSome};
-ghost use Rattle.site_core.specs.Calls.{Settles, Stays};
-ghost use Rattle.site_core.specs.Moments.{LeavesOnly};
-ghost use Rattle.forest_open.specs.Breaks.{BreaksAt};
-ghost use Rattle.forest_open.specs.Opening.{Place};
-ghost use Rattle.plain_machine.specs.Stages.{Meanwhile};
-ghost use Rattle.plain_machine.specs.Keeps.{Keeps};
-ghost use Rattle.plain_machine.specs.Machine.{act};
-ghost use Rattle.plain_machine.specs.World.{Kept, World, bare};
-ghost use Rattle.cube_state.specs.Cached.{KeepsUp, Saves, kept_over, live_file};
-ghost use Rattle.cube_state.specs.Costs.{Cost, Spends};
-ghost use Rattle.cube_state.specs.Frames.{IsQuiet, StopsFor};
-ghost use Rattle.cube_state.specs.Moves.{made_behind};
-ghost use Rattle.cube_state.specs.Stops.{IsNoDamage};
-ghost use Rattle.cube_batches.specs.Costs.{begins};
-ghost use Rattle.cube_session.specs.Costs.{AsksNoMove, Costs, open_cost};
-ghost use Rattle.cube_session.specs.Damage.{StopsAt, TellsBreak};
-ghost use Rattle.cube_session.specs.Gives.{RepliesTo};
-ghost use Rattle.cube_session.specs.Session.{Runs, StandsFor, moves_for};
-ghost use Rattle.cube_session.specs.Told.{TellsDamage};
-ghost use Rattle.cube_session.specs.Visits.{GoesTo, asks_pages_for, live_for};
+ghost use Rattle.std.specs.Prelude.{◌≡◌, ◌↔◌, IsTrue, IfSome, None};
+ghost use Rattle.cube_state.specs.Carried.{IsReadyFor};
+ghost use Rattle.cube_session.specs.Session.{Answers, Runs, Starts, moves_for, opened_state, unless_stopped};
 
 use crate::machine::act;
-use cube_state::{Answered, State, Stop};
+use cube_state::{State, Stop};
+use forest_root::Store;
 use page_cache::Pages;
 use script_lang::Command;
 use site_core::{Fault, Site};
@@ -44,36 +27,14 @@ impl Session {
     ///
     /// `Damaged` comes exactly where the files break a rule of opening, and names the first one, unless a file fails or memory runs out before.
     pub fn start<T: Site>(alloc: Global, site: &mut T, cache: u32) -> Result<Session, Stop>
-        ensures opened { IsTrue T.tells → (kept : Kept) → Keeps (T.disk site.old).files kept
-            → IfOk result (λ session. StandsFor session.state (T.disk site.new) (bare kept)) }
-        ensures undamaged { IsTrue T.tells → (kept : Kept) → Keeps (T.disk site.old).files kept
-            → IfErr result IsNoDamage }
-        ensures broken { IsTrue T.tells → (place : Place) → BreaksAt (T.disk site.old).files place
-            → IfErr result (StopsAt place) × OnOk result ⊥ }
-        ensures damaged { IsTrue T.tells → IfErr result (TellsBreak (T.disk site.old).files) }
-        ensures cost { IsTrue T.tells → (kept : Kept) → Keeps (T.disk site.old).files kept
-            → T.reads site.new ≤ T.reads site.old + open_cost kept }
-
-        ensures runs { IfOk result (λ session. Runs T.Site site.new session.state session.pages) }
-        ensures moved { IfOk result (λ session. moves_for session.state ≡ 0) }
-        ensures cache { IfOk result (λ session. session.pages.capacity ≡ cache) }
-        ensures empty { IfOk result (λ session. session.pages.kept ≡ []) }
-        ensures disk { IsTrue T.tells → Settles Stays (T.disk site.old) (T.disk site.new) result }
-        ensures quiet { IsQuiet T.Site site.old site.new result }
-        ensures no_output { IsErrOf result Stop.Output → ⊥ }
-        ensures writes { T.writes site.new ≡ T.writes site.old }
+        ensures { Starts T.Site cache site.old site.new result }
     {
         let pages = Pages::new(alloc, cache)?;
         match forest_open::open_store(alloc, site) {
-            Ok(Some(store)) => Ok(Session {
+            Ok(found) => Ok(Session {
                 alloc,
                 pages,
-                state: Some(State::Idle(store)),
-            }),
-            Ok(None) => Ok(Session {
-                alloc,
-                pages,
-                state: Some(State::Empty),
+                state: Some(opened(found)),
             }),
             Err(stop) => Err(Stop::from(stop)),
         }
@@ -96,57 +57,50 @@ impl Session {
         }
     }
 
-    /// Carries out a command and emits its reply. After a stop the session has stopped. No rows are told of a page that is damaged, and no
-    /// batch is acknowledged over a tree that is. Pages that slices read are kept, up to the capacity, until a batch is committed.
+    /// Carries out a command and emits its reply. No rows are told of a page that is damaged, and no batch is acknowledged over a tree that
+    /// is. Pages that slices read are kept, up to the capacity, until a batch is committed. After an error the session has stopped; the
+    /// files keep what was known before the command or what is known behind it, and damage leaves the names and the live side as they were.
     pub fn command<T: Site>(&mut self, site: &mut T, command: Command) -> Result<(), Stop>
         requires { Runs T.Site site.old self.old.state self.old.pages }
-
-        ensures stands { IsTrue T.tells → (world : World) → StandsFor self.old.state (T.disk site.old) world
-            → OnOk result (StandsFor self.new.state (T.disk site.new) (act world command).0) }
-        ensures told { IsTrue T.tells → (world : World) → StandsFor self.old.state (T.disk site.old) world
-            → OnOk result ((T.disk site.new).told ≡ (T.disk site.old).told ++ (act world command).1) }
-        ensures any_moment { IsTrue T.tells → (world : World) → StandsFor self.old.state (T.disk site.old) world
-            → LeavesOnly (T.disk site.old) (T.disk site.new) (Meanwhile world command (T.disk site.old).told) }
-        ensures undamaged { IsTrue T.tells → (world : World) → StandsFor self.old.state (T.disk site.old) world
-            → IfErr result IsNoDamage }
-        ensures moved { IsTrue T.tells → (world : World) → StandsFor self.old.state (T.disk site.old) world
-            → OnOk result (moves_for self.new.state ≡ made_behind world (moves_for self.old.state) command) }
-        ensures cost { IsTrue T.tells → (world : World) (cost : Cost) → StandsFor self.old.state (T.disk site.old) world
-            → Costs world (moves_for self.old.state) command cost → Spends T.Site cost site.old site.new }
-
-        // The kept pages: a slice reads those alone that are not kept, where there is room, and keeps them.
-        ensures saves { IsTrue T.tells → (world : World) (numbers : List ℕ) → StandsFor self.old.state (T.disk site.old) world → GoesTo world command numbers
-            → Saves self.old.pages (live_file (live_for self.old.state)) numbers (T.reads site.old) (T.reads site.new) }
-        ensures keeps { IsTrue T.tells → (world : World) (numbers : List ℕ) → StandsFor self.old.state (T.disk site.old) world → GoesTo world command numbers
-            → OnOk result (KeepsUp self.old.pages self.new.pages (live_file (live_for self.old.state)) numbers) }
-        // None is kept over a new generation. No other command but a slice changes them.
-        ensures cache { asks_pages_for self.old.state command ≡ false
-            → OnOk result (self.new.pages ≡ kept_over (live_for self.old.state) (live_for self.new.state) self.old.pages) }
-        ensures capacity { self.new.pages.capacity ≡ self.old.pages.capacity }
-
-        // Whatever the files hold.
-        ensures damage { IsTrue T.tells → IfErr result (λ stop. IfSome self.old.state (λ state.
-            TellsDamage state (T.disk site.old).files command stop)) }
-        ensures answered { IsTrue T.tells → OnOk result (IfSome self.old.state (λ state.
-            RepliesTo state (T.disk site.old).files command (T.disk site.old).told (T.disk site.new).told)) }
-        // Where no fact is accepted and no schema declared, no batch that is not empty begins and none is to be moved on, nothing is written.
-        ensures silent { IsTrue T.tells → (world : World) → StandsFor self.old.state (T.disk site.old) world
-            → (act world command).0.kept ≡ world.kept → begins world (act world command).0 ≡ 0 → AsksNoMove world command
-            → OnOk result (T.writes site.new ≡ T.writes site.old) }
-        ensures stopped { OnErr result (self.new.state ≡ None) }
-        ensures runs { OnOk result (Runs T.Site site.new self.new.state self.new.pages) }
-        ensures stops { StopsFor T.Site site.old site.new result }
+        ensures answers { IfSome self.old.state (λ state. Answers T.Site command state self.new.state site.old site.new self.old.pages self.new.pages result) }
     {
-        let Some(state) = self.state.take() else {
+        let Some(state) = &mut self.state else {
             unreachable!()
         };
-        let Answered { state, reply } = act(self.alloc, &mut self.pages, state, command, site)?;
-        match site.emit(&reply) {
-            Ok(()) => {
-                self.state = Some(state);
-                Ok(())
-            }
-            Err(Fault) => Err(Stop::Output),
+        let answered = answer(self.alloc, &mut self.pages, state, command, site);
+        if answered.is_err() {
+            self.state = None;
         }
+        answered
+    }
+}
+
+/// What a session has of files that were opened.
+fn opened(found: Option<Store>) -> State
+    ensures { result ≡ opened_state found }
+{
+    match found {
+        Some(store) => State::Idle(store),
+        None => State::Empty,
+    }
+}
+
+/// Carries out a command and emits its reply.
+fn answer<T: Site>(
+    alloc: Global,
+    pages: &mut Pages,
+    state: &mut State,
+    command: Command,
+    site: &mut T,
+) -> Result<(), Stop>
+    requires ready { IsReadyFor T.Site site.old pages.old state.old }
+    ensures answers { Answers T.Site command state.old (unless_stopped state.new result) site.old site.new pages.old pages.new result }
+{
+    match act(alloc, pages, state, command, site) {
+        Ok(reply) => match site.emit(&reply) {
+            Ok(()) => Ok(()),
+            Err(Fault) => Err(Stop::Output),
+        },
+        Err(stop) => Err(stop),
     }
 }

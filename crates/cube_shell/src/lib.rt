@@ -1,12 +1,9 @@
 //! The warehouse behind its top call: a script in, one reply out for each command.
 #![tactic(auto)]
 
-mod exit;
-mod pull;
-mod serve;
 mod top_call;
 
+pub use cube_run::Status;
 pub use cube_session::Session;
 pub use cube_state::{State, Stop};
-pub use exit::Status;
 pub use top_call::{run, run_within};

@@ -1,41 +1,17 @@
--- What was answered, and what a stop leaves where nothing is written.
-use Rattle.std.proofs.Common.{◌≡◌, inl, ℕ, List, sym, ◌∙◌, subst, Result, Ok, Err, IfOk}
+-- What a stop leaves where nothing is written.
+use Rattle.std.proofs.Common.{◌≡◌, inl, ℕ, List, sym, subst}
 use Rattle.site_core.specs.Disk.{Files, Disk}
 use Rattle.site_core.proofs.Run.{each_moment, started}
 use Rattle.site_core.specs.Calls.{Rests, Stays}
 use Rattle.plain_machine.specs.World.{World}
 use Rattle.plain_machine.specs.Keeps.{Keeps}
-use Rattle.plain_machine.specs.Machine.{Answer}
 use Rattle.cube_state.specs.declared.state.State.{State}
-use Rattle.cube_state.specs.Session.{IsFit, Stands, Between, IsAnswer, KeepsEither}
-use Rattle.cube_state.specs.declared.answered.Answered.{Answered}
-use Rattle.cube_state.specs.declared.stop.Stop.{Stop}
+use Rattle.cube_state.specs.Session.{IsFit, Stands, Between, KeepsEither}
 use Rattle.cube_state.proofs.Standing.{fit_on, rests_left, stands_left, stands_on}
 
 -- what is known of a site at each moment
 abbrev pub OnlyNow : Disk → Type 0
 OnlyNow d = (told : List ℕ) (files : Files) → d.left_since d.clock told files → (told ≡ d.told) × d.may_leave files
-
--- ---- what was answered
-
--- the state and the text are those of the plain machine
-pub answers : (result : Result Answered Stop) (state : State) (text : List ℕ) (disk : Disk) (answer : Answer) → IfOk result (λ done. done.state ≡ state) → IfOk result (λ done. done.reply.items ≡ text)
-    → Stands state disk answer.0 → text ≡ answer.1 → IfOk result (IsAnswer disk answer)
-answers (Ok done) state text disk answer is said stands same = record { stands = subst (λ (s : State). Stands s disk answer.0) (sym is) stands; reply = said ∙ same }
-answers (Err stop) state text disk answer is said stands same = tt
-
--- the same where the session is known to stand
-pub stood : (result : Result Answered Stop) (text : List ℕ) (disk : Disk) (answer : Answer) → IfOk result (λ done. Stands done.state disk answer.0)
-    → IfOk result (λ done. done.reply.items ≡ text) → text ≡ answer.1 → IfOk result (IsAnswer disk answer)
-stood (Ok done) text disk answer stands said same = record { stands = stands; reply = said ∙ same }
-stood (Err stop) text disk answer stands said same = tt
-
--- the same of an answer that is another way of saying it
-pub answers_as : (result : Result Answered Stop) (disk : Disk) (one other : Answer) → one ≡ other → IfOk result (IsAnswer disk one) → IfOk result (IsAnswer disk other)
-answers_as result disk one other same is = subst (λ (a : Answer). IfOk result (IsAnswer disk a)) same is
-
-pub between_as : (old new : Disk) (world : World) (one other : Answer) → one ≡ other → Between old new world one.0 → Between old new world other.0
-between_as old new world one other same is = subst (λ (a : Answer). Between old new world a.0) same is
 
 -- ---- nothing was written
 

@@ -1,5 +1,5 @@
 -- Kept pages fit as long as the live side stays.
-use Rattle.std.proofs.Common.{◌≡◌, ◌==◌, ◌+◌, ◌∙◌, ℕ, Bool, true, false, cond, get_or, length, List, [], Option, Some, None, Result, Ok, Err, IfOk, OnOk, ap, subst, sym, arith, rules}
+use Rattle.std.proofs.Common.{◌≡◌, ◌==◌, ◌+◌, ℕ, Bool, true, false, cond, get_or, length, List, [], Option, Some, None, Result, Ok, Err, OnOk, ap, subst, sym, arith, rules}
 use Rattle.std.specs.Prelude.{◌≢◌}
 use Rattle.std.specs.List.{All}
 use Rattle.site_core.specs.Disk.{DiffersPast, Files}
@@ -9,9 +9,7 @@ use Rattle.forest_root.specs.declared.body.Body.{Body}
 use Rattle.forest_store.specs.Sides.{side_of}
 use Rattle.page_cache.specs.Giving.{Cache, Name}
 use Rattle.page_cache.specs.Keeping.{Agrees, LiesIn}
-use Rattle.cube_state.specs.Cached.{AreLive, Fits, FitsLive, SideStays, emptied, generation, kept_over, live_file, live_of}
-use Rattle.cube_state.specs.declared.answered.Answered.{Answered}
-use Rattle.cube_state.specs.declared.state.State.{State}
+use Rattle.cube_state.specs.Cached.{AreLive, FitsLive, SideStays, emptied, generation, kept_over, live_file}
 use Rattle.cube_state.specs.declared.stop.Stop.{Stop}
 
 -- ---- pages of one file
@@ -65,66 +63,20 @@ next_number : (m n : ℕ) → n ≡ m + 1 → (m == n) ≡ false
 next_number m n one = search (rules)
 
 -- all, where it is of the same generation
-kept_same : (live next : Option Body) (cache : Cache) → generation next ≡ generation live → kept_over live next cache ≡ cache
+pub kept_same : (live next : Option Body) (cache : Cache) → generation next ≡ generation live → kept_over live next cache ≡ cache
 kept_same live next cache same =
     subst (λ (n : ℕ). cond (generation live == n) cache (emptied cache) ≡ cache) (sym same) (ap (λ (is : Bool). cond is cache (emptied cache)) (same_number (generation live)))
 
 -- nothing, where it is of the next one
-kept_none : (live next : Option Body) (cache : Cache) → generation next ≡ generation live + 1 → kept_over live next cache ≡ emptied cache
+pub kept_none : (live next : Option Body) (cache : Cache) → generation next ≡ generation live + 1 → kept_over live next cache ≡ emptied cache
 kept_none live next cache one = ap (λ (is : Bool). cond is cache (emptied cache)) (next_number (generation live) (generation next) one)
 
 -- ---- behind a command
 
-pub holds : {P : Type 0} (result : Result Answered Stop) → P → OnOk result P
-holds (Ok done) is = is
+pub holds : {A : Type 0} {P : Type 0} (result : Result A Stop) → P → OnOk result P
+holds (Ok reply) is = is
 holds (Err stop) is = tt
 
-module _ (result : Result Answered Stop) (live : Option Body) where
-  pub live_as : (next : State) → IfOk result (λ done. done.state ≡ next) → live_of next ≡ live → IfOk result (λ done. live_of done.state ≡ live)
-  live_as next is same = by result is
-    where
-      by : (r : Result Answered Stop) → IfOk r (λ done. done.state ≡ next) → IfOk r (λ done. live_of done.state ≡ live)
-      by (Ok done) is = ap live_of is ∙ same
-      by (Err stop) is = tt
-
-  -- the live side is the same: the kept pages fit it
-  pub live_fits : (old new : Files) (cache : Cache) → IfOk result (λ done. live_of done.state ≡ live) → OnOk result (SideStays live old new) → FitsLive live old cache
-      → IfOk result (λ done. Fits done.state new cache)
-  live_fits old new cache is stays fits = by result is stays
-    where
-      by : (r : Result Answered Stop) → IfOk r (λ done. live_of done.state ≡ live) → OnOk r (SideStays live old new) → IfOk r (λ done. Fits done.state new cache)
-      by (Ok done) is stays = subst (λ (l : Option Body). FitsLive l new cache) (sym is) (side_fits live old new cache stays fits)
-      by (Err stop) is stays = tt
-
-  -- and all are kept over it
-  pub generation_kept : (cache : Cache) → IfOk result (λ done. generation (live_of done.state) ≡ generation live) → IfOk result (λ done. cache ≡ kept_over live (live_of done.state) cache)
-  generation_kept cache is = by result is
-    where
-      by : (r : Result Answered Stop) → IfOk r (λ done. generation (live_of done.state) ≡ generation live) → IfOk r (λ done. cache ≡ kept_over live (live_of done.state) cache)
-      by (Ok done) is = sym (kept_same live (live_of done.state) cache is)
-      by (Err stop) is = tt
-
-  pub live_kept : (cache : Cache) → IfOk result (λ done. live_of done.state ≡ live) → IfOk result (λ done. cache ≡ kept_over live (live_of done.state) cache)
-  live_kept cache is = by result is
-    where
-      by : (r : Result Answered Stop) → IfOk r (λ done. live_of done.state ≡ live) → IfOk r (λ done. cache ≡ kept_over live (live_of done.state) cache)
-      by (Ok done) is = sym (kept_same live (live_of done.state) cache (ap generation is))
-      by (Err stop) is = tt
-
-  -- a batch is committed: none is kept
-  pub emptied_kept : (old new : Cache) → OnOk result (new ≡ emptied old) → IfOk result (λ done. generation (live_of done.state) ≡ generation live + 1)
-      → IfOk result (λ done. new ≡ kept_over live (live_of done.state) old)
-  emptied_kept old new is one = by result is one
-    where
-      by : (r : Result Answered Stop) → OnOk r (new ≡ emptied old) → IfOk r (λ done. generation (live_of done.state) ≡ generation live + 1) → IfOk r (λ done. new ≡ kept_over live (live_of done.state) old)
-      by (Ok done) is one = is ∙ sym (kept_none live (live_of done.state) old one)
-      by (Err stop) is one = tt
-
 -- where none is kept, none has to fit
-pub none_fits : (result : Result Answered Stop) (files : Files) (cache : Cache) → cache.kept ≡ [] → IfOk result (λ done. Fits done.state files cache)
-none_fits (Ok done) files cache none = none_fit (live_of done.state) files cache none
-none_fits (Err stop) files cache none = tt
-
-pub emptied_fits : (result : Result Answered Stop) (files : Files) (old new : Cache) → OnOk result (new ≡ emptied old) → IfOk result (λ done. Fits done.state files new)
-emptied_fits (Ok done) files old new is = none_fit (live_of done.state) files new (ap (λ (c : Cache). c.kept) is)
-emptied_fits (Err stop) files old new is = tt
+pub emptied_fits : (live : Option Body) (files : Files) (old new : Cache) → new ≡ emptied old → FitsLive live files new
+emptied_fits live files old new is = none_fit live files new (ap (λ (c : Cache). c.kept) is)

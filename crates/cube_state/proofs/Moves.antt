@@ -1,5 +1,5 @@
 -- The pages of the moves made, as a session that stands for a world has them.
-use Rattle.std.proofs.Common.{◌≡◌, ◌*◌, List, [], ◌∷◌, Some, sym, subst, take}
+use Rattle.std.proofs.Common.{◌≡◌, ◌*◌, ℕ, List, [], ◌∷◌, Option, Some, None, sym, subst, take}
 use Rattle.site_core.specs.Disk.{Disk, Files}
 use Rattle.cube_schema.specs.declared.schema.Schema.{Schema}
 use Rattle.fact_model.specs.declared.fact.Fact.{Fact}
@@ -9,7 +9,7 @@ use Rattle.forest_root.specs.Live.{IsLiveBody}
 use Rattle.forest_root.specs.declared.body.Body.{Body}
 use Rattle.forest_store.specs.Held.{IsLive}
 use Rattle.forest_refresh.specs.Begun.{Begun, next_side}
-use Rattle.plain_machine.specs.World.{Warehouse, World}
+use Rattle.plain_machine.specs.World.{Kept, Knows, Warehouse, World}
 use Rattle.cube_state.specs.Moves.{HasMovedTo, HasPagesOver, moves_made}
 use Rattle.cube_state.specs.Session.{Attends, Stands}
 use Rattle.cube_state.specs.declared.state.State.{State}
@@ -26,8 +26,14 @@ attended_pages r disk warehouse (x ∷ xs) is = record {
   pages = subst (λ (s : Schema). take (4096 * written r.progress.taken (forest_moves s warehouse.facts (x ∷ xs))) (disk.files (next_side r.store.forest.body)) ≡ bytes_after s warehouse.facts (x ∷ xs) r.progress.taken) is.schema is.moved.pages;
 }
 
+-- what is kept and pending tells it
+moved_over : (files : Files) (made : ℕ) (kept : Kept) (pending : Option (List Fact)) (world : World) → Knows kept pending world → HasPagesOver files kept pending made
+    → HasMovedTo files world made
+moved_over files made kept pending world is has =
+    subst (λ (k : Kept). HasPagesOver files k world.pending made) (sym is.kept) (subst (λ (p : Option (List Fact)). HasPagesOver files kept p made) (sym is.pending) has)
+
 pub stands_moved : (state : State) (disk : Disk) (world : World) → Stands state disk world → HasMovedTo disk.files world (moves_made state)
-stands_moved Empty disk world is = subst (λ (w : World). HasMovedTo disk.files w 0) (sym is.0) tt
-stands_moved (Idle store) disk world is = subst (λ (w : World). HasMovedTo disk.files w 0) (sym is.1) tt
-stands_moved (Hollow store) disk world is = subst (λ (w : World). HasMovedTo disk.files w 0) (sym is.1) tt
-stands_moved (Pending r) disk world is = subst (λ (w : World). HasMovedTo disk.files w r.progress.taken) (sym is.2) (attended_pages r disk is.0 is.1 is.3)
+stands_moved Empty disk world is = moved_over disk.files 0 None None world is.0 tt
+stands_moved (Idle store) disk world is = moved_over disk.files 0 (Some is.0) None world is.1 tt
+stands_moved (Hollow store) disk world is = moved_over disk.files 0 (Some is.0) (Some []) world is.1 tt
+stands_moved (Pending r) disk world is = moved_over disk.files r.progress.taken (Some is.0) (Some is.1) world is.2 (attended_pages r disk is.0 is.1 is.3)

@@ -50,21 +50,20 @@ attends_belongs r disk warehouse batch is = record {
 }
 
 pub stands_read : (state : State) (disk : Disk) (world : World) → Stands state disk world → Keeps disk.files world.kept
-stands_read Empty disk world is = subst (λ (w : World). Keeps disk.files w.kept) (sym is.0) is.1.nothing
-stands_read (Idle store) disk world is = subst (λ (w : World). Keeps disk.files w.kept) (sym is.1) (belongs_read store disk is.0 is.2)
-stands_read (Hollow store) disk world is = subst (λ (w : World). Keeps disk.files w.kept) (sym is.1) (belongs_read store disk is.0 is.2)
-stands_read (Pending r) disk world is =
-    subst (λ (w : World). Keeps disk.files w.kept) (sym is.2) (belongs_read r.store disk is.0 (attends_belongs r disk is.0 is.1 is.3))
+stands_read Empty disk world is = subst (Keeps disk.files) (sym is.0.kept) is.1.nothing
+stands_read (Idle store) disk world is = subst (Keeps disk.files) (sym is.1.kept) (belongs_read store disk is.0 is.2)
+stands_read (Hollow store) disk world is = subst (Keeps disk.files) (sym is.1.kept) (belongs_read store disk is.0 is.2)
+stands_read (Pending r) disk world is = subst (Keeps disk.files) (sym is.2.kept) (belongs_read r.store disk is.0 (attends_belongs r disk is.0 is.1 is.3))
 
 -- what a stop leaves now
 pub stands_left : (state : State) (disk : Disk) (world : World) → Stands state disk world
     → (files : Files) → disk.may_leave files → Keeps files world.kept
 stands_left Empty disk world is files left =
     subst (λ (f : Files). Keeps f world.kept) (sym (is.1.stable files left)) (stands_read Empty disk world is)
-stands_left (Idle store) disk world is files left = subst (λ (w : World). Keeps files w.kept) (sym is.1) (belongs_left store disk is.0 is.2 files left)
-stands_left (Hollow store) disk world is files left = subst (λ (w : World). Keeps files w.kept) (sym is.1) (belongs_left store disk is.0 is.2 files left)
+stands_left (Idle store) disk world is files left = subst (Keeps files) (sym is.1.kept) (belongs_left store disk is.0 is.2 files left)
+stands_left (Hollow store) disk world is files left = subst (Keeps files) (sym is.1.kept) (belongs_left store disk is.0 is.2 files left)
 stands_left (Pending r) disk world is files left =
-    subst (λ (w : World). Keeps files w.kept) (sym is.2) (belongs_left r.store disk is.0 (attends_belongs r disk is.0 is.1 is.3) files left)
+    subst (Keeps files) (sym is.2.kept) (belongs_left r.store disk is.0 (attends_belongs r disk is.0 is.1 is.3) files left)
 
 -- a session that stands fits its files
 pub stands_fit : (state : State) (disk : Disk) (world : World) → Stands state disk world → IsFit state disk

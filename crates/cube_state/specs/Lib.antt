@@ -1,6 +1,13 @@
+pub mod BatchCosts
+pub mod BatchDamage
+pub mod Batches
 pub mod Cached
+pub mod Carried
+pub mod Commands
 pub mod Costs
 pub mod Frames
 pub mod Moves
 pub mod Session
+pub mod Slices
 pub mod Stops
+pub mod Visits

@@ -1,5 +1,5 @@
 -- A session that stands for a world, and what a command answers by it.
-use Rattle.std.specs.Prelude.{◌≡◌, ◌⊎◌, ℕ, ◌+◌, ◌<◌, ◌≤◌, List, [], codes, length, None}
+use Rattle.std.specs.Prelude.{◌≡◌, ◌⊎◌, ℕ, ◌+◌, ◌<◌, ◌≤◌, List, [], length, None, Some}
 use Rattle.site_core.specs.Disk.{Files, Disk}
 use Rattle.site_core.specs.Moments.{HoldsNow, LeavesOnly}
 use Rattle.fact_model.specs.declared.fact.Fact.{Fact}
@@ -7,11 +7,10 @@ use Rattle.forest_root.specs.declared.forest.Store.{Store}
 use Rattle.forest_refresh.specs.Begun.{Begun, IsGoing, IsReady, IsRefreshOf, StandsAt, batch_size}
 use Rattle.forest_store.specs.Opened.{IsEmpty, IsOpened}
 use Rattle.forest_store.specs.Stored.{IsStoreOf, IsWhole}
-use Rattle.reply_text.specs.Replies.{line, facts_text, pending_text}
+use Rattle.reply_text.specs.Replies.{line, facts_text, pending_text, unopened}
 use Rattle.plain_machine.specs.Keeps.{IsLawful, Keeps}
 use Rattle.plain_machine.specs.Machine.{Answer}
-use Rattle.plain_machine.specs.World.{World, Warehouse, bare, begun_with, idle}
-use Rattle.cube_state.specs.declared.answered.Answered.{Answered}
+use Rattle.plain_machine.specs.World.{Knows, Warehouse, World}
 use Rattle.cube_state.specs.declared.state.State.{State}
 use Rattle.cube_state.specs.declared.state.State.TheVariants.{Empty, Idle, Hollow, Pending}
 
@@ -60,32 +59,18 @@ IsFit (Pending refresh) disk = IsReady refresh disk
 
 -- it stands for this world
 abbrev pub Stands : State → Disk → World → Type 0
-Stands Empty disk world = (world ≡ bare None) × IsEmpty disk
-Stands (Idle store) disk world = (warehouse : Warehouse) × (world ≡ idle warehouse) × Belongs store disk warehouse
-Stands (Hollow store) disk world = (warehouse : Warehouse) × (world ≡ begun_with warehouse []) × Belongs store disk warehouse
+Stands Empty disk world = Knows None None world × IsEmpty disk
+Stands (Idle store) disk world = (warehouse : Warehouse) × Knows (Some warehouse) None world × Belongs store disk warehouse
+Stands (Hollow store) disk world = (warehouse : Warehouse) × Knows (Some warehouse) (Some []) world × Belongs store disk warehouse
 Stands (Pending refresh) disk world =
-    (warehouse : Warehouse) × (batch : List Fact) × (world ≡ begun_with warehouse batch) × Attends refresh disk warehouse batch
+    (warehouse : Warehouse) × (batch : List Fact) × Knows (Some warehouse) (Some batch) world × Attends refresh disk warehouse batch
 
 -- how many facts it knows
 abbrev pub state_text : State → List ℕ
-state_text Empty = line (codes "no schema")
+state_text Empty = line unopened
 state_text (Idle store) = facts_text store.forest.body.facts
 state_text (Hollow store) = pending_text store.forest.body.facts 0
 state_text (Pending refresh) = pending_text refresh.store.forest.body.facts (batch_size refresh)
-
--- the reply to a step
-abbrev pub step_text : State → List ℕ
-step_text Empty = line (codes "refused nothing pending")
-step_text (Idle store) = line (codes "refused nothing pending")
-step_text (Hollow store) = line (codes "stepped")
-step_text (Pending refresh) = line (codes "stepped")
-
--- the reply where a pending batch is to be dropped
-abbrev pub abandon_text : State → List ℕ
-abandon_text Empty = line (codes "refused nothing pending")
-abandon_text (Idle store) = line (codes "refused nothing pending")
-abandon_text (Hollow store) = line (codes "abandoned")
-abandon_text (Pending refresh) = line (codes "abandoned")
 
 -- the files keep what this world has accepted, or that one
 abbrev pub KeepsEither : World → World → Files → Type 0
@@ -96,9 +81,9 @@ abbrev pub Between : Disk → Disk → World → World → Type 0
 Between old new world next = LeavesOnly old new (λ told files. (told ≡ old.told) × KeepsEither world next files)
 
 -- the session stands for what is known behind a command, and the reply is the plain machine's
-pub record IsAnswer (disk : Disk) (answer : Answer) (done : Answered) : Type 0 where
-  pub stands : Stands done.state disk answer.0
-  pub reply : done.reply.items ≡ answer.1
+pub record IsAnswer (disk : Disk) (answer : Answer) (state : State) (reply : List ℕ) : Type 0 where
+  pub stands : Stands state disk answer.0
+  pub said : reply ≡ answer.1
 
 -- the reply is this line
 abbrev pub IsLine : List ℕ → List ℕ → Type 0

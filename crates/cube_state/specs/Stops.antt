@@ -1,6 +1,6 @@
 -- How a command may end, and why.
 use Rattle.std.specs.Prelude.{◌≡◌, ℕ}
-use Rattle.site_core.specs.Causes.{Rose}
+use Rattle.site_core.specs.Causes.{RoseOnce}
 use Rattle.forest_open.specs.declared.stop.InitStop.{InitStop}
 use Rattle.forest_open.specs.declared.stop.InitStop.TheVariants as inits
 use Rattle.forest_open.specs.declared.stop.OpenStop.{OpenStop}
@@ -12,8 +12,8 @@ use Rattle.cube_state.specs.declared.stop.Stop.TheVariants as stops
 
 -- why a command stops so, by the counts of the files and of the output: what the stop names failed, and nothing else did
 abbrev pub StopCause : ℕ → ℕ → ℕ → ℕ → Stop → Type 0
-StopCause disk disk_now output output_now stops.Disk = Rose disk disk_now × (output_now ≡ output)
-StopCause disk disk_now output output_now stops.Output = Rose output output_now × (disk_now ≡ disk)
+StopCause disk disk_now output output_now stops.Disk = RoseOnce disk disk_now × (output_now ≡ output)
+StopCause disk disk_now output output_now stops.Output = RoseOnce output output_now × (disk_now ≡ disk)
 StopCause disk disk_now output output_now (stops.Damaged file offset) = (disk_now ≡ disk) × (output_now ≡ output)
 StopCause disk disk_now output output_now stops.Memory = (disk_now ≡ disk) × (output_now ≡ output)
 

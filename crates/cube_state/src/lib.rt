@@ -1,10 +1,8 @@
-//! What a session has between two commands and the world that it stands for, what a command answers, and why it stops.
+//! What a session has between two commands and the world that it stands for, what it is to carry out a command, and why it stops.
 #![tactic(auto)]
 
-mod answered;
 mod state;
 mod stop;
 
-pub use answered::{Answered, plain};
 pub use state::State;
 pub use stop::Stop;

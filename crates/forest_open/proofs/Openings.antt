@@ -1,6 +1,6 @@
 -- The rules of opening, one after the other, and that files which keep facts break none.
 use Rattle.std.proofs.Common.{◌≡◌, ◌⊎◌, ℕ, zero, suc, ◌+◌, ◌*◌, ◌/◌, ◌<◌, ◌≤◌, true, false, List, [], ◌∷◌, ◌++◌, get_or, length, map, take, drop, Option, Some, None, inl, inr, refl, sym, ◌∙◌, ap, subst, arith, Result, Ok, Err, IfOk, IfErr, OnOk, IfSome, length-take, take-take, length-append, append-nil}
-use Rattle.std.specs.Prelude.{◌==◌, pos, nat_abs}
+use Rattle.std.specs.Prelude.{◌==◌, ◌≢◌, pos, nat_abs}
 use Rattle.std.specs.List.{All, list_all}
 use Rattle.std.proofs.lemmas.Bool.{and_parts, eq-eqb, eqb-true, le-leb, lt-leb, true≢false}
 use Rattle.std.proofs.lemmas.List.{get_or_past, take_at, drop_at, drop-take, take-append-drop}
@@ -364,3 +364,8 @@ found_now found body now files same is live =
 -- the first damaged slot that `live` named behind such calls
 pub damaged_now : (slot : ℕ) (now files : Files) → now ≡ files → IsFirstDamaged slot (now 0) → IsFirstDamaged slot (files 0)
 damaged_now slot now files same first = subst (λ (f : Files). IsFirstDamaged slot (f 0)) same first
+
+-- what holds at each stop holds where no file failed
+pub unless_failed : {A P : Type 0} (result : Result A OpenStop) → P → IfErr result (λ stop. stop ≢ stops.Disk → P)
+unless_failed (Ok found) is = tt
+unless_failed (Err stop) is = λ other. is

@@ -1,9 +1,12 @@
 -- A refresh begins, or its store is handed back.
-use Rattle.std.proofs.Common.{◌≡◌, ◌∙◌, ℕ, List, Result, Ok, Err, IfErr, IfOk, OnOk, sym, ap, subst}
+use Rattle.std.proofs.Common.{◌≡◌, ◌∙◌, ◌+◌, ◌%◌, ℕ, List, Result, Ok, Err, IfErr, IfOk, OnOk, sym, ap, subst}
 use Rattle.site_core.specs.Disk.{Disk, Files}
 use Rattle.site_core.specs.Moments.{LeavesOnly}
 use Rattle.fact_model.specs.declared.fact.Fact.{Fact}
 use Rattle.attr_dict.specs.Book.{names_at, no_names, shown_names}
+use Rattle.forest_commit.specs.Commit.{slot_of}
+use Rattle.forest_root.specs.Root.{ClosesGate}
+use Rattle.forest_root.specs.declared.body.Body.{Body}
 use Rattle.forest_root.specs.declared.forest.Forest.{Forest}
 use Rattle.forest_root.specs.declared.forest.Store.{Store}
 use Rattle.cube_schema.specs.declared.schema.Schema.{Schema}
@@ -55,3 +58,10 @@ pub fits_then : (schema : Schema) (all : List Fact) (result : Result Begun Begin
     → IfErr result (λ fault. TellsLimit schema all fault.why)
 fits_then schema all (Ok x) fine why = tt
 fits_then schema all (Err fault) fine why = subst (TellsLimit schema all) (sym why) fine
+
+-- the gate that is closed is that of the generation behind the live one
+pub closed_on : (r : Begun) (live : Body) (old new : Files) (result : Result Begun BeginFault) → r.next.generation ≡ r.store.forest.body.generation + 1 → r.store.forest.body ≡ live
+    → IfOk result (λ x. x ≡ r) → IfOk result (λ x. ClosesGate (slot_of x.next) old new) → OnOk result (ClosesGate ((live.generation + 1) % 2) old new)
+closed_on r live old new (Ok x) behind same is closes =
+    subst (λ n. ClosesGate n old new) (ap (λ (b : Begun). slot_of b.next) is ∙ ap (λ n. n % 2) (behind ∙ ap (λ (b : Body). b.generation + 1) same)) closes
+closed_on r live old new (Err fault) behind same is closes = tt

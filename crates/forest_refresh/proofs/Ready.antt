@@ -176,6 +176,7 @@ pub cause_again : {A B E : Type 0} (fault : E) (before now : ℕ) (e : E) (resul
 cause_again fault before now e (Ok x) was is = absurd is
 cause_again fault before now e (Err d) was is = record {
   later = was.later;
+  once = was.once;
   failed = λ same. was.failed (ap Err (sym is ∙ ap (err_in d) same));
   other = λ apart. was.other (λ same. apart (ap Err (is ∙ ap (err_in e) same)));
   ok = tt;
@@ -197,6 +198,7 @@ pub cause_none : {A E : Type 0} (fault : E) (before now : ℕ) (e : E) (result :
 cause_none fault before now e (Ok x) same not is = absurd is
 cause_none {A = A} {E = E} fault before now e (Err d) same not is = record {
   later = omega (arith, same);
+  once = omega (arith, same);
   failed = λ told. absurd (not (sym is ∙ ap (λ (r : Result A E). err_in d r) told));
   other = λ apart. same;
   ok = tt;

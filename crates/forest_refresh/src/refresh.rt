@@ -1,5 +1,5 @@
 //! A refresh that has begun, and how it ends.
-ghost use Rattle.std.specs.Prelude.{◌≡◌, ◌≢◌, ◌<◌, ◌≤◌, ◌+◌, ◌-◌, ◌++◌, ℕ, IsTrue, IfOk, IfErr, IfSome, OnOk, List, length, min, slice_index, vec_capacity};
+ghost use Rattle.std.specs.Prelude.{◌≡◌, ◌≢◌, ◌<◌, ◌≤◌, ◌+◌, ◌-◌, ◌%◌, ◌++◌, ℕ, IsTrue, IfOk, IfErr, IfSome, OnOk, List, length, min, slice_index, vec_capacity};
 ghost use Rattle.site_core.specs.Disk.{Files};
 ghost use Rattle.site_core.specs.Causes.{HasCause};
 ghost use Rattle.site_core.specs.Moments.{HoldsNow, IsStable, LeavesOnly};
@@ -8,6 +8,8 @@ ghost use Rattle.attr_dict.specs.Admitting.{names_with};
 ghost use Rattle.attr_dict.specs.Book.{names_at};
 ghost use Rattle.site_core.specs.Causes.{HasCauseWhere};
 ghost use Rattle.site_core.specs.Frames.{Calls, CallsOnly};
+ghost use Rattle.forest_commit.specs.Commit.{slot_of};
+ghost use Rattle.forest_root.specs.Root.{ClosesGate};
 ghost use Rattle.forest_store.specs.Held.{IsLive, KeepsFacts};
 ghost use Rattle.forest_store.specs.Opened.{IsOpened};
 ghost use Rattle.forest_store.specs.Sides.{page_total};
@@ -92,8 +94,8 @@ impl Refresh {
         ensures goes { IfOk result (λ refresh. IsGoing refresh × (refresh.progress.taken ≡ 0)) }
         ensures stable { IsTrue T.tells → OnOk result (IsStable (T.disk site.new)) }
         ensures points { IfOk result (λ refresh. refresh.deltas ≡ deltas_by (names_with store.dicts facts) store.forest.schema facts) }
-        // The root file alone is written.
-        ensures others { IsTrue T.tells → OnOk result ((file : ℕ) → file ≢ 0 → (T.disk site.new).files file ≡ (T.disk site.old).files file) }
+        // Of all files the gate of the next generation alone is written.
+        ensures closes { IsTrue T.tells → OnOk result (ClosesGate ((store.forest.body.generation + 1) % 2) (T.disk site.old).files (T.disk site.new).files) }
         ensures forest { IfOk result (λ refresh. refresh.store.forest ≡ store.forest) }
         ensures back { IfErr result (λ fault. IsBack store fault.store) }
         ensures untouched { IfErr result (λ fault. fault.why ≢ BeginStop.Disk → site.new ≡ site.old) }
@@ -133,8 +135,8 @@ impl Refresh {
     /// or writes a page of a new tree on the other side. It takes no memory. Between two moves slices are answered from the store that the
     /// refresh lends, from pages that no move touches.
     ///
-    /// A stop at any moment leaves the facts without the batch. After an error the files are to be opened again; `Damaged` names the page
-    /// that `finish` would name.
+    /// A stop at any moment leaves the facts without the batch. After an error no move may follow, and the batch can only be dropped
+    /// (`abandon`); `Damaged` names the page that `finish` would name.
     pub fn step<T: Site>(&mut self, site: &mut T, moves: u64) -> Result<u64, RefreshStop>
         requires goes { IsGoing self.old }
         requires ready { IsTrue T.tells → IsReady self.old (T.disk site.old) }
@@ -260,7 +262,7 @@ fn shut_gate<T: Site>(site: &mut T, store: Store, prepared: Prepared) -> Result<
         (told ≡ (T.disk site.old).told) × KeepsFacts store.forest.schema accepted store.forest.body.last files) }
     ensures ready { IsTrue T.tells → OnOk result (IsReady (begun_with store prepared) (T.disk site.new)) }
     ensures stable { IsTrue T.tells → OnOk result (IsStable (T.disk site.new)) }
-    ensures others { IsTrue T.tells → OnOk result ((file : ℕ) → file ≢ 0 → (T.disk site.new).files file ≡ (T.disk site.old).files file) }
+    ensures closes { IsTrue T.tells → IfOk result (λ refresh. ClosesGate (slot_of refresh.next) (T.disk site.old).files (T.disk site.new).files) }
     ensures back { IfErr result (λ fault. IsCut store fault.store) }
     ensures why { IfErr result (λ fault. fault.why ≡ BeginStop.Disk) }
     ensures told { IsTrue T.tells → (T.disk site.new).told ≡ (T.disk site.old).told }

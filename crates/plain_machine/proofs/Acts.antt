@@ -1,5 +1,5 @@
 -- Two laws of the plain machine: each reply has a byte, and a command that makes no stage leaves what is known.
-use Rattle.std.proofs.Common.{◌≡◌, ◌<◌, ℕ, ◌+◌, Bool, true, false, cond, List, [], ◌∷◌, ◌++◌, length, map, Option, Some, None, Result, Ok, Err, refl, ◌∙◌, ap, append-nil, arith, length-append, codes, decimal, nat_lt, nat_le}
+use Rattle.std.proofs.Common.{◌≡◌, ◌<◌, ℕ, ◌+◌, Bool, true, false, cond, List, [], ◌∷◌, ◌++◌, length, map, Option, Some, None, Result, Ok, Err, refl, arith, length-append, codes, decimal, nat_lt, nat_le}
 use Rattle.std.proofs.lemmas.Bool.Decides.{nat_tests}
 use Rattle.cube_schema.specs.declared.schema.Schema.{Schema}
 use Rattle.cube_schema.specs.declared.schema.SchemaRefusal.{SchemaRefusal}
@@ -18,16 +18,16 @@ use Rattle.script_lang.specs.declared.command.Block.{Block}
 use Rattle.script_lang.specs.declared.command.Block.TheVariants.{Whole, Long}
 use Rattle.script_lang.specs.declared.command.Command.{Command}
 use Rattle.script_lang.specs.declared.command.Command.TheVariants as says
-use Rattle.reply_text.specs.Replies.{line, numbered, schema_text, batch_text, slice_text, answer_text}
+use Rattle.reply_text.specs.Replies.{line, already_text, gap_text, numbered, schema_text, batch_text, slice_text, answer_text}
 use Rattle.slice_lang.specs.declared.refusal.SliceRefusal.{SliceRefusal}
 use Rattle.slice_lang.specs.declared.refusal.SliceRefusal.TheVariants as slices
 use Rattle.slice_lang.specs.Reading.{slice_of}
 use Rattle.plain_machine.specs.declared.batch_source.BatchSource.{BatchSource}
-use Rattle.plain_machine.specs.declared.batch_source.BatchSource.TheVariants.{Rows, Generator}
+use Rattle.plain_machine.specs.declared.batch_source.BatchSource.TheVariants.{Rows, Numbered, Generator}
 use Rattle.plain_machine.specs.World.{Kept, World, Warehouse}
-use Rattle.plain_machine.specs.Machine.{Answer, abandon, accepted, accepted_as, act, batch_from, begin, begun, begun_or_refused, block_read, committed, committed_as, declare, declare_over, declared, fact_limit, facts_or_refusal, finish, first_full, first_heavy, full_refusal, heavy_refusal, in_turn, is_covered, load, load_numbered, numbered_over, pending_over, read_by, refusal_of, replies_with, rows_reply, slice, slice_over, slice_reply, status_over, status_text, step, take_over, unless}
+use Rattle.plain_machine.specs.Machine.{Answer, Given, abandon, accepted, act, batch_from, begin, begun, begun_or_refused, block_read, committed, declare, declare_over, declared, fact_limit, facts_or_refusal, finish, first_full, first_heavy, full_refusal, heavy_refusal, is_covered, load, pending_over, read_by, refusal_of, replies_with, rows_reply, slice, slice_over, slice_reply, status_over, status_text, step, take_over, unless, with_last, with_number}
 use Rattle.plain_machine.specs.Stages.{size, makes_stage}
-use Rattle.plain_machine.specs.Histories.{number_given}
+use Rattle.plain_machine.specs.Histories.{Batch, batch_by}
 use Rattle.plain_machine.proofs.Outcomes.{Outcome, stays, declares, commits, counts, outcome}
 
 -- ---- replies have a byte
@@ -93,65 +93,64 @@ unless_some : (world : World) (answer : Answer) (refusal : Option (List ℕ)) �
 unless_some world answer None some byte = some
 unless_some world answer (Some text) some byte = byte
 
-committed_some : (last : ℕ) (warehouse : Warehouse) (batch : List Fact) → 0 < length (committed_as last warehouse batch).1
-committed_some last warehouse batch = some_number (codes "committed ") (length (warehouse.facts ++ batch))
+committed_some : (world : World) (warehouse : Warehouse) (batch : List Fact) (last : ℕ) → 0 < length (committed world warehouse batch last).1
+committed_some world warehouse batch last = some_number (codes "committed ") (length (warehouse.facts ++ batch))
 
-accepted_some : (world : World) (warehouse : Warehouse) (batch : List Fact) → 0 < length (accepted world warehouse batch).1
-accepted_some world warehouse batch =
-    unless_some world (committed warehouse batch) (refusal_of warehouse.schema (warehouse.facts ++ batch)) (committed_some warehouse.last warehouse batch)
+accepted_some : (world : World) (warehouse : Warehouse) (batch : List Fact) (last : ℕ) → 0 < length (accepted world warehouse batch last).1
+accepted_some world warehouse batch last =
+    unless_some world (committed world warehouse batch last) (refusal_of warehouse.schema (warehouse.facts ++ batch)) (committed_some world warehouse batch last)
     (refusal_some warehouse.schema (warehouse.facts ++ batch))
 
-begun_some : (world : World) (warehouse : Warehouse) (batch : List Fact) → 0 < length (begun_or_refused world warehouse batch).1
-begun_some world warehouse batch =
-    unless_some world (begun warehouse batch) (refusal_of warehouse.schema (warehouse.facts ++ batch)) (some_line (codes "begun"))
+begun_some : (world : World) (warehouse : Warehouse) (batch : List Fact) (last : ℕ) → 0 < length (begun_or_refused world warehouse batch last).1
+begun_some world warehouse batch last =
+    unless_some world (begun world batch) (refusal_of warehouse.schema (warehouse.facts ++ batch)) (some_line (codes "begun"))
     (refusal_some warehouse.schema (warehouse.facts ++ batch))
 
-read_some : (world : World) (taken : List Fact → Answer) (read : Result (List Fact) RowRefusal) → ((batch : List Fact) → 0 < length (taken batch).1)
-    → 0 < length (read_by world taken (facts_or_refusal read)).1
-read_some world taken (Err refusal) each = batch_some refusal
-read_some world taken (Ok batch) each = each batch
+-- each reply of a source that gives no batch has a byte
+abbrev pub HasReply : Given → Type 0
+HasReply (Err text) = 0 < length text
+HasReply (Ok given) = Unit {0}
 
-block_some : (world : World) (taken : List Fact → Answer) (schema : Schema) (block : Block) → ((batch : List Fact) → 0 < length (taken batch).1)
-    → 0 < length (read_by world taken (block_read schema block)).1
-block_some world taken schema Long each = some_line (codes "refused block")
-block_some world taken schema (Whole bytes) each = read_some world taken (batch_of schema bytes) each
+batch_has : (read : Result (List Fact) RowRefusal) (last : ℕ) → HasReply (with_last last (facts_or_refusal read))
+batch_has (Err refusal) last = batch_some refusal
+batch_has (Ok batch) last = tt
 
-pub source_some : (world : World) (taken : List Fact → Answer) (schema : Schema) (source : BatchSource) → ((batch : List Fact) → 0 < length (taken batch).1)
-    → 0 < length (read_by world taken (batch_from schema source)).1
-source_some world taken schema (Rows block) each = block_some world taken schema block each
-source_some world taken schema (Generator start rows) each = by (nat_le rows 262144)
-  where
-    by : (b : Bool) → 0 < length (read_by world taken (cond b (Ok (generated schema start rows)) (Err (batch_text refusals.Rows)))).1
-    by true = each (generated schema start rows)
-    by false = batch_some refusals.Rows
+block_has : (schema : Schema) (block : Block) (last : ℕ) → HasReply (with_last last (block_read schema block))
+block_has schema Long last = some_line (codes "refused block")
+block_has schema (Whole bytes) last = batch_has (batch_of schema bytes) last
 
-take_some : (world : World) (taken : Warehouse → List Fact → Answer) (kept : Kept) (pending : Option (List Fact)) (source : BatchSource)
-    → ((warehouse : Warehouse) (batch : List Fact) → 0 < length (taken warehouse batch).1) → 0 < length (take_over world taken kept pending source).1
+number_has : (read : Result (List Fact) (List ℕ)) (number last : ℕ) → HasReply (with_last last read) → HasReply (with_number number read)
+number_has (Err text) number last some = some
+number_has (Ok []) number last some = some_line (codes "refused empty")
+number_has (Ok (x ∷ xs)) number last some = tt
+
+turn_has : (over early : Bool) (number last : ℕ) (given : Given) → HasReply given → HasReply (cond over (Err (already_text number)) (cond early (Err (gap_text (last + 1))) given))
+turn_has true early number last given some = some_number (codes "already ") number
+turn_has false true number last given some = some_number (codes "refused gap ") (last + 1)
+turn_has false false number last given some = some
+
+generated_has : (within : Bool) (schema : Schema) (start rows last : ℕ) → HasReply (with_last last (cond within (Ok (generated schema start rows)) (Err (batch_text refusals.Rows))))
+generated_has true schema start rows last = tt
+generated_has false schema start rows last = batch_some refusals.Rows
+
+pub source_has : (schema : Schema) (last : ℕ) (source : BatchSource) → HasReply (batch_from schema last source)
+source_has schema last (Rows block) = block_has schema block last
+source_has schema last (Numbered number block) =
+    turn_has (nat_le number last) (nat_lt (last + 1) number) number last (with_number number (block_read schema block))
+    (number_has (block_read schema block) number last (block_has schema block last))
+source_has schema last (Generator start rows) = generated_has (nat_le rows 262144) schema start rows last
+
+read_some : (world : World) (taken : List Fact → ℕ → Answer) (given : Given) → HasReply given → ((batch : List Fact) (last : ℕ) → 0 < length (taken batch last).1)
+    → 0 < length (read_by world taken given).1
+read_some world taken (Err text) some each = some
+read_some world taken (Ok given) some each = each given.0 given.1
+
+take_some : (world : World) (taken : Warehouse → List Fact → ℕ → Answer) (kept : Kept) (pending : Option (List Fact)) (source : BatchSource)
+    → ((warehouse : Warehouse) (batch : List Fact) (last : ℕ) → 0 < length (taken warehouse batch last).1) → 0 < length (take_over world taken kept pending source).1
 take_some world taken None pending source each = some_line (codes "refused no schema")
 take_some world taken (Some warehouse) (Some batch) source each = some_line (codes "refused pending")
-take_some world taken (Some warehouse) None source each = source_some world (taken warehouse) warehouse.schema source (each warehouse)
-
-accepted_as_some : (world : World) (number : ℕ) (warehouse : Warehouse) (batch : List Fact) → 0 < length (accepted_as world number warehouse batch).1
-accepted_as_some world number warehouse [] = some_line (codes "refused empty")
-accepted_as_some world number warehouse (x ∷ xs) =
-    unless_some world (committed_as number warehouse (x ∷ xs)) (refusal_of warehouse.schema (warehouse.facts ++ x ∷ xs)) (committed_some number warehouse (x ∷ xs))
-    (refusal_some warehouse.schema (warehouse.facts ++ x ∷ xs))
-
--- of two answers each has a byte
-cond_some : (b : Bool) (first second : Answer) → 0 < length first.1 → 0 < length second.1 → 0 < length (cond b first second).1
-cond_some true first second here there = here
-cond_some false first second here there = there
-
-turn_some : (world : World) (number : ℕ) (warehouse : Warehouse) (block : Block) → 0 < length (in_turn world number warehouse block).1
-turn_some world number warehouse block =
-    cond_some (nat_le number warehouse.last) _ _ (some_number (codes "already ") number)
-    (cond_some (nat_lt (warehouse.last + 1) number) _ _ (some_number (codes "refused gap ") (warehouse.last + 1))
-    (block_some world (accepted_as world number warehouse) warehouse.schema block (accepted_as_some world number warehouse)))
-
-numbered_some : (world : World) (number : ℕ) (kept : Kept) (pending : Option (List Fact)) (block : Block) → 0 < length (numbered_over world number kept pending block).1
-numbered_some world number None pending block = some_line (codes "refused no schema")
-numbered_some world number (Some warehouse) (Some batch) block = some_line (codes "refused pending")
-numbered_some world number (Some warehouse) None block = turn_some world number warehouse block
+take_some world taken (Some warehouse) None source each =
+    read_some world (taken warehouse) (batch_from warehouse.schema warehouse.last source) (source_has warehouse.schema warehouse.last source) (each warehouse)
 
 pending_some : (world : World) (answer : Warehouse → List Fact → Answer) (kept : Kept) (pending : Option (List Fact))
     → ((warehouse : Warehouse) (batch : List Fact) → 0 < length (answer warehouse batch).1) → 0 < length (pending_over world answer kept pending).1
@@ -195,11 +194,12 @@ pub reply_some : (world : World) (command : Command) → 0 < length (act world c
 unfolding act
 reply_some world (says.Schema block) = declare_some world world.kept block
 reply_some world (says.Load block) = take_some world (accepted world) world.kept world.pending (Rows block) (accepted_some world)
-reply_some world (says.LoadNumbered number block) = numbered_some world number world.kept world.pending block
+reply_some world (says.LoadNumbered number block) = take_some world (accepted world) world.kept world.pending (Numbered number block) (accepted_some world)
 reply_some world (says.Generate start rows) = take_some world (accepted world) world.kept world.pending (Generator start rows) (accepted_some world)
 reply_some world (says.Begin block) = take_some world (begun_or_refused world) world.kept world.pending (Rows block) (begun_some world)
 reply_some world (says.Step n) = pending_some world _ world.kept world.pending (λ warehouse batch. some_line (codes "stepped"))
-reply_some world says.Finish = pending_some world committed world.kept world.pending (λ warehouse batch. committed_some warehouse.last warehouse batch)
+reply_some world says.Finish =
+    pending_some world (λ warehouse batch. committed world warehouse batch warehouse.last) world.kept world.pending (λ warehouse batch. committed_some world warehouse batch warehouse.last)
 reply_some world says.Abandon = pending_some world _ world.kept world.pending (λ warehouse batch. some_line (codes "abandoned"))
 reply_some world (says.Slice text) = slice_some world.kept text
 reply_some world says.Status = status_some world.kept world.pending
@@ -213,24 +213,18 @@ pub nothing_added : (batch : List Fact) → length batch ≡ 0 → batch ≡ []
 nothing_added [] h = refl
 nothing_added (x ∷ xs) h = absurd (omega arith)
 
-same_facts : (facts batch : List Fact) → nat_lt (length facts + 1) (length (facts ++ batch) + 1) ≡ false → facts ++ batch ≡ facts
-same_facts facts batch h =
-    let none : batch ≡ [] = nothing_added batch (grind (arith, nat_tests, length-append facts batch)) in
-    ap (λ (l : List Fact). facts ++ l) none ∙ append-nil facts
-
 grows : (facts : List Fact) (x : Fact) (xs : List Fact) → nat_lt (length facts + 1) (length (facts ++ x ∷ xs) + 1) ≡ false → ⊥
 grows facts x xs h = grind (arith, nat_tests, length-append facts (x ∷ xs))
 
 -- where what is accepted does not grow, it stays
-stays_or_grows : (number : Option ℕ) (before after : Kept) → Outcome number before after → nat_lt (size before) (size after) ≡ false → after ≡ before
-stays_or_grows number before after stays h = refl
-stays_or_grows number before after (declares schema) h = absurd (cc)
-stays_or_grows number before after (commits warehouse batch) h =
-    ap (λ (l : List Fact). Some (record { schema = warehouse.schema; facts = l; last = warehouse.last })) (same_facts warehouse.facts batch h)
-stays_or_grows number before after (counts warehouse x xs turn) h = absurd (grows warehouse.facts x xs h)
+stays_or_grows : (batch : Option Batch) (before after : Kept) → Outcome batch before after → nat_lt (size before) (size after) ≡ false → after ≡ before
+stays_or_grows batch before after stays h = refl
+stays_or_grows batch before after (declares schema) h = absurd (cc)
+stays_or_grows batch before after (commits warehouse x xs) h = absurd (grows warehouse.facts x xs h)
+stays_or_grows batch before after (counts warehouse x xs turn) h = absurd (grows warehouse.facts x xs h)
 
 pub no_stage : (world : World) (command : Command) → makes_stage world command ≡ false → (act world command).0.kept ≡ world.kept
-no_stage world command = stays_or_grows (number_given command) world.kept (act world command).0.kept (outcome world command)
+no_stage world command = stays_or_grows (batch_by world command) world.kept (act world command).0.kept (outcome world command)
 
 -- ---- what each command does
 
@@ -242,7 +236,7 @@ pub act_load : (world : World) (block : Block) → act world (says.Load block) �
 unfolding act
 act_load world block = refl
 
-pub act_load_numbered : (world : World) (number : ℕ) (block : Block) → act world (says.LoadNumbered number block) ≡ load_numbered world number block
+pub act_load_numbered : (world : World) (number : ℕ) (block : Block) → act world (says.LoadNumbered number block) ≡ load world (Numbered number block)
 unfolding act
 act_load_numbered world number block = refl
 

@@ -1,8 +1,8 @@
 -- In every history each numbered batch is accepted once: from one command to the commands that lead to a stage, and to the runs.
-use Rattle.std.proofs.Common.{◌≡◌, ℕ, zero, suc, ◌+◌, ◌-◌, Bool, true, false, cond, List, [], ◌∷◌, ◌++◌, take, Option, Some, None, slice_get, refl, sym, ◌∙◌, ap, subst, append_assoc, append-nil, arith}
+use Rattle.std.proofs.Common.{◌≡◌, ◌≤◌, ℕ, zero, suc, ◌+◌, ◌-◌, nat_lt, Bool, true, false, cond, List, [], ◌∷◌, ◌++◌, take, Option, Some, None, slice_get, refl, sym, ◌∙◌, ap, subst, append_assoc, append-nil, arith}
 use Rattle.std.specs.Option.{option_to_list}
 use Rattle.std.specs.List.{flat_map, range_with_len}
-use Rattle.std.proofs.Math.Seq.{drop-append_seam, drop-length}
+use Rattle.std.proofs.lemmas.Bool.Decides.{nat_tests}
 use Rattle.std.proofs.lemmas.Grind.{flat_map-append}
 use Rattle.site_core.specs.Disk.{Files}
 use Rattle.fact_model.specs.declared.fact.Fact.{Fact}
@@ -10,8 +10,8 @@ use Rattle.script_lang.specs.Script.{commands}
 use Rattle.script_lang.specs.declared.command.Command.{Command}
 use Rattle.plain_machine.specs.World.{Kept, World, bare}
 use Rattle.plain_machine.specs.Machine.{act}
-use Rattle.plain_machine.specs.Stages.{makes_stage, stages_after, stages, AfterStop}
-use Rattle.plain_machine.specs.Histories.{Batch, GoesOnOnce, IsEachOnce, IsHistory, IsRun, Run, accepted_in, batch_by, batch_with, batches_after, batches_to, facts_in, facts_of, facts_since, last_of, number_given, numbers_of, with_run}
+use Rattle.plain_machine.specs.Stages.{makes_stage, size, stages_after, stages, AfterStop}
+use Rattle.plain_machine.specs.Histories.{Batch, GoesOnOnce, IsEachOnce, IsHistory, IsRun, Run, accepted_in, batch_by, batches_after, batches_to, facts_in, facts_of, last_of, numbers_of, with_run}
 use Rattle.plain_machine.proofs.Acts.{no_stage}
 use Rattle.plain_machine.proofs.Outcomes.{Outcome, stays, declares, commits, counts, outcome}
 
@@ -55,46 +55,28 @@ once_joined first mid last before after one two = record {
 
 -- ---- one command
 
--- the batch of what came after these facts
-abbrev batch_since : Option ℕ → Kept → Kept → List Batch
-batch_since number before after = option_to_list (batch_with number (facts_since before after))
-
--- a batch without a number, which may have no fact
-once_unnumbered : (before after : Kept) (batch : List Fact) → facts_of after ≡ facts_of before ++ batch → last_of after ≡ last_of before
-    → IsEachOnce before after (option_to_list (batch_with None batch))
-once_unnumbered before after [] facts last = record {
-  onward = omega (arith, last);
-  numbers = no_number (last_of before + 1) (last_of after - last_of before) (omega (arith, last));
-  facts = facts;
-}
-once_unnumbered before after (x ∷ xs) facts last = record {
-  onward = omega (arith, last);
-  numbers = no_number (last_of before + 1) (last_of after - last_of before) (omega (arith, last));
+-- its batch follows what was accepted, if it commits one
+once_committed : (before after : Kept) (number : Option ℕ) (x : Fact) (xs : List Fact) → facts_of after ≡ facts_of before ++ x ∷ xs
+    → last_of before ≤ last_of after → option_to_list number ≡ range_with_len (last_of before + 1) (last_of after - last_of before)
+    → IsEachOnce before after (record { number = number; facts = x ∷ xs } ∷ [])
+once_committed before after number x xs facts onward numbers = record {
+  onward = onward;
+  numbers = append-nil (option_to_list number) ∙ numbers;
   facts = facts ∙ ap (λ (l : List Fact). facts_of before ++ l) (sym (append-nil (x ∷ xs)));
 }
 
--- the next numbered batch
-once_numbered : (before after : Kept) (number : ℕ) (x : Fact) (xs : List Fact) → facts_of after ≡ facts_of before ++ x ∷ xs
-    → number ≡ last_of before + 1 → last_of after ≡ number → IsEachOnce before after (record { number = Some number; facts = x ∷ xs } ∷ [])
-once_numbered before after number x xs facts turn last = record {
-  onward = omega (arith, turn, last);
-  numbers = ap (λ (n : ℕ). n ∷ []) turn ∙ one_number (last_of before + 1) (last_of after - last_of before) (omega (arith, turn, last));
-  facts = facts ∙ ap (λ (l : List Fact). facts_of before ++ l) (sym (append-nil (x ∷ xs)));
-}
+-- what a command that makes a stage does
+once_by : (batch : Option Batch) (before after : Kept) → Outcome batch before after → nat_lt (size before) (size after) ≡ true → IsEachOnce before after (option_to_list batch)
+once_by batch before after stays grew = absurd (grind (arith, nat_tests, grew))
+once_by batch before after (declares schema) grew = record { onward = omega arith; numbers = refl; facts = refl }
+once_by batch before after (commits warehouse x xs) grew =
+    once_committed before after None x xs refl (omega arith) (no_number (warehouse.last + 1) (warehouse.last - warehouse.last) (omega arith))
+once_by batch before after (counts {number = n} warehouse x xs turn) grew =
+    once_committed before after (Some n) x xs refl (omega (arith, turn))
+    (ap (λ (m : ℕ). m ∷ []) turn ∙ one_number (warehouse.last + 1) (n - warehouse.last) (omega (arith, turn)))
 
-once_by : (number : Option ℕ) (before after : Kept) → Outcome number before after → IsEachOnce before after (batch_since number before after)
-once_by number before after stays =
-    subst (λ (l : List Fact). IsEachOnce before before (option_to_list (batch_with number l))) (sym (drop-length (facts_of before))) (once_none before)
-once_by number before after (declares schema) = once_unnumbered before after [] refl refl
-once_by number before after (commits warehouse batch) =
-    subst (λ (l : List Fact). IsEachOnce before after (option_to_list (batch_with None l))) (sym (drop-append_seam warehouse.facts batch))
-    (once_unnumbered before after batch refl refl)
-once_by number before after (counts {number = n} warehouse x xs turn) =
-    subst (λ (l : List Fact). IsEachOnce before after (option_to_list (batch_with (Some n) l))) (sym (drop-append_seam warehouse.facts (x ∷ xs)))
-    (once_numbered before after n x xs refl turn refl)
-
-once_command : (world : World) (command : Command) → IsEachOnce world.kept (act world command).0.kept (option_to_list (batch_by world command))
-once_command world command = once_by (number_given command) world.kept (act world command).0.kept (outcome world command)
+once_command : (world : World) (command : Command) → makes_stage world command ≡ true → IsEachOnce world.kept (act world command).0.kept (option_to_list (batch_by world command))
+once_command world command = once_by (batch_by world command) world.kept (act world command).0.kept (outcome world command)
 
 -- ---- commands up to a stage
 
@@ -116,7 +98,7 @@ module _ (world : World) (command : Command) (cs : List Command) (state : Kept) 
       = ap (λ b. flat_map option_to_list (take (suc stage) (cond b (batch_by world command ∷ []) [] ++ batches_after (act world command).0 cs))) made in
       subst (IsEachOnce world.kept state) (sym batches)
       (once_joined world.kept (act world command).0.kept state (option_to_list (batch_by world command)) (batches_to stage (act world command).0 cs)
-      (once_command world command) (on (sym first ∙ there)))
+      (once_command world command made) (on (sym first ∙ there)))
 
   -- it makes none, and the others lead to the same
   leads_past : (stage : ℕ) → LeadsOnce (act world command).0 cs (suc stage) state → makes_stage world command ≡ false
@@ -156,13 +138,17 @@ history_more (one ∷ runs) first kept run history is = (history.0, history_more
 
 -- what a stop leaves keeps a stage, so the histories go on with it
 pub goes_on_once : (kept : Kept) (script : List ℕ) (before told : List ℕ) (files : Files) → AfterStop (bare kept) (commands script) before told files
-    → GoesOnOnce kept script files
+    → GoesOnOnce kept script before told files
 goes_on_once kept script before told files stop =
     let run : Run = record { script = script; stage = stop.stage; kept = stop.state } in
     record {
       run = run;
       over = refl;
       keeps = stop.kept;
+      front = stop.front;
+      tells = stop.tells;
+      acknowledged = stop.acknowledged;
+      not_ahead = stop.not_ahead;
       goes_on = λ first runs history. history_more runs first kept run history stop.there;
       each_once = λ first runs history. each_once (with_run runs run) first stop.state (history_more runs first kept run history stop.there);
     }

@@ -1,5 +1,5 @@
 -- What a command does to what files keep: nothing, or it declares a schema, commits a batch, or commits the numbered batch whose turn it is.
-use Rattle.std.proofs.Common.{◌≡◌, ℕ, ◌+◌, Bool, true, false, cond, List, ◌∷◌, [], ◌++◌, codes, Option, Some, None, Result, Ok, Err, refl, sym, subst, arith, nat_lt, nat_le}
+use Rattle.std.proofs.Common.{◌≡◌, ℕ, ◌+◌, Bool, true, false, cond, List, ◌∷◌, [], ◌++◌, codes, append-nil, ap, Option, Some, None, Result, Ok, Err, refl, sym, subst, arith, nat_lt, nat_le}
 use Rattle.std.proofs.lemmas.Bool.Decides.{nat_tests}
 use Rattle.cube_schema.specs.declared.schema.Schema.{Schema}
 use Rattle.cube_schema.specs.declared.schema.SchemaRefusal.{SchemaRefusal}
@@ -11,25 +11,26 @@ use Rattle.script_lang.specs.declared.command.Command.{Command}
 use Rattle.script_lang.specs.declared.command.Command.TheVariants as says
 use Rattle.reply_text.specs.Replies.{line, already_text, gap_text}
 use Rattle.plain_machine.specs.declared.batch_source.BatchSource.{BatchSource}
-use Rattle.plain_machine.specs.declared.batch_source.BatchSource.TheVariants.{Rows, Generator}
-use Rattle.plain_machine.specs.World.{Kept, World, Warehouse, idle}
-use Rattle.plain_machine.specs.Machine.{Answer, accepted, accepted_as, act, batch_from, begun, begun_or_refused, block_read, committed, committed_as, declare_over, declared, empty, in_turn, load, numbered_over, pending_over, read_by, refusal_of, replies_with, take_over, unless}
-use Rattle.plain_machine.specs.Histories.{number_given}
+use Rattle.plain_machine.specs.declared.batch_source.BatchSource.TheVariants.{Rows, Numbered, Generator}
+use Rattle.plain_machine.specs.World.{Kept, World, Warehouse}
+use Rattle.plain_machine.specs.Machine.{Answer, Given, accepted, act, batch_from, begun, begun_or_refused, block_read, committed, declare_over, declared, empty, generated_within, in_turn, pending_over, read_by, refusal_of, replies_with, take_over, unless, with_last, with_number}
+use Rattle.plain_machine.specs.Histories.{Batch, batch_by, batch_given, batch_pending, batch_sent, batch_with}
 
--- with the number that the command gives its batch
-pub data Outcome : Option ℕ → Kept → Kept → Type 0 where
-  stays : {number : Option ℕ} {kept : Kept} → Outcome number kept kept
+-- with the batch that the command commits, where it commits one
+pub data Outcome : Option Batch → Kept → Kept → Type 0 where
+  stays : {batch : Option Batch} {kept : Kept} → Outcome batch kept kept
   declares : (schema : Schema) → Outcome None None (Some (empty schema))
-  commits : (warehouse : Warehouse) (batch : List Fact) → Outcome None (Some warehouse) (committed warehouse batch).0.kept
+  commits : (warehouse : Warehouse) (x : Fact) (xs : List Fact)
+      → Outcome (Some (record { number = None; facts = x ∷ xs })) (Some warehouse) (Some (record warehouse { facts = warehouse.facts ++ x ∷ xs; last = warehouse.last }))
   counts : {number : ℕ} (warehouse : Warehouse) (x : Fact) (xs : List Fact) → number ≡ warehouse.last + 1
-      → Outcome (Some number) (Some warehouse) (committed_as number warehouse (x ∷ xs)).0.kept
+      → Outcome (Some (record { number = Some number; facts = x ∷ xs })) (Some warehouse) (Some (record warehouse { facts = warehouse.facts ++ x ∷ xs; last = number }))
 
 -- of an answer to a command, where this was kept
-abbrev Gives : Option ℕ → Kept → Answer → Type 0
-Gives number kept answer = Outcome number kept answer.0.kept
+abbrev Gives : Option Batch → Kept → Answer → Type 0
+Gives batch kept answer = Outcome batch kept answer.0.kept
 
-same_kept : (number : Option ℕ) (world : World) (kept : Kept) → world.kept ≡ kept → Outcome number kept world.kept
-same_kept number world kept is = subst (λ (k : Kept). Outcome number kept k) (sym is) stays
+same_kept : (batch : Option Batch) (world : World) (kept : Kept) → world.kept ≡ kept → Outcome batch kept world.kept
+same_kept batch world kept is = subst (λ (k : Kept). Outcome batch kept k) (sym is) stays
 
 declared_gives : (world : World) → world.kept ≡ None → (read : Result Schema SchemaRefusal) → Gives None None (declared world read)
 declared_gives world is (Err refusal) = same_kept None world None is
@@ -40,78 +41,104 @@ declare_gives world (Some warehouse) is block = same_kept None world (Some wareh
 declare_gives world None is Long = same_kept None world None is
 declare_gives world None is (Whole bytes) = declared_gives world is (schema_of bytes)
 
-module _ (number : Option ℕ) (world : World) where
-  unless_gives : (kept : Kept) → world.kept ≡ kept → (answer : Answer) (refusal : Option (List ℕ)) → Gives number kept answer
-      → Gives number kept (unless world answer refusal)
-  unless_gives kept is answer None gives = gives
-  unless_gives kept is answer (Some text) gives = same_kept number world kept is
+-- no fact is added
+none_added : (warehouse : Warehouse) → Some (record warehouse { facts = warehouse.facts ++ []; last = warehouse.last }) ≡ Some warehouse
+none_added warehouse = ap (λ (l : List Fact). Some (record { schema = warehouse.schema; facts = l; last = warehouse.last })) (append-nil warehouse.facts)
 
-  read_gives : (kept : Kept) → world.kept ≡ kept → (taken : List Fact → Answer) (read : Result (List Fact) (List ℕ))
-      → ((batch : List Fact) → Gives number kept (taken batch)) → Gives number kept (read_by world taken read)
-  read_gives kept is taken (Err text) each = same_kept number world kept is
-  read_gives kept is taken (Ok batch) each = each batch
+-- a batch without a number
+commits_all : (warehouse : Warehouse) (batch : List Fact)
+    → Outcome (batch_with None batch) (Some warehouse) (Some (record warehouse { facts = warehouse.facts ++ batch; last = warehouse.last }))
+commits_all warehouse [] = subst (λ (k : Kept). Outcome None (Some warehouse) k) (sym (none_added warehouse)) stays
+commits_all warehouse (x ∷ xs) = commits warehouse x xs
 
-  take_gives : (taken : Warehouse → List Fact → Answer) (kept : Kept) (pending : Option (List Fact)) → world.kept ≡ kept → (source : BatchSource)
-      → ((warehouse : Warehouse) (batch : List Fact) → world.kept ≡ Some warehouse → Gives number (Some warehouse) (taken warehouse batch))
-      → Gives number kept (take_over world taken kept pending source)
-  take_gives taken None pending is source each = same_kept number world None is
-  take_gives taken (Some warehouse) (Some batch) is source each = same_kept number world (Some warehouse) is
-  take_gives taken (Some warehouse) None is source each =
-      read_gives (Some warehouse) is (taken warehouse) (batch_from warehouse.schema source) (λ batch. each warehouse batch is)
+module _ (world : World) (warehouse : Warehouse) (is : world.kept ≡ Some warehouse) where
+  unless_gives : (batch : Option Batch) (answer : Answer) (refusal : Option (List ℕ)) → Gives batch (Some warehouse) answer
+      → Gives batch (Some warehouse) (unless world answer refusal)
+  unless_gives batch answer None gives = gives
+  unless_gives batch answer (Some text) gives = same_kept batch world (Some warehouse) is
 
-  pending_gives : (answer : Warehouse → List Fact → Answer) (kept : Kept) (pending : Option (List Fact)) → world.kept ≡ kept
-      → ((warehouse : Warehouse) (batch : List Fact) → world.kept ≡ Some warehouse → Gives number (Some warehouse) (answer warehouse batch))
-      → Gives number kept (pending_over world answer kept pending)
-  pending_gives answer None pending is each = same_kept number world None is
-  pending_gives answer (Some warehouse) None is each = same_kept number world (Some warehouse) is
-  pending_gives answer (Some warehouse) (Some batch) is each = each warehouse batch is
+  abbrev accepts : List Fact → ℕ → Answer
+  accepts = accepted world warehouse
 
-load_gives : (world : World) (source : BatchSource) → Gives None world.kept (load world source)
-load_gives world source =
-    take_gives None world (accepted world) world.kept world.pending refl source
-    (λ warehouse batch is. unless_gives None world (Some warehouse) is (committed warehouse batch) (refusal_of warehouse.schema (warehouse.facts ++ batch)) (commits warehouse batch))
+  -- a batch without a number
+  plain_gives : (read : Result (List Fact) (List ℕ)) → Gives (batch_given None (with_last warehouse.last read)) (Some warehouse) (read_by world accepts (with_last warehouse.last read))
+  plain_gives (Err text) = same_kept None world (Some warehouse) is
+  plain_gives (Ok batch) =
+      unless_gives (batch_with None batch) (committed world warehouse batch warehouse.last) (refusal_of warehouse.schema (warehouse.facts ++ batch)) (commits_all warehouse batch)
 
-accepted_as_gives : (world : World) (number : ℕ) (warehouse : Warehouse) (batch : List Fact) → world.kept ≡ Some warehouse → number ≡ warehouse.last + 1
-    → Gives (Some number) (Some warehouse) (accepted_as world number warehouse batch)
-accepted_as_gives world number warehouse [] is turn = same_kept (Some number) world (Some warehouse) is
-accepted_as_gives world number warehouse (x ∷ xs) is turn =
-    unless_gives (Some number) world (Some warehouse) is (committed_as number warehouse (x ∷ xs)) (refusal_of warehouse.schema (warehouse.facts ++ x ∷ xs))
-    (counts warehouse x xs turn)
+  -- a numbered one whose turn it is
+  numbered_gives : (number : ℕ) → number ≡ warehouse.last + 1 → (read : Result (List Fact) (List ℕ))
+      → Gives (batch_given (Some number) (with_number number read)) (Some warehouse) (read_by world accepts (with_number number read))
+  numbered_gives number turn (Err text) = same_kept None world (Some warehouse) is
+  numbered_gives number turn (Ok []) = same_kept None world (Some warehouse) is
+  numbered_gives number turn (Ok (x ∷ xs)) =
+      unless_gives (Some (record { number = Some number; facts = x ∷ xs })) (committed world warehouse (x ∷ xs) number) (refusal_of warehouse.schema (warehouse.facts ++ x ∷ xs))
+      (counts warehouse x xs turn)
 
--- the two tests whether it is the number's turn
-in_turn_gives : (world : World) (number : ℕ) (warehouse : Warehouse) (block : Block) → world.kept ≡ Some warehouse
-    → Gives (Some number) (Some warehouse) (in_turn world number warehouse block)
-in_turn_gives world number warehouse block is = by (nat_le number warehouse.last) refl (nat_lt (warehouse.last + 1) number) refl
+  -- what a number's turn gives, by the two tests
+  abbrev by_turn : ℕ → Result (List Fact) (List ℕ) → Bool → Bool → Given
+  by_turn number read over early = cond over (Err (already_text number)) (cond early (Err (gap_text (warehouse.last + 1))) (with_number number read))
+
+  turn_gives : (number : ℕ) (read : Result (List Fact) (List ℕ))
+      → Gives (batch_given (Some number) (in_turn warehouse.last number (with_number number read))) (Some warehouse)
+      (read_by world accepts (in_turn warehouse.last number (with_number number read)))
+  turn_gives number read = by (nat_le number warehouse.last) refl (nat_lt (warehouse.last + 1) number) refl
+    where
+      by : (over : Bool) → nat_le number warehouse.last ≡ over → (early : Bool) → nat_lt (warehouse.last + 1) number ≡ early
+          → Gives (batch_given (Some number) (by_turn number read over early)) (Some warehouse) (read_by world accepts (by_turn number read over early))
+      by true old early later = same_kept None world (Some warehouse) is
+      by false old true later = same_kept None world (Some warehouse) is
+      by false old false later = numbered_gives number (grind (arith, nat_tests, old, later)) read
+
+  source_gives : (source : BatchSource) → Gives (batch_sent (Some warehouse) source) (Some warehouse) (read_by world accepts (batch_from warehouse.schema warehouse.last source))
+  source_gives (Rows block) = plain_gives (block_read warehouse.schema block)
+  source_gives (Numbered number block) = turn_gives number (block_read warehouse.schema block)
+  source_gives (Generator start rows) = plain_gives (generated_within warehouse.schema start rows)
+
+load_gives : (world : World) (source : BatchSource) (kept : Kept) (pending : Option (List Fact)) → world.kept ≡ kept
+    → Gives (batch_sent kept source) kept (take_over world (accepted world) kept pending source)
+load_gives world source None pending is = same_kept None world None is
+load_gives world source (Some warehouse) (Some batch) is = same_kept (batch_sent (Some warehouse) source) world (Some warehouse) is
+load_gives world source (Some warehouse) None is = source_gives world warehouse is source
+
+begin_read : (world : World) (kept : Kept) → world.kept ≡ kept → (warehouse : Warehouse) (given : Given) → Gives None kept (read_by world (begun_or_refused world warehouse) given)
+begin_read world kept is warehouse (Err text) = same_kept None world kept is
+begin_read world kept is warehouse (Ok given) = by (refusal_of warehouse.schema (warehouse.facts ++ given.0))
   where
-    by : (over : Bool) → nat_le number warehouse.last ≡ over → (early : Bool) → nat_lt (warehouse.last + 1) number ≡ early
-        → Gives (Some number) (Some warehouse) (cond over (world, already_text number)
-        (cond early (world, gap_text (warehouse.last + 1)) (read_by world (accepted_as world number warehouse) (block_read warehouse.schema block))))
-    by true old early later = same_kept (Some number) world (Some warehouse) is
-    by false old true later = same_kept (Some number) world (Some warehouse) is
-    by false old false later =
-        read_gives (Some number) world (Some warehouse) is (accepted_as world number warehouse) (block_read warehouse.schema block)
-        (λ batch. accepted_as_gives world number warehouse batch is (grind (arith, nat_tests, old, later)))
+    by : (refusal : Option (List ℕ)) → Gives None kept (unless world (begun world given.0) refusal)
+    by None = same_kept None world kept is
+    by (Some text) = same_kept None world kept is
 
-numbered_gives : (world : World) (number : ℕ) (kept : Kept) (pending : Option (List Fact)) → world.kept ≡ kept → (block : Block)
-    → Gives (Some number) kept (numbered_over world number kept pending block)
-numbered_gives world number None pending is block = same_kept (Some number) world None is
-numbered_gives world number (Some warehouse) (Some batch) is block = same_kept (Some number) world (Some warehouse) is
-numbered_gives world number (Some warehouse) None is block = in_turn_gives world number warehouse block is
+begin_gives : (world : World) (block : Block) (kept : Kept) (pending : Option (List Fact)) → world.kept ≡ kept
+    → Gives None kept (take_over world (begun_or_refused world) kept pending (Rows block))
+begin_gives world block None pending is = same_kept None world None is
+begin_gives world block (Some warehouse) (Some batch) is = same_kept None world (Some warehouse) is
+begin_gives world block (Some warehouse) None is = begin_read world (Some warehouse) is warehouse (batch_from warehouse.schema warehouse.last (Rows block))
 
-pub outcome : (world : World) (command : Command) → Outcome (number_given command) world.kept (act world command).0.kept
+-- what leaves the facts that were kept
+pending_stays : (world : World) (answer : Warehouse → List Fact → Answer) → ((warehouse : Warehouse) (batch : List Fact) → (answer warehouse batch).0.kept ≡ world.kept)
+    → (kept : Kept) (pending : Option (List Fact)) → Gives None world.kept (pending_over world answer kept pending)
+pending_stays world answer same None pending = stays
+pending_stays world answer same (Some warehouse) None = stays
+pending_stays world answer same (Some warehouse) (Some batch) = subst (λ (k : Kept). Outcome None world.kept k) (sym (same warehouse batch)) stays
+
+finish_gives : (world : World) (kept : Kept) (pending : Option (List Fact)) → world.kept ≡ kept
+    → Gives (batch_pending pending) kept (pending_over world (λ warehouse batch. committed world warehouse batch warehouse.last) kept pending)
+finish_gives world None pending is = same_kept (batch_pending pending) world None is
+finish_gives world (Some warehouse) None is = same_kept None world (Some warehouse) is
+finish_gives world (Some warehouse) (Some batch) is = commits_all warehouse batch
+
+pub outcome : (world : World) (command : Command) → Outcome (batch_by world command) world.kept (act world command).0.kept
 unfolding act
 outcome world (says.Schema block) = declare_gives world world.kept refl block
-outcome world (says.Load block) = load_gives world (Rows block)
-outcome world (says.LoadNumbered number block) = numbered_gives world number world.kept world.pending refl block
-outcome world (says.Generate start rows) = load_gives world (Generator start rows)
-outcome world (says.Begin block) =
-    take_gives None world (begun_or_refused world) world.kept world.pending refl (Rows block)
-    (λ warehouse batch is. unless_gives None world (Some warehouse) is (begun warehouse batch) (refusal_of warehouse.schema (warehouse.facts ++ batch)) stays)
-outcome world (says.Step n) =
-    pending_gives None world (λ warehouse batch. replies_with world (codes "stepped")) world.kept world.pending refl (λ warehouse batch is. same_kept None world (Some warehouse) is)
-outcome world says.Finish = pending_gives None world committed world.kept world.pending refl (λ warehouse batch is. commits warehouse batch)
+outcome world (says.Load block) = load_gives world (Rows block) world.kept world.pending refl
+outcome world (says.LoadNumbered number block) = load_gives world (Numbered number block) world.kept world.pending refl
+outcome world (says.Generate start rows) = load_gives world (Generator start rows) world.kept world.pending refl
+outcome world (says.Begin block) = begin_gives world block world.kept world.pending refl
+outcome world (says.Step n) = pending_stays world (λ warehouse batch. replies_with world (codes "stepped")) (λ warehouse batch. refl) world.kept world.pending
+outcome world says.Finish = finish_gives world world.kept world.pending refl
 outcome world says.Abandon =
-    pending_gives None world (λ warehouse batch. (idle warehouse, line (codes "abandoned"))) world.kept world.pending refl (λ warehouse batch is. stays)
+    pending_stays world (λ warehouse batch. (record world { pending = None }, line (codes "abandoned"))) (λ warehouse batch. refl) world.kept world.pending
 outcome world (says.Slice text) = stays
 outcome world says.Status = stays
 outcome world says.LongLine = stays

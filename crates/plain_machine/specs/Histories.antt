@@ -1,5 +1,5 @@
 -- Histories of runs: the batches that were accepted in them, and that each numbered one was accepted once.
-use Rattle.std.specs.Prelude.{◌≡◌, ℕ, ◌+◌, ◌-◌, ◌≤◌, cond, List, [], ◌∷◌, ◌++◌, length, take, drop, Option, Some, None, option_to_list, slice_get}
+use Rattle.std.specs.Prelude.{◌≡◌, ℕ, ◌+◌, ◌-◌, ◌≤◌, cond, List, [], ◌∷◌, ◌++◌, length, take, Option, Some, None, option_to_list, slice_get, Ok, Err}
 use Rattle.std.specs.List.{flat_map, range_with_len}
 use Rattle.site_core.specs.Disk.{Files}
 use Rattle.fact_model.specs.declared.fact.Fact.{Fact}
@@ -7,8 +7,10 @@ use Rattle.script_lang.specs.Script.{commands}
 use Rattle.script_lang.specs.declared.command.Command.{Command}
 use Rattle.script_lang.specs.declared.command.Command.TheVariants as says
 use Rattle.plain_machine.specs.World.{Kept, World, bare}
-use Rattle.plain_machine.specs.Machine.{act}
-use Rattle.plain_machine.specs.Stages.{makes_stage, stages}
+use Rattle.plain_machine.specs.Machine.{Given, act, batch_from}
+use Rattle.plain_machine.specs.declared.batch_source.BatchSource.{BatchSource}
+use Rattle.plain_machine.specs.declared.batch_source.BatchSource.TheVariants.{Rows, Numbered, Generator}
+use Rattle.plain_machine.specs.Stages.{acked, makes_stage, stages}
 use Rattle.plain_machine.specs.Keeps.{Keeps}
 
 -- the accepted facts: none where no schema is declared
@@ -36,25 +38,49 @@ numbers_of batches = flat_map (λ batch. option_to_list batch.number) batches
 abbrev pub facts_in : List Batch → List Fact
 facts_in batches = flat_map (λ batch. batch.facts) batches
 
--- the number that a command gives its batch
-abbrev pub number_given : Command → Option ℕ
-number_given (says.LoadNumbered number block) = Some number
-number_given _ = None
-
 -- these facts are a batch, unless there are none
 abbrev pub batch_with : Option ℕ → List Fact → Option Batch
 batch_with number [] = None
 batch_with number (x ∷ xs) = Some (record { number = number; facts = x ∷ xs })
 
--- the accepted facts that came after these
-abbrev pub facts_since : Kept → Kept → List Fact
-facts_since before after = drop (length (facts_of before)) (facts_of after)
+-- the batch that was read, if one was
+abbrev pub batch_given : Option ℕ → Given → Option Batch
+batch_given number (Err text) = None
+batch_given number (Ok given) = batch_with number given.0
 
--- the batch that a command commits, if it does
+-- the number that a source gives its batch
+abbrev pub number_of : BatchSource → Option ℕ
+number_of (Rows block) = None
+number_of (Numbered number block) = Some number
+number_of (Generator start rows) = None
+
+-- the batch that a source sends to what is kept
+abbrev pub batch_sent : Kept → BatchSource → Option Batch
+batch_sent None source = None
+batch_sent (Some warehouse) source = batch_given (number_of source) (batch_from warehouse.schema warehouse.last source)
+
+-- the batch that is pending
+abbrev pub batch_pending : Option (List Fact) → Option Batch
+batch_pending None = None
+batch_pending (Some facts) = batch_with None facts
+
+-- the batch that a command commits, where it commits one: that of its source, or the pending one
 abbrev pub batch_by : World → Command → Option Batch
-batch_by world command = batch_with (number_given command) (facts_since world.kept (act world command).0.kept)
+batch_by world (says.Load block) = batch_sent world.kept (Rows block)
+batch_by world (says.LoadNumbered number block) = batch_sent world.kept (Numbered number block)
+batch_by world (says.Generate start rows) = batch_sent world.kept (Generator start rows)
+batch_by world says.Finish = batch_pending world.pending
+batch_by world (says.Schema block) = None
+batch_by world (says.Begin block) = None
+batch_by world (says.Step n) = None
+batch_by world says.Abandon = None
+batch_by world (says.Slice text) = None
+batch_by world says.Status = None
+batch_by world says.LongLine = None
+batch_by world says.OpenBlock = None
+batch_by world says.Unknown = None
 
--- for each command that makes a stage its batch; the one that declares the schema has none
+-- of each command that makes a stage its batch; the one that declares the schema has none
 abbrev pub batches_after : World → List Command → List (Option Batch)
 batches_after world [] = []
 batches_after world (command ∷ rest) =
@@ -98,11 +124,16 @@ pub record IsEachOnce (first last : Kept) (batches : List Batch) : Type 0 where
 abbrev pub with_run : List Run → Run → List Run
 with_run runs run = runs ++ run ∷ []
 
--- Files that a run over this script leaves, from this state: each history that ended in it goes on with the run to what they keep, and
--- in that history each numbered batch is accepted once.
-pub record GoesOnOnce (kept : Kept) (script : List ℕ) (files : Files) : Type 0 where
+-- What a stop in a run over this script leaves, from this state, with these bytes told: each history that ended in it goes on with the run to
+-- what the files keep, and in that history each numbered batch is accepted once. What was acknowledged is in it.
+pub record GoesOnOnce (kept : Kept) (script before told : List ℕ) (files : Files) : Type 0 where
   pub run : Run
   pub over : run.script ≡ script
   pub keeps : Keeps files run.kept
+  -- the bytes told are a front of the replies, and the stage is the one that they acknowledge, or the next one
+  pub front : List ℕ
+  pub tells : told ≡ before ++ front
+  pub acknowledged : acked (bare kept) (commands script) (length front) ≤ run.stage
+  pub not_ahead : run.stage ≤ acked (bare kept) (commands script) (length front) + 1
   pub goes_on : (first : Kept) (runs : List Run) → IsHistory first runs kept → IsHistory first (with_run runs run) run.kept
   pub each_once : (first : Kept) (runs : List Run) → IsHistory first runs kept → IsEachOnce first run.kept (accepted_in first (with_run runs run))

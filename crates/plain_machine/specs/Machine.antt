@@ -1,5 +1,5 @@
 -- The plain machine: the reply to each command, and what is known behind it.
-use Rattle.std.specs.Prelude.{ℕ, suc, ◌+◌, Bool, cond, List, [], ◌∷◌, ◌++◌, codes, length, nat_le, nat_lt, Option, Some, None, Result, Ok, Err}
+use Rattle.std.specs.Prelude.{ℕ, suc, ◌+◌, Bool, cond, List, [], ◌∷◌, ◌++◌, length, nat_le, nat_lt, Option, Some, None, Result, Ok, Err}
 use Rattle.std.specs.List.{list_any}
 use Rattle.cube_schema.specs.declared.schema.Attr.{Attr}
 use Rattle.cube_schema.specs.declared.schema.Schema.{Schema}
@@ -19,13 +19,13 @@ use Rattle.script_lang.specs.declared.command.Block.{Block}
 use Rattle.script_lang.specs.declared.command.Block.TheVariants.{Whole, Long}
 use Rattle.script_lang.specs.declared.command.Command.{Command}
 use Rattle.script_lang.specs.declared.command.Command.TheVariants as says
-use Rattle.reply_text.specs.Replies.{line, already_text, committed_text, facts_text, gap_text, pending_text, schema_text, batch_text, full_text, mass_text, slice_text, answer_text}
+use Rattle.reply_text.specs.Replies.{line, already_text, committed_text, facts_text, gap_text, pending_text, schema_text, batch_text, full_text, mass_text, slice_text, answer_text, unopened, no_schema, is_declared, long_schema, long_block, is_pending, none_pending, too_many_facts, is_empty, not_covered, long_line, open_block, is_unknown, declared_text, begun_text, stepped_text, abandoned_text}
 use Rattle.slice_lang.specs.declared.refusal.SliceRefusal.{SliceRefusal}
 use Rattle.slice_lang.specs.Reading.{slice_of}
 use Rattle.view_route.specs.Routes.{covers}
 use Rattle.plain_machine.specs.declared.batch_source.BatchSource.{BatchSource}
-use Rattle.plain_machine.specs.declared.batch_source.BatchSource.TheVariants.{Rows, Generator}
-use Rattle.plain_machine.specs.World.{Kept, World, Warehouse, idle, begun_with}
+use Rattle.plain_machine.specs.declared.batch_source.BatchSource.TheVariants.{Rows, Numbered, Generator}
+use Rattle.plain_machine.specs.World.{Kept, World, Warehouse}
 
 -- what is known behind a command, and the reply
 abbrev pub Answer : Type 0
@@ -48,11 +48,11 @@ empty schema = record { schema = schema; facts = []; last = 0 }
 -- the schema of a block is declared, or the block is refused
 abbrev pub declared : World → Result Schema SchemaRefusal → Answer
 declared world (Err refusal) = (world, schema_text refusal)
-declared world (Ok schema) = (idle (empty schema), line (codes "declared"))
+declared world (Ok schema) = (record world { kept = Some (empty schema) }, line declared_text)
 
 abbrev pub declare_over : World → Kept → Block → Answer
-declare_over world (Some warehouse) block = replies_with world (codes "refused declared")
-declare_over world None Long = replies_with world (codes "refused schema block")
+declare_over world (Some warehouse) block = replies_with world is_declared
+declare_over world None Long = replies_with world long_schema
 declare_over world None (Whole bytes) = declared world (schema_of bytes)
 
 abbrev pub declare : World → Block → Answer
@@ -83,7 +83,7 @@ full_refusal schema all None = heavy_refusal (first_heavy 0 schema.measures all)
 -- the refusal by the first limit that all facts pass, if they pass one
 abbrev pub refusal_of : Schema → List Fact → Option (List ℕ)
 refusal_of schema all =
-    cond (nat_le (length all) fact_limit) (full_refusal schema all (first_full 0 schema.attrs all)) (Some (line (codes "refused facts")))
+    cond (nat_le (length all) fact_limit) (full_refusal schema all (first_full 0 schema.attrs all)) (Some (line too_many_facts))
 
 -- this answer, or a refusal
 abbrev pub unless : World → Answer → Option (List ℕ) → Answer
@@ -91,24 +91,22 @@ unless world answer None = answer
 unless world answer (Some text) = (world, text)
 
 -- the facts of a batch are accepted, this is the last number, and nothing is pending
-abbrev pub committed_as : ℕ → Warehouse → List Fact → Answer
-committed_as last warehouse batch =
-    (idle (record { schema = warehouse.schema; facts = warehouse.facts ++ batch; last = last }), committed_text (length (warehouse.facts ++ batch)))
-
--- without a number
-abbrev pub committed : Warehouse → List Fact → Answer
-committed warehouse batch = committed_as warehouse.last warehouse batch
+abbrev pub committed : World → Warehouse → List Fact → ℕ → Answer
+committed world warehouse batch last = (
+  record world { kept = Some (record warehouse { facts = warehouse.facts ++ batch; last = last }); pending = None },
+  committed_text (length (warehouse.facts ++ batch)),
+)
 
 -- the batch is pending
-abbrev pub begun : Warehouse → List Fact → Answer
-begun warehouse batch = (begun_with warehouse batch, line (codes "begun"))
+abbrev pub begun : World → List Fact → Answer
+begun world batch = (record world { pending = Some batch }, line begun_text)
 
 -- a batch is accepted, or made pending, where all facts then keep the limits
-abbrev pub accepted : World → Warehouse → List Fact → Answer
-accepted world warehouse batch = unless world (committed warehouse batch) (refusal_of warehouse.schema (warehouse.facts ++ batch))
+abbrev pub accepted : World → Warehouse → List Fact → ℕ → Answer
+accepted world warehouse batch last = unless world (committed world warehouse batch last) (refusal_of warehouse.schema (warehouse.facts ++ batch))
 
-abbrev pub begun_or_refused : World → Warehouse → List Fact → Answer
-begun_or_refused world warehouse batch = unless world (begun warehouse batch) (refusal_of warehouse.schema (warehouse.facts ++ batch))
+abbrev pub begun_or_refused : World → Warehouse → List Fact → ℕ → Answer
+begun_or_refused world warehouse batch last = unless world (begun world batch) (refusal_of warehouse.schema (warehouse.facts ++ batch))
 
 -- the facts of a block, or the refusal
 abbrev pub facts_or_refusal : Result (List Fact) RowRefusal → Result (List Fact) (List ℕ)
@@ -116,76 +114,74 @@ facts_or_refusal (Err refusal) = Err (batch_text refusal)
 facts_or_refusal (Ok batch) = Ok batch
 
 abbrev pub block_read : Schema → Block → Result (List Fact) (List ℕ)
-block_read schema Long = Err (line (codes "refused block"))
+block_read schema Long = Err (line long_block)
 block_read schema (Whole bytes) = facts_or_refusal (batch_of schema bytes)
 
 -- so many facts are made from a start, unless they are too many for a batch
 abbrev pub generated_within : Schema → ℕ → ℕ → Result (List Fact) (List ℕ)
 generated_within schema start rows = cond (nat_le rows 262144) (Ok (generated schema start rows)) (Err (batch_text refusals.Rows))
 
--- the facts of a batch, or the refusal
-abbrev pub batch_from : Schema → BatchSource → Result (List Fact) (List ℕ)
-batch_from schema (Rows block) = block_read schema block
-batch_from schema (Generator start rows) = generated_within schema start rows
+-- what a source gives: the facts of a batch and the last number behind it, or the reply where there is none
+abbrev pub Given : Type 0
+Given = Result (List Fact × ℕ) (List ℕ)
+
+-- a batch without a number leaves the last one
+abbrev pub with_last : ℕ → Result (List Fact) (List ℕ) → Given
+with_last last (Err text) = Err text
+with_last last (Ok batch) = Ok (batch, last)
+
+-- a numbered batch has a fact
+abbrev pub with_number : ℕ → Result (List Fact) (List ℕ) → Given
+with_number number (Err text) = Err text
+with_number number (Ok []) = Err (line is_empty)
+with_number number (Ok (x ∷ xs)) = Ok (x ∷ xs, number)
+
+-- a batch whose number is not above the last one was accepted before; another has to have the next number
+abbrev pub in_turn : ℕ → ℕ → Given → Given
+in_turn last number given =
+    cond (nat_le number last) (Err (already_text number)) (cond (nat_lt (last + 1) number) (Err (gap_text (last + 1))) given)
+
+-- the facts of a batch, by the schema and the last number
+abbrev pub batch_from : Schema → ℕ → BatchSource → Given
+batch_from schema last (Rows block) = with_last last (block_read schema block)
+batch_from schema last (Numbered number block) = in_turn last number (with_number number (block_read schema block))
+batch_from schema last (Generator start rows) = with_last last (generated_within schema start rows)
 
 -- the facts are taken so
-abbrev pub read_by : World → (List Fact → Answer) → Result (List Fact) (List ℕ) → Answer
+abbrev pub read_by : World → (List Fact → ℕ → Answer) → Given → Answer
 read_by world taken (Err text) = (world, text)
-read_by world taken (Ok batch) = taken batch
+read_by world taken (Ok given) = taken given.0 given.1
 
 -- a batch is taken so, where a schema is declared and no batch is pending
-abbrev pub take_over : World → (Warehouse → List Fact → Answer) → Kept → Option (List Fact) → BatchSource → Answer
-take_over world taken None pending source = replies_with world (codes "refused no schema")
-take_over world taken (Some warehouse) (Some batch) source = replies_with world (codes "refused pending")
-take_over world taken (Some warehouse) None source = read_by world (taken warehouse) (batch_from warehouse.schema source)
+abbrev pub take_over : World → (Warehouse → List Fact → ℕ → Answer) → Kept → Option (List Fact) → BatchSource → Answer
+take_over world taken None pending source = replies_with world no_schema
+take_over world taken (Some warehouse) (Some batch) source = replies_with world is_pending
+take_over world taken (Some warehouse) None source = read_by world (taken warehouse) (batch_from warehouse.schema warehouse.last source)
 
--- the batch of a block, or of the generator
+-- the batch of a source is accepted at once
 abbrev pub load : World → BatchSource → Answer
 load world source = take_over world (accepted world) world.kept world.pending source
 
+-- or made pending
 abbrev pub begin : World → Block → Answer
 begin world block = take_over world (begun_or_refused world) world.kept world.pending (Rows block)
-
--- ---- load with a number
-
--- the facts of a batch with this number are accepted, where there are some and all then keep the limits
-abbrev pub accepted_as : World → ℕ → Warehouse → List Fact → Answer
-accepted_as world number warehouse [] = replies_with world (codes "refused empty")
-accepted_as world number warehouse (x ∷ xs) =
-    unless world (committed_as number warehouse (x ∷ xs)) (refusal_of warehouse.schema (warehouse.facts ++ x ∷ xs))
-
--- a batch whose number is not above the last one was accepted before; another has to have the next number
-abbrev pub in_turn : World → ℕ → Warehouse → Block → Answer
-in_turn world number warehouse block =
-    cond (nat_le number warehouse.last) (world, already_text number)
-    (cond (nat_lt (warehouse.last + 1) number) (world, gap_text (warehouse.last + 1))
-    (read_by world (accepted_as world number warehouse) (block_read warehouse.schema block)))
-
--- where a schema is declared and no batch is pending
-abbrev pub numbered_over : World → ℕ → Kept → Option (List Fact) → Block → Answer
-numbered_over world number None pending block = replies_with world (codes "refused no schema")
-numbered_over world number (Some warehouse) (Some batch) block = replies_with world (codes "refused pending")
-numbered_over world number (Some warehouse) None block = in_turn world number warehouse block
-
-abbrev pub load_numbered : World → ℕ → Block → Answer
-load_numbered world number block = numbered_over world number world.kept world.pending block
 
 -- ---- step, finish and abandon
 
 -- the pending batch is answered so, where there is one
 abbrev pub pending_over : World → (Warehouse → List Fact → Answer) → Kept → Option (List Fact) → Answer
-pending_over world answer None pending = replies_with world (codes "refused nothing pending")
-pending_over world answer (Some warehouse) None = replies_with world (codes "refused nothing pending")
+pending_over world answer None pending = replies_with world none_pending
+pending_over world answer (Some warehouse) None = replies_with world none_pending
 pending_over world answer (Some warehouse) (Some batch) = answer warehouse batch
 
 abbrev pub step : World → Answer
-step world = pending_over world (λ warehouse batch. replies_with world (codes "stepped")) world.kept world.pending
+step world = pending_over world (λ warehouse batch. replies_with world stepped_text) world.kept world.pending
 
 abbrev pub finish : World → Answer
-finish world = pending_over world committed world.kept world.pending
+finish world = pending_over world (λ warehouse batch. committed world warehouse batch warehouse.last) world.kept world.pending
 
 abbrev pub abandon : World → Answer
-abandon world = pending_over world (λ warehouse batch. (idle warehouse, line (codes "abandoned"))) world.kept world.pending
+abandon world = pending_over world (λ warehouse batch. (record world { pending = None }, line abandoned_text)) world.kept world.pending
 
 -- ---- slice
 
@@ -195,7 +191,7 @@ is_covered schema s = list_any (λ view. covers view s) schema.views
 
 -- the rows of the facts, or the refusal where no view covers the slice
 abbrev pub rows_reply : Schema → List Fact → Slice → List ℕ
-rows_reply schema facts s = cond (is_covered schema s) (answer_text (rows facts s)) (line (codes "refused notcovered"))
+rows_reply schema facts s = cond (is_covered schema s) (answer_text (rows facts s)) (line not_covered)
 
 -- the reply to a slice that was read, or to a text that is none
 abbrev pub slice_reply : Schema → List Fact → Result Slice SliceRefusal → List ℕ
@@ -204,16 +200,44 @@ slice_reply schema facts (Ok s) = rows_reply schema facts s
 
 -- the rows of the accepted facts, also while a batch is pending
 abbrev pub slice_over : Kept → List ℕ → List ℕ
-slice_over None text = line (codes "refused no schema")
+slice_over None text = line no_schema
 slice_over (Some warehouse) text = slice_reply warehouse.schema warehouse.facts (slice_of warehouse.schema text)
 
 abbrev pub slice : World → List ℕ → Answer
 slice world text = (world, slice_over world.kept text)
 
+-- the slice that was read, where some view covers it
+abbrev pub covered : Schema → Result Slice SliceRefusal → Option Slice
+covered schema (Err refusal) = None
+covered schema (Ok s) = cond (is_covered schema s) (Some s) None
+
+-- the slice that a command has answered from pages by this schema, if it has one answered
+abbrev pub asked_by : Schema → Command → Option Slice
+asked_by schema (says.Slice text) = covered schema (slice_of schema text)
+asked_by schema (says.Schema block) = None
+asked_by schema (says.Load block) = None
+asked_by schema (says.LoadNumbered number block) = None
+asked_by schema (says.Generate start rows) = None
+asked_by schema (says.Begin block) = None
+asked_by schema (says.Step n) = None
+asked_by schema says.Finish = None
+asked_by schema says.Abandon = None
+asked_by schema says.Status = None
+asked_by schema says.LongLine = None
+asked_by schema says.OpenBlock = None
+asked_by schema says.Unknown = None
+
+abbrev pub asked_over : Kept → Command → Option Slice
+asked_over None command = None
+asked_over (Some warehouse) command = asked_by warehouse.schema command
+
+abbrev pub asked_slice : World → Command → Option Slice
+asked_slice world command = asked_over world.kept command
+
 -- ---- status
 
 abbrev pub status_over : Kept → Option (List Fact) → List ℕ
-status_over None pending = line (codes "no schema")
+status_over None pending = line unopened
 status_over (Some warehouse) None = facts_text (length warehouse.facts)
 status_over (Some warehouse) (Some batch) = pending_text (length warehouse.facts) (length batch)
 
@@ -226,7 +250,7 @@ status_text world = status_over world.kept world.pending
 unfoldable pub act : World → Command → Answer
 act world (says.Schema block) = declare world block
 act world (says.Load block) = load world (Rows block)
-act world (says.LoadNumbered number block) = load_numbered world number block
+act world (says.LoadNumbered number block) = load world (Numbered number block)
 act world (says.Generate start rows) = load world (Generator start rows)
 act world (says.Begin block) = begin world block
 act world (says.Step n) = step world
@@ -234,6 +258,6 @@ act world says.Finish = finish world
 act world says.Abandon = abandon world
 act world (says.Slice text) = slice world text
 act world says.Status = (world, status_text world)
-act world says.LongLine = replies_with world (codes "refused long line")
-act world says.OpenBlock = replies_with world (codes "refused open block")
-act world says.Unknown = replies_with world (codes "refused unknown")
+act world says.LongLine = replies_with world long_line
+act world says.OpenBlock = replies_with world open_block
+act world says.Unknown = replies_with world is_unknown

@@ -1,5 +1,5 @@
 -- What the plain machine knows: a schema with the facts that it has accepted, and a batch that is pending.
-use Rattle.std.specs.Prelude.{ℕ, List, Option, Some, None}
+use Rattle.std.specs.Prelude.{◌≡◌, ℕ, List, Option, None}
 use Rattle.cube_schema.specs.declared.schema.Schema.{Schema}
 use Rattle.fact_model.specs.declared.fact.Fact.{Fact}
 
@@ -19,13 +19,11 @@ pub record World : Type 0 where
   -- the facts of a batch that has begun, and is neither committed nor dropped
   pub pending : Option (List Fact)
 
+-- these are kept and pending, whatever else it has
+pub record Knows (warehouse : Kept) (batch : Option (List Fact)) (world : World) : Type 0 where
+  pub kept : world.kept ≡ warehouse
+  pub pending : world.pending ≡ batch
+
 -- no batch is pending
 abbrev pub bare : Kept → World
 bare kept = record { kept = kept; pending = None }
-
-abbrev pub idle : Warehouse → World
-idle warehouse = bare (Some warehouse)
-
--- this batch is pending
-abbrev pub begun_with : Warehouse → List Fact → World
-begun_with warehouse batch = record { kept = Some warehouse; pending = Some batch }

@@ -7,6 +7,18 @@ use script_lang::Block;
 pub enum BatchSource {
     /// The rows of a block.
     Rows(Block),
+    /// The rows of a block, as a numbered batch, which counts once however often it is sent.
+    Numbered {
+        /// Which of the numbered batches it is. They count from 1.
+        number: u64,
+        /// Its rows.
+        block: Block,
+    },
     /// The generator, which makes so many facts from a start.
-    Generator { start: u64, rows: u64 },
+    Generator {
+        /// The state that the generator begins with.
+        start: u64,
+        /// How many facts it makes.
+        rows: u64,
+    },
 }

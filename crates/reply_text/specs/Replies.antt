@@ -17,6 +17,78 @@ line text = text ++ 10 ∷ []
 abbrev pub numbered : List ℕ → ℕ → List ℕ
 numbered text n = text ++ line (decimal n)
 
+-- ---- what one fixed line says, without its line feed
+
+-- no schema is declared, as `status` tells
+abbrev pub unopened : List ℕ
+unopened = codes "no schema"
+
+-- no schema is declared
+abbrev pub no_schema : List ℕ
+no_schema = codes "refused no schema"
+
+-- one is declared
+abbrev pub is_declared : List ℕ
+is_declared = codes "refused declared"
+
+-- the block of a schema is too long
+abbrev pub long_schema : List ℕ
+long_schema = codes "refused schema block"
+
+-- the block of a batch is too long
+abbrev pub long_block : List ℕ
+long_block = codes "refused block"
+
+-- a batch is pending
+abbrev pub is_pending : List ℕ
+is_pending = codes "refused pending"
+
+-- none is pending
+abbrev pub none_pending : List ℕ
+none_pending = codes "refused nothing pending"
+
+-- there would be too many facts
+abbrev pub too_many_facts : List ℕ
+too_many_facts = codes "refused facts"
+
+-- a numbered batch has no fact
+abbrev pub is_empty : List ℕ
+is_empty = codes "refused empty"
+
+-- no view covers the slice
+abbrev pub not_covered : List ℕ
+not_covered = codes "refused notcovered"
+
+-- the line of a command is too long
+abbrev pub long_line : List ℕ
+long_line = codes "refused long line"
+
+-- the script ends in a block
+abbrev pub open_block : List ℕ
+open_block = codes "refused open block"
+
+-- the line is no command
+abbrev pub is_unknown : List ℕ
+is_unknown = codes "refused unknown"
+
+-- a schema was declared
+abbrev pub declared_text : List ℕ
+declared_text = codes "declared"
+
+-- a batch has begun
+abbrev pub begun_text : List ℕ
+begun_text = codes "begun"
+
+-- moves were made
+abbrev pub stepped_text : List ℕ
+stepped_text = codes "stepped"
+
+-- a batch was dropped
+abbrev pub abandoned_text : List ℕ
+abandoned_text = codes "abandoned"
+
+-- ---- what names a number, a name or rows
+
 -- the batch is accepted, and there are so many facts now
 abbrev pub committed_text : ℕ → List ℕ
 committed_text count = numbered (codes "committed ") count

@@ -45,6 +45,7 @@ pub trait Host {
         ensures none { IfErr result (λ error. error_kind error ≡ ErrorKind.NotFound → disk_faults self.new ≡ disk_faults self.old) }
         ensures ok { OnOk result (disk_faults self.new ≡ disk_faults self.old) }
         ensures later { disk_faults self.old ≤ disk_faults self.new }
+        ensures once { disk_faults self.new ≤ disk_faults self.old + 1 }
         ensures told_faults { told_faults self.new ≡ told_faults self.old }
         ensures disk { IsTrue tells → Rests (disk self.old) (disk self.new) };
 
@@ -96,6 +97,7 @@ pub trait Host {
         requires { 2 ^ 64 ≤ at + count }
         ensures cause { Rose (disk_faults self.old) (disk_faults self.new) }
         ensures later { disk_faults self.old ≤ disk_faults self.new }
+        ensures once { disk_faults self.new ≤ disk_faults self.old + 1 }
         ensures told_faults { told_faults self.new ≡ told_faults self.old }
         ensures keeps { Keeps (ledger self.old) (ledger self.new) }
         ensures disk { IsTrue tells → Rests (disk self.old) (disk self.new) };

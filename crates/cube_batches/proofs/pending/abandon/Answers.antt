@@ -1,11 +1,17 @@
-use Rattle.std.proofs.Common.{subst}
-use Rattle.cube_state.specs.declared.state.State.{State}
-use Rattle.cube_state.specs.Session.{Stands}
-use Rattle.cube_batches.proofs.Takings.{abandoned}
+use Rattle.script_lang.specs.declared.command.Command.TheVariants as says
+use Rattle.cube_state.proofs.Carried.{runs_out_as}
+use Rattle.cube_batches.proofs.Answers.{memory_as}
+use Rattle.cube_batches.proofs.Ends.{abandons}
 use Rattle.cube_batches.proofs.pending.abandon.Goals as goal
 
-pub returns-in-Pending-clause-stands : goal.returns-in-Pending-clause-stands
-returns-in-Pending-clause-stands g c = λ t world stands.
-    let disk = g.T.Site.disk c.args._site.now in
-    abandoned c.in-Pending.refresh c.abandon.result disk world c.plain-in-Pending.result c.abandon.ensures.forest
-    (λ accepted batch files. c.abandon.ensures.store accepted batch files) (subst (λ (s : State). Stands s disk world) c.in-Pending.is stands) c.plain-in-Pending.ensures.state
+pub returns-in_err-reply : goal.returns-in_err-reply
+returns-in_err-reply g c = record {
+  carried = λ cache ready. runs_out_as g.T.Site says.Abandon c.args.state.now c.args.site.now cache (λ t told files. g.met.T.Site.only_now c.args.site.now told files t) ready c.args.state.now
+      c.from_residual.result (memory_as c.from_residual.result c.in_err-reply.field-0.0 c.in_err-reply.ensures c.from_residual.ensures.1);
+}
+
+pub returns : goal.returns
+returns g c = record {
+  carried = abandons g.T.Site c.args.site.now (λ t told files. g.met.T.Site.only_now c.args.site.now told files t) c.args.state.now c.drop_batch.new.state c.drop_batch.ensures c.in_ok-reply.reply
+      c.in_ok-reply.ensures;
+}

@@ -1,42 +1,34 @@
-use Rattle.std.proofs.Common.{subst}
-use Rattle.plain_machine.specs.Machine.{begin, begun}
+use Rattle.script_lang.specs.declared.command.Command.TheVariants as says
 use Rattle.plain_machine.specs.declared.batch_source.BatchSource.TheVariants.{Rows}
-use Rattle.cube_batches.specs.Taking.{IsTaken}
-use Rattle.cube_state.specs.Cached.{live_of}
-use Rattle.cube_batches.proofs.Costs.{begin_asks}
-use Rattle.cube_state.proofs.Cached.{holds}
-use Rattle.cube_batches.proofs.Kept.{taken_stays}
+use Rattle.cube_batches.specs.declared.taking.Taken.TheVariants.{Refused, Empty, Begun}
+use Rattle.cube_batches.proofs.Begun.{begins_none, begins_on}
+use Rattle.cube_batches.proofs.Sent.{fails_as, refuses, taken_as}
+use Rattle.cube_batches.proofs.Sources.{begin_sends}
 use Rattle.cube_batches.proofs.pending.begin.Goals as goal
 
-pub returns-in-Refused-clause-answer : goal.returns-in-Refused-clause-answer
-returns-in-Refused-clause-answer g c = λ t world stands.
-    let taken = subst (IsTaken (g.T.Site.disk c.take_in.new.site) world (Rows c.args.block)) c.in-Refused.is (c.in_ok-done.ensures.taken t world stands) in taken begun
+pub returns-in_err-refusal : goal.returns-in_err-refusal
+returns-in_err-refusal g c = record {
+  carried = λ cache ready. fails_as g.T.Site (says.Begin c.args.block) (Rows c.args.block) (begin_sends c.args.block) c.args.state.now c.take_in.new.state c.args.site.now c.take_in.new.site cache
+      c.take_in.new.state c.in_err-refusal.field-0.0 c.from_residual.result c.from_residual.ensures.1 c.in_err-refusal.ensures.takes;
+}
 
-pub returns-in-Refused-clause-any_moment : goal.returns-in-Refused-clause-any_moment
-returns-in-Refused-clause-any_moment g c = λ t world stands. c.take_in.ensures.any_moment t world (begin world c.args.block).0 stands
+pub returns-in-Refused : goal.returns-in-Refused
+returns-in-Refused g c = record {
+  carried = λ cache ready. refuses g.T.Site (says.Begin c.args.block) (Rows c.args.block) (begin_sends c.args.block) c.args.state.now c.take_in.new.state c.args.site.now c.take_in.new.site cache
+      c.in-Refused.refusal ready
+      (taken_as g.T.Site (Rows c.args.block) c.args.state.now c.take_in.new.state c.args.site.now c.take_in.new.site c.in_ok-refusal.field-0 (Refused c.in-Refused.refusal) c.in-Refused.is c.in_ok-refusal.ensures.takes);
+}
 
-pub returns-in-Begun-clause-any_moment : goal.returns-in-Begun-clause-any_moment
-returns-in-Begun-clause-any_moment g c = λ t world stands. c.take_in.ensures.any_moment t world (begin world c.args.block).0 stands
+pub returns-in-Empty : goal.returns-in-Empty
+returns-in-Empty g c = record {
+  carried = begins_none g.T.Site c.args.block c.args.state.now c.take_in.new.state c.hollow.new.state c.args.site.now c.take_in.new.site
+      (taken_as g.T.Site (Rows c.args.block) c.args.state.now c.take_in.new.state c.args.site.now c.take_in.new.site c.in_ok-refusal.field-0 Empty c.in-Empty.is c.in_ok-refusal.ensures.takes)
+      c.hollow.ensures c.reply.result c.reply.ensures;
+}
 
-pub returns-in_err-done-clause-any_moment : goal.returns-in_err-done-clause-any_moment
-returns-in_err-done-clause-any_moment g c = λ t world stands. c.take_in.ensures.any_moment t world (begin world c.args.block).0 stands
-
--- ---- what is spent
-
-pub returns-in_err-done-clause-cost : goal.returns-in_err-done-clause-cost
-returns-in_err-done-clause-cost g c = λ t world stands. begin_asks g.T.Site c.args.site.now c.take_in.new.site world c.args.block (c.take_in.ensures.asks t world stands)
-
-pub returns-in-Refused-clause-cost : goal.returns-in-Refused-clause-cost
-returns-in-Refused-clause-cost g c = λ t world stands. begin_asks g.T.Site c.args.site.now c.take_in.new.site world c.args.block (c.take_in.ensures.asks t world stands)
-
-pub returns-in-Begun-clause-cost : goal.returns-in-Begun-clause-cost
-returns-in-Begun-clause-cost g c = λ t world stands. begin_asks g.T.Site c.args.site.now c.take_in.new.site world c.args.block (c.take_in.ensures.asks t world stands)
-
--- ---- the live side
-
-pub returns-in-Refused-clause-side : goal.returns-in-Refused-clause-side
-returns-in-Refused-clause-side g c = λ t. taken_stays g.T.Site c.args.site.now c.take_in.new.site t (live_of c.args.state) _ c.in_ok-done.ensures.touches
-
-pub returns-in-Begun-clause-side : goal.returns-in-Begun-clause-side
-returns-in-Begun-clause-side g c = λ t.
-    holds c.plain.result (taken_stays g.T.Site c.args.site.now c.take_in.new.site t (live_of c.args.state) _ c.in_ok-done.ensures.touches)
+pub returns-in-Begun : goal.returns-in-Begun
+returns-in-Begun g c = record {
+  carried = begins_on g.T.Site c.args.block c.args.state.now c.take_in.new.state c.set.new.self c.args.site.now c.take_in.new.site c.in-Begun.refresh
+      (taken_as g.T.Site (Rows c.args.block) c.args.state.now c.take_in.new.state c.args.site.now c.take_in.new.site c.in_ok-refusal.field-0 (Begun c.in-Begun.refresh) c.in-Begun.is c.in_ok-refusal.ensures.takes)
+      c.set.ensures c.reply-in-Begun.result c.reply-in-Begun.ensures;
+}

@@ -1,26 +1,37 @@
-use Rattle.std.proofs.Common.{subst, sym}
-use Rattle.plain_machine.specs.World.{World}
-use Rattle.cube_batches.specs.Taking.{AsksFor}
-use Rattle.cube_state.specs.declared.state.State.{State}
-use Rattle.cube_state.specs.Session.{Stands}
-use Rattle.cube_state.proofs.Answering.{quiet}
-use Rattle.cube_batches.proofs.Takings.{moments_as}
+use Rattle.cube_batches.proofs.Answers.{memory_as}
+use Rattle.cube_batches.proofs.Takings.{busy_refuses, empty_refuses, read_sends, source_refuses_as, wants_as}
 use Rattle.cube_batches.proofs.taking.take_in.Goals as goal
 
-pub returns-in-Idle-clause-any_moment : goal.returns-in-Idle-clause-any_moment
-returns-in-Idle-clause-any_moment g c = λ t world next stands.
-    let is = subst (λ (s : State). Stands s (g.T.Site.disk c.args.site.now) world) c.in-Idle.is stands in
-    moments_as _ _ world is.0 next is.1 (c.take_source.ensures.any_moment t is.0 next is.2)
+pub returns-in_err-reply : goal.returns-in_err-reply
+returns-in_err-reply g c = record {
+  takes = wants_as g.T.Site c.args.source c.args.state.now c.args.site.now c.requires.runs (λ t told files. g.met.T.Site.only_now c.args.site.now told files t) c.from_residual.result
+      (memory_as c.from_residual.result c.in_err-reply.field-0.0 c.in_err-reply.ensures.memory c.from_residual.ensures.1);
+}
 
-pub returns-in_err-done-clause-any_moment : goal.returns-in_err-done-clause-any_moment
-returns-in_err-done-clause-any_moment g c = λ t world next stands.
-    quiet c.args.state (g.T.Site.disk c.args.site.now) world next stands (λ told files. g.met.T.Site.only_now c.args.site.now told files t)
+pub take_batch-requires-clause-sent : goal.take_batch-requires-clause-sent
+take_batch-requires-clause-sent g c =
+    (read_sends c.args.state.now c.in-Idle.store c.args.source c.in_ok-reply.field-0 c.in-Batch.batch c.in-Batch.number c.in-Idle.is c.in_ok-reply.ensures.read c.in-Batch.is).0
 
-pub returns-clause-any_moment : goal.returns-clause-any_moment
-returns-clause-any_moment g c = λ t world next stands.
-    quiet c.args.state (g.T.Site.disk c.args.site.now) world next stands (λ told files. g.met.T.Site.only_now c.args.site.now told files t)
+pub returns-in-Refused : goal.returns-in-Refused
+returns-in-Refused g c = record {
+  takes = source_refuses_as g.T.Site c.args.source c.args.state.now c.in-Idle.store c.args.site.now c.in-Idle.is c.requires.runs (λ t told files. g.met.T.Site.only_now c.args.site.now told files t)
+      c.in_ok-reply.field-0 c.in-Refused.reply c.in_ok-reply.ensures.read c.in-Refused.is;
+}
 
-pub returns-in-Idle-clause-asks : goal.returns-in-Idle-clause-asks
-returns-in-Idle-clause-asks g c = λ t world stands.
-    let is = subst (λ (s : State). Stands s (g.T.Site.disk c.args.site.now) world) c.in-Idle.is stands in
-    subst (λ (w : World). AsksFor g.T.Site c.args.site.now c.take_source.new.site w c.args.source) (sym is.1) (c.take_source.ensures.asks t is.0 is.2)
+pub returns-in-Batch : goal.returns-in-Batch
+returns-in-Batch g c = record {
+  takes = c.take_batch.ensures.takes c.args.source
+      (read_sends c.args.state.now c.in-Idle.store c.args.source c.in_ok-reply.field-0 c.in-Batch.batch c.in-Batch.number c.in-Idle.is c.in_ok-reply.ensures.read c.in-Batch.is).1;
+}
+
+pub returns-in-Empty : goal.returns-in-Empty
+returns-in-Empty g c = record {
+  takes = empty_refuses g.T.Site c.args.source c.args.site.now (λ t told files. g.met.T.Site.only_now c.args.site.now told files t) c.args.state.now c.in-Empty.is c.requires.runs c.refused.result
+      c.refused.ensures;
+}
+
+pub returns-in-Hollow : goal.returns-in-Hollow
+returns-in-Hollow g c = record {
+  takes = busy_refuses g.T.Site c.args.source c.args.site.now (λ t told files. g.met.T.Site.only_now c.args.site.now told files t) c.args.state.now c.in-Hollow.is c.requires.runs c.refused-in-Hollow.result
+      c.refused-in-Hollow.ensures;
+}

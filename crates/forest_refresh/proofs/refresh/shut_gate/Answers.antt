@@ -1,7 +1,7 @@
 use Rattle.std.proofs.Common.{◌≢◌, ◌<◌, ℕ, ap, arith, length, subst, sym}
 use Rattle.forest_root.proofs.Kept.{shut_keeps}
 use Rattle.forest_store.specs.Held.{held}
-use Rattle.forest_root.specs.Root.{IsShut}
+use Rattle.forest_root.specs.Root.{ClosesGate, IsShut}
 use Rattle.forest_store.proofs.Standing.{all_stable, live_now}
 use Rattle.forest_refresh.proofs.Committed.{live_facts, other_slot}
 use Rattle.forest_refresh.proofs.refresh.shut_gate.Goals as goal
@@ -35,8 +35,9 @@ returns-in-Err-clause-any_moment g c = λ t accepted now.
 pub begin-requires-clause-root : goal.begin-requires-clause-root
 begin-requires-clause-root g c = λ t. (c.requires.opened t).stable
 
-pub returns-in-Ok-clause-others : goal.returns-in-Ok-clause-others
-returns-in-Ok-clause-others g c = λ t. (c.in-Ok.ensures.disk t).files.range.others
+pub returns-in-Ok-clause-closes : goal.returns-in-Ok-clause-closes
+returns-in-Ok-clause-closes g c = λ t.
+    subst (λ (k : ℕ). ClosesGate k (g.T.Site.disk c.args.site.now).files (g.T.Site.disk c.begin.new.site).files) c.slot.ensures (c.in-Ok.ensures.disk t).files
 
 pub returns-in-Ok-clause-ready : goal.returns-in-Ok-clause-ready
 returns-in-Ok-clause-ready g c = λ t.

@@ -1,0 +1,10 @@
+pub mod Carrying
+pub mod Costs
+pub mod Gives
+pub mod Going
+pub mod Histories
+pub mod Pieces
+pub mod Replied
+pub mod Running
+pub mod Serving
+pub mod Statuses

@@ -1,0 +1,11 @@
+pub mod Carrying
+pub mod Costs
+pub mod Damage
+pub mod Ends
+pub mod Headline
+pub mod Histories
+pub mod Onward
+pub mod Pulls
+pub mod Replied
+pub mod Runs
+pub mod Serving

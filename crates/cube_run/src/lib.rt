@@ -1,0 +1,10 @@
+//! A run below the top call: the files are opened, and the script is pulled and carried out, one reply for each command.
+#![tactic(auto)]
+
+mod exit;
+mod pull;
+mod script_run;
+mod serve;
+
+pub use exit::Status;
+pub use script_run::attempt;

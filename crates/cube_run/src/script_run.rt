@@ -1,0 +1,34 @@
+//! A run, up to what ended it.
+ghost use Rattle.std.specs.Prelude.{◌≤◌, ◌^◌, map, string_bytes};
+ghost use Rattle.cube_run.specs.Ends.{ended};
+ghost use Rattle.cube_run.specs.Runs.{RunsScript};
+
+use crate::exit::Status;
+use crate::serve::serve;
+use cube_session::Session;
+use cube_words::cache_of;
+use site_core::{Site, Source};
+use std::alloc::Global;
+
+/// Runs a script within a limit of bytes, or tells what ended the run: the words are read, the files opened, and the script served.
+pub fn attempt<S: Source, T: Site>(
+    alloc: Global,
+    words: &[String],
+    source: &mut S,
+    site: &mut T,
+    limit: u64,
+) -> Result<(), Status>
+    requires { limit ≤ 2 ^ 30 }
+    ensures runs { RunsScript S.Source T.Site (map string_bytes words.now) limit source.old source.new site.old site.new (ended result) }
+{
+    let cache = cache_of(alloc, words)?;
+    let mut session = Session::start(alloc, site, cache)?;
+    let served = serve(alloc, &mut session, source, site, limit);
+    close(session);
+    served
+}
+
+/// Lets a session go.
+fn close(session: Session) {
+    drop(session)
+}

@@ -1,0 +1,73 @@
+-- What the commands of a batch cost, and the schema.
+use Rattle.std.specs.Prelude.{◌+◌, ◌-◌, ℕ, cond, List, [], ◌∷◌, length, Option, Some, None}
+use Rattle.fact_model.specs.declared.fact.Fact.{Fact}
+use Rattle.packing.specs.Moves.{Move, reads_in, written}
+use Rattle.forest_store.specs.Sides.{page_count}
+use Rattle.script_lang.specs.declared.command.Block.{Block}
+use Rattle.script_lang.specs.declared.command.Command.{Command}
+use Rattle.script_lang.specs.declared.command.Command.TheVariants as says
+use Rattle.plain_machine.specs.Histories.{Batch, batch_by}
+use Rattle.plain_machine.specs.Machine.{begin}
+use Rattle.plain_machine.specs.Stages.{makes_stage}
+use Rattle.plain_machine.specs.World.{Kept, World}
+use Rattle.cube_state.specs.Costs.{Cost, both, free}
+use Rattle.cube_state.specs.Moves.{moves_over, pending_moves}
+
+-- where a schema is declared the gates are read; two of them, the names, the bodies and a gate are written
+abbrev pub schema_cost : World → Command → Cost
+schema_cost world command = cond (makes_stage world command) (record { reads = 1; writes = 5 }) free
+
+-- ---- begin
+
+-- 1 where no batch was pending and one that is not empty is pending then, and 0 otherwise
+abbrev pub begins_over : Option (List Fact) → Option (List Fact) → ℕ
+begins_over (Some batch) next = 0
+begins_over None None = 0
+begins_over None (Some []) = 0
+begins_over None (Some (x ∷ xs)) = 1
+
+-- whether a batch that is not empty begins
+abbrev pub begins : World → Block → ℕ
+begins world block = begins_over world.pending (begin world block).0.pending
+
+-- where a batch begins the gate of the next generation is read and written
+abbrev pub begin_cost : World → Block → Cost
+begin_cost world block = record { reads = begins world block; writes = begins world block }
+
+-- ---- step and finish
+
+-- the reads and writes among the moves from one number of them to another
+abbrev pub moves_cost : List Move → ℕ → ℕ → Cost
+moves_cost moves m n = record { reads = reads_in n moves - reads_in m moves; writes = written n moves - written m moves }
+
+-- so many moves more
+abbrev pub step_cost : World → ℕ → ℕ → Cost
+step_cost world made n = moves_cost (pending_moves world) made (made + n)
+
+-- the moves that are left, and a write of the names, of the body and of its gate
+abbrev pub commit_cost : List Move → ℕ → Cost
+commit_cost moves made = both (moves_cost moves made (length moves)) (record { reads = 0; writes = 3 })
+
+-- where the pending batch is accepted, behind so many of its moves
+abbrev pub finish_cost : World → ℕ → Cost
+finish_cost world made = cond (makes_stage world says.Finish) (commit_cost (pending_moves world) made) free
+
+-- ---- load
+
+-- how many pages the trees have
+abbrev pub pages_over : Kept → ℕ
+pages_over None = 0
+pages_over (Some warehouse) = page_count warehouse.schema warehouse.facts
+
+-- the moves of a batch over what is kept
+abbrev pub moves_of : Kept → Option Batch → List Move
+moves_of kept None = []
+moves_of kept (Some batch) = moves_over kept (Some batch.facts)
+
+-- where a batch is accepted at once: the gate is read, and each old page; a page is written for each write among the moves, and the gate twice, the names and the body
+abbrev pub load_cost_of : Kept → List Move → Cost
+load_cost_of kept moves = record { reads = 1 + pages_over kept; writes = 4 + written (length moves) moves }
+
+-- of the command that sends it
+abbrev pub load_cost : World → Command → Cost
+load_cost world command = cond (makes_stage world command) (load_cost_of world.kept (moves_of world.kept (batch_by world command))) free

@@ -1,0 +1,203 @@
+-- That a function carries out a command of the plain machine, said once.
+use Rattle.std.specs.Prelude.{◌≡◌, ℕ, IsTrue, false, List, Option, Some, None, Result, IfOk, IfErr, OnOk}
+use Rattle.std.specs.declared.alloc.Global.{Global}
+use Rattle.std.specs.declared.vec.Vec.{Vec}
+use Rattle.site_core.specs.Calls.{Rests}
+use Rattle.site_core.specs.Disk.{Files}
+use Rattle.site_core.specs.declared.site.Site.{Ghosts}
+use Rattle.forest_root.specs.declared.body.Body.{Body}
+use Rattle.page_cache.specs.Giving.{Cache}
+use Rattle.script_lang.specs.declared.command.Command.{Command}
+use Rattle.script_lang.specs.declared.command.Command.TheVariants as says
+use Rattle.plain_machine.specs.Machine.{act}
+use Rattle.plain_machine.specs.World.{World}
+use Rattle.cube_state.specs.declared.state.State.{State}
+use Rattle.cube_state.specs.declared.stop.Stop.{Stop}
+use Rattle.cube_state.specs.declared.stop.Stop.TheVariants as stops
+use Rattle.cube_state.specs.BatchDamage.{IsSpared}
+use Rattle.cube_state.specs.Cached.{Fits, KeepsUp, Saves, SideStays, kept_over, live_file, live_of}
+use Rattle.cube_state.specs.Commands.{Costs, Gives, MakesNoCall, TellsDamage}
+use Rattle.cube_state.specs.Costs.{Cost, Spends}
+use Rattle.cube_state.specs.Frames.{IsQuiet, RunsOn}
+use Rattle.cube_state.specs.Moves.{made_behind, moves_made}
+use Rattle.cube_state.specs.Session.{Between, IsAnswer, Stands}
+use Rattle.cube_state.specs.Stops.{IsNoDamage}
+use Rattle.cube_state.specs.Visits.{GoesTo, asks_pages}
+
+-- a session may carry out a command: it has this on a site, whatever the files hold, and the kept pages fit
+pub record IsReadyFor {S : Type 0} (T : Ghosts S) (site : S) (cache : Cache) (state : State) : Type 0 where
+  pub runs : RunsOn T site state
+  pub fits : IsTrue T.tells → Fits state (T.disk site).files cache
+
+-- ---- a reply, or a stop
+
+abbrev pub Reply : Type 0
+Reply = Result (Vec ℕ Global) Stop
+
+-- the world that it stood for before the command
+pub record ByWorld {S : Type 0} (T : Ghosts S) (command : Command) (world : World) (state next : State) (old new : S) (before after : Cache) (result : Reply) : Type 0 where
+  -- it stands for what is known then, and the reply is the plain machine's
+  pub answer : IfOk result (λ reply. IsAnswer (T.disk new) (act world command) next reply.items)
+  -- a stop at any moment, and an error, leaves what was known before or is known then; nothing is told
+  pub any_moment : Between (T.disk old) (T.disk new) world (act world command).0
+  pub undamaged : IfErr result IsNoDamage
+  pub moved : OnOk result (moves_made next ≡ made_behind world (moves_made state) command)
+  pub cost : (cost : Cost) → Costs world (moves_made state) command cost → Spends T cost old new
+  pub uncalled : MakesNoCall world command → OnOk result (new ≡ old)
+  -- a slice reads of its pages those alone that are not kept, where there is room, and keeps them
+  pub saves : (numbers : List ℕ) → GoesTo world command numbers → Saves before (live_file (live_of state)) numbers (T.reads old) (T.reads new)
+  pub keeps : (numbers : List ℕ) → GoesTo world command numbers → OnOk result (KeepsUp before after (live_file (live_of state)) numbers)
+
+-- without a schema all files are the same, and with one the names and the live side
+abbrev pub SparesOf : Option Body → Files → Files → Type 0
+SparesOf None old new = new ≡ old
+SparesOf (Some live) old new = IsSpared live old new
+
+-- what damage leaves of the files
+abbrev pub Spares : Option Body → Files → Files → Stop → Type 0
+Spares live old new (stops.Damaged file offset) = SparesOf live old new
+Spares live old new stops.Disk = Unit {0}
+Spares live old new stops.Output = Unit {0}
+Spares live old new stops.Memory = Unit {0}
+
+-- a command that may write to files
+abbrev pub MayWrite : Command → Type 0
+MayWrite (says.Schema block) = Unit {0}
+MayWrite (says.Load block) = Unit {0}
+MayWrite (says.LoadNumbered number block) = Unit {0}
+MayWrite (says.Generate start rows) = Unit {0}
+MayWrite (says.Begin block) = Unit {0}
+MayWrite (says.Step n) = Unit {0}
+MayWrite says.Finish = Unit {0}
+MayWrite says.Abandon = ⊥
+MayWrite (says.Slice text) = ⊥
+MayWrite says.Status = ⊥
+MayWrite says.LongLine = ⊥
+MayWrite says.OpenBlock = ⊥
+MayWrite says.Unknown = ⊥
+
+-- the files hold what they may
+pub record OverAnyFiles {S : Type 0} (T : Ghosts S) (command : Command) (state next : State) (old new : S) (after : Cache) (result : Reply) : Type 0 where
+  -- damage that is told is there, and is no reply; it leaves what counts
+  pub damage : IfErr result (TellsDamage state (T.disk old).files command)
+  pub answered : IfOk result (λ reply. Gives state (T.disk old).files command reply.items)
+  pub spared : IfErr result (Spares (live_of state) (T.disk old).files (T.disk new).files)
+  -- what writes nothing changes nothing
+  pub looks : (MayWrite command → ⊥) → Rests (T.disk old) (T.disk new)
+  pub fits : OnOk result (Fits next (T.disk new).files after)
+
+-- whatever the site tells
+pub record GoesOn {S : Type 0} (T : Ghosts S) (command : Command) (state next : State) (old new : S) (before after : Cache) (result : Reply) : Type 0 where
+  pub runs : OnOk result (RunsOn T new next)
+  -- none is kept over a new generation, and no other command but a slice changes them
+  pub cache : asks_pages state command ≡ false → OnOk result (after ≡ kept_over (live_of state) (live_of next) before)
+  pub capacity : after.capacity ≡ before.capacity
+  pub unwritten : (MayWrite command → ⊥) → T.writes new ≡ T.writes old
+  pub quiet : IsQuiet T old new result
+
+-- ---- what a command leaves alone
+
+-- it makes moves that the pending batch tells
+abbrev pub IsStep : Command → Type 0
+IsStep (says.Schema block) = ⊥
+IsStep (says.Load block) = ⊥
+IsStep (says.LoadNumbered number block) = ⊥
+IsStep (says.Generate start rows) = ⊥
+IsStep (says.Begin block) = ⊥
+IsStep (says.Step n) = Unit {0}
+IsStep says.Finish = ⊥
+IsStep says.Abandon = ⊥
+IsStep (says.Slice text) = ⊥
+IsStep says.Status = ⊥
+IsStep says.LongLine = ⊥
+IsStep says.OpenBlock = ⊥
+IsStep says.Unknown = ⊥
+
+-- how many moves are made behind any other, where so many were before
+abbrev pub made_alone : Command → ℕ → ℕ
+made_alone (says.Schema block) made = made
+made_alone (says.Load block) made = made
+made_alone (says.LoadNumbered number block) made = made
+made_alone (says.Generate start rows) made = made
+made_alone (says.Begin block) made = made
+made_alone (says.Step n) made = made
+made_alone says.Finish made = 0
+made_alone says.Abandon made = 0
+made_alone (says.Slice text) made = made
+made_alone says.Status made = made
+made_alone says.LongLine made = made
+made_alone says.OpenBlock made = made
+made_alone says.Unknown made = made
+
+-- what is live stays so
+abbrev pub LeavesLive : Command → Type 0
+LeavesLive (says.Schema block) = ⊥
+LeavesLive (says.Load block) = ⊥
+LeavesLive (says.LoadNumbered number block) = ⊥
+LeavesLive (says.Generate start rows) = ⊥
+LeavesLive (says.Begin block) = Unit {0}
+LeavesLive (says.Step n) = Unit {0}
+LeavesLive says.Finish = ⊥
+LeavesLive says.Abandon = Unit {0}
+LeavesLive (says.Slice text) = Unit {0}
+LeavesLive says.Status = Unit {0}
+LeavesLive says.LongLine = Unit {0}
+LeavesLive says.OpenBlock = Unit {0}
+LeavesLive says.Unknown = Unit {0}
+
+-- it tells no damage
+abbrev pub TellsNone : Command → Type 0
+TellsNone (says.Schema block) = Unit {0}
+TellsNone (says.Load block) = ⊥
+TellsNone (says.LoadNumbered number block) = ⊥
+TellsNone (says.Generate start rows) = ⊥
+TellsNone (says.Begin block) = Unit {0}
+TellsNone (says.Step n) = ⊥
+TellsNone says.Finish = ⊥
+TellsNone says.Abandon = Unit {0}
+TellsNone (says.Slice text) = ⊥
+TellsNone says.Status = Unit {0}
+TellsNone says.LongLine = Unit {0}
+TellsNone says.OpenBlock = Unit {0}
+TellsNone says.Unknown = Unit {0}
+
+-- its reply is one that the session gives, over whatever files
+abbrev pub RepliesAlone : Command → Type 0
+RepliesAlone (says.Schema block) = ⊥
+RepliesAlone (says.Load block) = ⊥
+RepliesAlone (says.LoadNumbered number block) = ⊥
+RepliesAlone (says.Generate start rows) = ⊥
+RepliesAlone (says.Begin block) = Unit {0}
+RepliesAlone (says.Step n) = Unit {0}
+RepliesAlone says.Finish = ⊥
+RepliesAlone says.Abandon = Unit {0}
+RepliesAlone (says.Slice text) = ⊥
+RepliesAlone says.Status = Unit {0}
+RepliesAlone says.LongLine = Unit {0}
+RepliesAlone says.OpenBlock = Unit {0}
+RepliesAlone says.Unknown = Unit {0}
+
+-- what holds of it although the site may tell nothing, and what stays in any files
+pub record LeavesAlone {S : Type 0} (T : Ghosts S) (command : Command) (state next : State) (old new : S) (before after : Cache) (result : Reply) : Type 0 where
+  pub made : (IsStep command → ⊥) → OnOk result (moves_made next ≡ made_alone command (moves_made state))
+  pub live : LeavesLive command → OnOk result (live_of next ≡ live_of state)
+  pub harmless : TellsNone command → IfErr result IsNoDamage
+  pub said : RepliesAlone command → (files : Files) → IfOk result (λ reply. Gives state files command reply.items)
+  -- no page is kept or let go but by a slice that is answered, and by what writes
+  pub unasked : (MayWrite command → ⊥) → asks_pages state command ≡ false → after ≡ before
+  -- what only looks leaves kept pages that fit, however it ends
+  pub fits : IsTrue T.tells → (MayWrite command → ⊥) → Fits state (T.disk new).files after
+  pub side : IsTrue T.tells → LeavesLive command → OnOk result (SideStays (live_of state) (T.disk old).files (T.disk new).files)
+  -- a step leaves the live side as it was however it ends
+  pub step_side : IsTrue T.tells → IsStep command → SideStays (live_of state) (T.disk old).files (T.disk new).files
+
+-- a command is carried out: what the session had, and has then, on a site as it was and is, with the kept pages
+pub record CarriesOut {S : Type 0} (T : Ghosts S) (command : Command) (state next : State) (old new : S) (before after : Cache) (result : Reply) : Type 0 where
+  pub by_world : IsTrue T.tells → (world : World) → Stands state (T.disk old) world → ByWorld T command world state next old new before after result
+  pub any_files : IsTrue T.tells → OverAnyFiles T command state next old new after result
+  pub goes_on : GoesOn T command state next old new before after result
+  pub leaves : LeavesAlone T command state next old new before after result
+
+-- the same of a command that leaves the kept pages as they are, whichever these are
+abbrev pub CarriesOutAlone : {S : Type 0} (T : Ghosts S) (command : Command) (state next : State) (old new : S) (result : Reply) → Type 0
+CarriesOutAlone T command state next old new result = (cache : Cache) → IsReadyFor T old cache state → CarriesOut T command state next old new cache cache result

@@ -1,0 +1,120 @@
+-- Each command: what it costs, what it replies and where the damage lies that it tells.
+use Rattle.std.specs.Prelude.{◌≡◌, ℕ, List, [], ◌∷◌, None, Option, Some}
+use Rattle.reply_text.specs.Replies.{is_declared, long_line, open_block, is_unknown, stepped_text, abandoned_text}
+use Rattle.site_core.specs.Disk.{Files}
+use Rattle.fact_model.specs.declared.fact.Fact.{Fact}
+use Rattle.script_lang.specs.declared.command.Block.{Block}
+use Rattle.script_lang.specs.declared.command.Command.{Command}
+use Rattle.script_lang.specs.declared.command.Command.TheVariants as says
+use Rattle.plain_machine.specs.declared.batch_source.BatchSource.{BatchSource}
+use Rattle.plain_machine.specs.declared.batch_source.BatchSource.TheVariants.{Rows, Numbered, Generator}
+use Rattle.plain_machine.specs.Machine.{act, asked_slice, declare}
+use Rattle.plain_machine.specs.World.{World, bare}
+use Rattle.cube_state.specs.declared.state.State.{State}
+use Rattle.cube_state.specs.declared.state.State.TheVariants.{Empty, Idle, Hollow, Pending}
+use Rattle.cube_state.specs.declared.stop.Stop.{Stop}
+use Rattle.cube_state.specs.BatchCosts.{begin_cost, begins, finish_cost, load_cost, schema_cost, step_cost}
+use Rattle.cube_state.specs.BatchDamage.{FinishTells, LoadTells}
+use Rattle.cube_state.specs.Batches.{BeginGives, FinishGives, LoadGives, pending_line}
+use Rattle.cube_state.specs.Costs.{Cost, both, free}
+use Rattle.cube_state.specs.Moves.{made_behind}
+use Rattle.cube_state.specs.Session.{IsLine, state_text}
+use Rattle.cube_state.specs.Slices.{SliceGives, SliceTells}
+use Rattle.cube_state.specs.Stops.{IsNoDamage}
+use Rattle.cube_state.specs.Visits.{ReadsFor, store_of}
+
+-- the command that sends the batch of a source at once
+abbrev pub load_of : BatchSource → Command
+load_of (Rows block) = says.Load block
+load_of (Numbered number block) = says.LoadNumbered number block
+load_of (Generator start rows) = says.Generate start rows
+
+-- ---- costs
+
+-- where so many moves of the pending batch are made before it: a slice costs the pages that it goes to
+abbrev pub Costs : World → ℕ → Command → Cost → Type 0
+Costs world made (says.Slice text) cost = ReadsFor world (says.Slice text) cost
+Costs world made (says.Schema block) cost = cost ≡ schema_cost world (says.Schema block)
+Costs world made (says.Load block) cost = cost ≡ load_cost world (says.Load block)
+Costs world made (says.LoadNumbered number block) cost = cost ≡ load_cost world (says.LoadNumbered number block)
+Costs world made (says.Generate start rows) cost = cost ≡ load_cost world (says.Generate start rows)
+Costs world made (says.Begin block) cost = cost ≡ begin_cost world block
+Costs world made (says.Step n) cost = cost ≡ step_cost world made n
+Costs world made says.Finish cost = cost ≡ finish_cost world made
+Costs world made says.Abandon cost = cost ≡ free
+Costs world made says.Status cost = cost ≡ free
+Costs world made says.LongLine cost = cost ≡ free
+Costs world made says.OpenBlock cost = cost ≡ free
+Costs world made says.Unknown cost = cost ≡ free
+
+-- of commands one after another
+pub data CostTogether : World → ℕ → List Command → Cost → Type 0 where
+  none_cost : {world : World} {made : ℕ} → CostTogether world made [] free
+  one_costs : {world : World} {made : ℕ} {command : Command} {rest : List Command} (one others : Cost) → Costs world made command one
+      → CostTogether (act world command).0 (made_behind world made command) rest others → CostTogether world made (command ∷ rest) (both one others)
+
+-- no batch is there, or an empty one
+abbrev pub HasNoFact : Option (List Fact) → Type 0
+HasNoFact None = Unit {0}
+HasNoFact (Some []) = Unit {0}
+HasNoFact (Some (x ∷ xs)) = ⊥
+
+-- What makes no call at all: a batch that is refused, empty or accepted before, a step or a finish where no row is pending, and what only
+-- answers. A slice makes none where it is refused.
+abbrev pub MakesNoCall : World → Command → Type 0
+MakesNoCall world (says.Slice text) = asked_slice world (says.Slice text) ≡ None
+MakesNoCall world (says.Schema block) = (act world (says.Schema block)).0.kept ≡ world.kept
+MakesNoCall world (says.Load block) = (act world (says.Load block)).0.kept ≡ world.kept
+MakesNoCall world (says.LoadNumbered number block) = (act world (says.LoadNumbered number block)).0.kept ≡ world.kept
+MakesNoCall world (says.Generate start rows) = (act world (says.Generate start rows)).0.kept ≡ world.kept
+MakesNoCall world (says.Begin block) = begins world block ≡ 0
+MakesNoCall world (says.Step n) = HasNoFact world.pending
+MakesNoCall world says.Finish = HasNoFact world.pending
+MakesNoCall world says.Abandon = Unit {0}
+MakesNoCall world says.Status = Unit {0}
+MakesNoCall world says.LongLine = Unit {0}
+MakesNoCall world says.OpenBlock = Unit {0}
+MakesNoCall world says.Unknown = Unit {0}
+
+-- ---- replies, whatever the files hold
+
+-- the reply where a schema is to be declared
+abbrev pub SchemaGives : State → Block → List ℕ → Type 0
+SchemaGives Empty block reply = reply ≡ (declare (bare None) block).1
+SchemaGives (Idle store) block reply = IsLine is_declared reply
+SchemaGives (Hollow store) block reply = IsLine is_declared reply
+SchemaGives (Pending refresh) block reply = IsLine is_declared reply
+
+-- a session that has this, over these files, gives this reply to a command
+abbrev pub Gives : State → Files → Command → List ℕ → Type 0
+Gives state files (says.Schema block) reply = SchemaGives state block reply
+Gives state files (says.Load block) reply = LoadGives state files (Rows block) reply
+Gives state files (says.LoadNumbered number block) reply = LoadGives state files (Numbered number block) reply
+Gives state files (says.Generate start rows) reply = LoadGives state files (Generator start rows) reply
+Gives state files (says.Slice text) reply = SliceGives (store_of state) files text reply
+Gives state files says.Status reply = reply ≡ state_text state
+Gives state files (says.Begin block) reply = BeginGives state block reply
+Gives state files (says.Step n) reply = reply ≡ pending_line state stepped_text
+Gives state files says.Finish reply = FinishGives state files reply
+Gives state files says.Abandon reply = reply ≡ pending_line state abandoned_text
+Gives state files says.LongLine reply = IsLine long_line reply
+Gives state files says.OpenBlock reply = IsLine open_block reply
+Gives state files says.Unknown reply = IsLine is_unknown reply
+
+-- ---- damage
+
+-- damage that a command tells is there; no command but these six tells any
+abbrev pub TellsDamage : State → Files → Command → Stop → Type 0
+TellsDamage state files (says.Slice text) stop = SliceTells (store_of state) files (says.Slice text) stop
+TellsDamage state files (says.Load block) stop = LoadTells state files (Rows block) stop
+TellsDamage state files (says.LoadNumbered number block) stop = LoadTells state files (Numbered number block) stop
+TellsDamage state files (says.Generate start rows) stop = LoadTells state files (Generator start rows) stop
+TellsDamage state files (says.Step n) stop = FinishTells state files stop
+TellsDamage state files says.Finish stop = FinishTells state files stop
+TellsDamage state files (says.Schema block) stop = IsNoDamage stop
+TellsDamage state files says.Status stop = IsNoDamage stop
+TellsDamage state files says.LongLine stop = IsNoDamage stop
+TellsDamage state files says.OpenBlock stop = IsNoDamage stop
+TellsDamage state files (says.Begin block) stop = IsNoDamage stop
+TellsDamage state files says.Abandon stop = IsNoDamage stop
+TellsDamage state files says.Unknown stop = IsNoDamage stop

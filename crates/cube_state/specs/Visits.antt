@@ -1,0 +1,63 @@
+-- The pages that a command goes to for a slice, and what these cost.
+use Rattle.std.specs.Prelude.{◌≡◌, ℕ, Bool, true, false, List, length, Option, Some, None}
+use Rattle.fact_model.specs.declared.fact.Fact.{Fact}
+use Rattle.fact_model.specs.declared.slice.Slice.{Slice}
+use Rattle.cube_schema.specs.declared.schema.Schema.{Schema}
+use Rattle.forest_pages.specs.Forest.{body_counts}
+use Rattle.forest_root.specs.declared.forest.Store.{Store}
+use Rattle.script_lang.specs.declared.command.Command.{Command}
+use Rattle.slice_exec.specs.Costs.{visits_over}
+use Rattle.view_route.specs.Routes.{Picks}
+use Rattle.plain_machine.specs.Machine.{asked_by, asked_slice}
+use Rattle.plain_machine.specs.World.{Kept, World}
+use Rattle.cube_state.specs.declared.state.State.{State}
+use Rattle.cube_state.specs.declared.state.State.TheVariants.{Empty, Idle, Hollow, Pending}
+use Rattle.cube_state.specs.Costs.{Cost, free}
+
+-- the store that a session has, if a schema is declared
+abbrev pub store_of : State → Option Store
+store_of Empty = None
+store_of (Idle store) = Some store
+store_of (Hollow store) = Some store
+store_of (Pending refresh) = Some refresh.store
+
+-- ---- over a world
+
+-- the slice goes to these pages of the picked view, over these facts
+abbrev pub GoesOver : Schema → List Fact → Option Slice → List ℕ → Type 0
+GoesOver schema facts None numbers = ⊥
+GoesOver schema facts (Some s) numbers = (view : ℕ) × Picks schema.views (body_counts schema facts) s view × (numbers ≡ visits_over schema facts s view)
+
+abbrev pub GoesFrom : Kept → Option Slice → List ℕ → Type 0
+GoesFrom None asked numbers = ⊥
+GoesFrom (Some warehouse) asked numbers = GoesOver warehouse.schema warehouse.facts asked numbers
+
+-- the slice that the command has answered goes to these pages; where it has none answered it goes to none
+abbrev pub GoesTo : World → Command → List ℕ → Type 0
+GoesTo world command numbers = GoesFrom world.kept (asked_slice world command) numbers
+
+-- a read for each page that the slice goes to, and nothing where none is answered
+abbrev pub ReadsFrom : Kept → Option Slice → Cost → Type 0
+ReadsFrom kept None cost = cost ≡ free
+ReadsFrom kept (Some s) cost = (numbers : List ℕ) × GoesFrom kept (Some s) numbers × (cost ≡ record { reads = length numbers; writes = 0 })
+
+abbrev pub ReadsFor : World → Command → Cost → Type 0
+ReadsFor world command cost = ReadsFrom world.kept (asked_slice world command) cost
+
+-- ---- over what a session has
+
+-- the slice that it has answered, if it has one answered
+abbrev pub asked_from : Option Store → Command → Option Slice
+asked_from None command = None
+asked_from (Some store) command = asked_by store.forest.schema command
+
+abbrev pub asked_for : State → Command → Option Slice
+asked_for state command = asked_from (store_of state) command
+
+abbrev pub is_asked : Option Slice → Bool
+is_asked None = false
+is_asked (Some s) = true
+
+-- whether it goes to pages
+abbrev pub asks_pages : State → Command → Bool
+asks_pages state command = is_asked (asked_for state command)
