@@ -37,14 +37,10 @@ import sys
 import threading
 from typing import Iterator
 
-from warehouse import Fault, told
+from .errors import Busy, Fault, told
 
 PATIENCE = 1.0  # seconds of waiting that nothing is said about
 FOLDER, WRITER, QUEUE, BATCH = "folder", "writer", "queue", "batch"
-
-
-class Busy(Fault):
-    """Another run is in the folder, and the tool is not to wait."""
 
 
 class Turns:

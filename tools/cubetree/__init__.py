@@ -1,0 +1,22 @@
+"""Cubetree warehouses from Python: facts that are appended in batches, and sums, counts and extremes of them by group.
+
+    import cubetree
+
+    with cubetree.open("folder") as warehouse:
+        warehouse.load([("bolt", 1997, 5), ("nut", 1997, -2)])
+        answer = warehouse.slice("sum(qty),count by part where year=1997")
+        print(answer.columns, list(answer))
+
+A row has a str or an int for each attribute and measure of the schema, in order of declaration. An answer is a list of tuples of str and int with the
+names of its columns, which pandas takes as it is: pandas.DataFrame(answer, columns=answer.columns). Texts may be any bytes: those that are no UTF-8 are
+surrogates, as in names of files (os.fsencode has the bytes).
+
+What goes wrong is a Fault: Refused has the reply of the program and the place that it names, Busy is another run in the way of one that is not to wait,
+Ended has the status of a program that ended early, and Damaged the file and the offset as well.
+"""
+from .errors import Busy, Damaged, Ended, Fault, Refused
+from .rows import Answer
+from .schema import Schema
+from .warehouse import Status, Warehouse, open
+
+__all__ = ["Answer", "Busy", "Damaged", "Ended", "Fault", "Refused", "Schema", "Status", "Warehouse", "open"]

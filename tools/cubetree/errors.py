@@ -1,0 +1,65 @@
+"""What can go wrong in a warehouse: a refusal with its place, another run in the folder, a program that ended early, and any other fault."""
+import re
+from typing import Optional, Union
+
+PLACE = re.compile(
+    r"refused (?:row (?P<row>\d+) (?:fields|end|(?:number|long) (?P<field>\d+))|schema \w+ (?P<line>\d+)|gap (?P<due>\d+)"
+    r"|(?:syntax|measure|attribute|repeated|value) (?P<byte>\d+)|(?:names|mass) (?P<name>\w+))"
+)
+DAMAGE = re.compile(r"damaged file ([0-3]) at (\d+)")
+FILES = ("root", "names", "side0", "side1")  # as the program numbers them
+
+
+class Fault(Exception):
+    """What ends a call, told in words."""
+
+
+class Busy(Fault):
+    """Another run is in the folder, and this one is not to wait."""
+
+
+class Refused(Fault):
+    """What was refused, by its reply in the words of the program, and the place that it names, which counts from 1.
+
+    One reply is of this package and not of the program: `refused row R end`, where a text has a line that is `end`, which would end the block.
+    """
+
+    def __init__(self, reply: str, meaning: str = "") -> None:
+        super().__init__(f"{reply}: {meaning}" if meaning else reply)
+        self.reply = reply
+        place = PLACE.fullmatch(reply)
+        named = place.groupdict() if place else {}
+        numbers = {key: int(value) if value else None for key, value in named.items() if key != "name"}
+        self.row: Optional[int] = numbers.get("row")
+        self.field: Optional[int] = numbers.get("field")
+        self.line: Optional[int] = numbers.get("line")
+        self.byte: Optional[int] = numbers.get("byte")
+        self.due: Optional[int] = numbers.get("due")
+        self.name: Optional[str] = named.get("name")
+
+
+class Ended(Fault):
+    """The program has ended early, with this status and with what it said on standard error."""
+
+    def __init__(self, status: int, said: str) -> None:
+        super().__init__(f"the program ended with the status {status}" + (f": {said}" if said else ""))
+        self.status, self.said = status, said
+
+
+class Damaged(Ended):
+    """A file does not hold what the warehouse writes, from an offset on."""
+
+    def __init__(self, status: int, said: str, file: str, offset: int) -> None:
+        super().__init__(status, said)
+        self.file, self.offset = file, offset
+
+
+def ended(status: int, said: str) -> Ended:
+    """The fault of a program that ended with this status."""
+    damage = DAMAGE.search(said)
+    return Damaged(status, said, FILES[int(damage[1])], int(damage[2])) if status == 6 and damage else Ended(status, said)
+
+
+def told(fault: Union[Fault, OSError]) -> str:
+    """A fault in words, of this package or of the system."""
+    return f"{fault.filename}: {fault.strerror}" if isinstance(fault, OSError) and fault.filename else str(fault)

@@ -1,0 +1,86 @@
+"""A run of the program: commands go in, and replies come out as lines."""
+import csv
+import os
+import re
+import shutil
+import signal
+import subprocess
+from typing import Sequence
+
+from .errors import Fault, ended
+
+TOP = os.path.dirname(os.path.dirname(os.path.dirname(os.path.realpath(__file__))))
+SHIELDED = {signal.SIGINT, signal.SIGTERM}
+
+
+def program() -> str:
+    """The program: that of $CUBETREE, or the one that the repository of this package has built, or `cubetree` as it is found in the PATH."""
+    built = os.path.join(TOP, "crates", "cubetree", "out", "cubetree")
+    found = os.environ.get("CUBETREE") or (built if os.access(built, os.X_OK) else shutil.which("cubetree"))
+    if not found:
+        raise Fault("no program `cubetree` in the PATH, and none that is named by $CUBETREE")
+    return os.path.abspath(found)
+
+
+class Run:
+    """A run of the program in a folder, which inherits the descriptors of its locks; one that is shielded is not ended by SIGINT and SIGTERM."""
+
+    def __init__(self, folder: str, locks: Sequence[int], is_shielded: bool = False) -> None:
+        former = signal.pthread_sigmask(signal.SIG_BLOCK, SHIELDED if is_shielded else ())
+        try:
+            pipe = subprocess.PIPE
+            self.process = subprocess.Popen([program()], cwd=folder, stdin=pipe, stdout=pipe, stderr=pipe, pass_fds=locks)
+        finally:
+            signal.pthread_sigmask(signal.SIG_SETMASK, former)
+        assert self.process.stdin and self.process.stdout and self.process.stderr
+        self.input, self.output, self.error = self.process.stdin, self.process.stdout, self.process.stderr
+        self.said = ""
+
+    def send(self, command: bytes) -> None:
+        """Sends a command."""
+        try:
+            self.input.write(command)
+            self.input.flush()
+        except BrokenPipeError:
+            pass  # It has ended: the reply is none, which tells so.
+
+    def reply(self) -> str:
+        """The next line, without its line feed; a fault where the run has ended early."""
+        line = self.output.readline()
+        if not line.endswith(b"\n"):
+            raise ended(self.close(), self.said)
+        return line[:-1].decode("utf-8", "surrogateescape")
+
+    def ask(self, command: bytes) -> str:
+        """The reply to a command whose reply is one line."""
+        self.send(command)
+        return self.reply()
+
+    def answer(self, text: bytes) -> "tuple[list[list[str]], str]":
+        """The records of the reply to a slice, and its last line: how many there are, or a refusal."""
+        self.send(b"slice " + text + b"\n")
+        records: list[list[str]] = []
+        # A field of a row may have line feeds; that of a line with one field is no text.
+        for record in csv.reader(iter(lambda: self.reply() + "\n", ""), strict=True):
+            if len(record) == 1 and re.match("rows |refused ", record[0]):
+                return records, record[0]
+            records.append(record)
+        raise AssertionError("a reply has a last line")
+
+    def close(self) -> int:
+        """The status with which it ends, its script being at an end."""
+        try:
+            self.input.close()
+        except BrokenPipeError:
+            pass
+        self.output.close()
+        if not self.error.closed:
+            self.said = self.error.read().decode("utf-8", "replace").strip()
+            self.error.close()
+        return self.process.wait()
+
+    def end(self) -> None:
+        """Ends it; a fault where it does not end well."""
+        status = self.close()
+        if status:
+            raise ended(status, self.said)

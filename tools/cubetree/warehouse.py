@@ -1,0 +1,178 @@
+"""A warehouse as Python has it."""
+import os
+import threading
+import time
+from contextlib import contextmanager, suppress
+from types import TracebackType
+from typing import Iterable, Iterator, NamedTuple, Optional, Union, overload
+
+from .errors import Fault, Refused
+from .rows import Answer, GivenRow, block, encoded, has_end
+from .schema import Schema, declared_lines
+from .sessions import Asking, Loading, Session
+from .turns import Reader, Writer
+
+LONGEST_RUN = 1.0  # seconds of a run that only asks, after which others get their turn
+LONGEST_PAUSE = 0.1  # seconds between two of its questions
+LONGEST_SLICE = 65_000  # bytes
+
+
+class Status(NamedTuple):
+    """Whether a schema is declared, how many facts are accepted, and how many are pending, None where no batch is."""
+
+    is_declared: bool
+    facts: int
+    pending: Optional[int]
+
+
+class Warehouse:
+    """The warehouse in a folder. A call may wait for other runs there, as tools/cubetree/turns.py says; several threads may share it.
+
+    What only asks begins a run of the program, which ends in the next pause. The first call that writes makes it a writer until it is closed: other
+    writers wait for that, and readers get in between its batches.
+    """
+
+    def __init__(self, folder: "Union[str, os.PathLike[str]]" = ".", *, wait: bool = True, tool: str = "cubetree") -> None:
+        self.folder, self.wait, self.tool = os.fspath(folder), wait, tool
+        self._session: Optional[Session] = None
+        self._lock, self._over, self._asked = threading.RLock(), threading.Event(), 0.0
+        if not os.path.isdir(self.folder):
+            raise Fault(f"no such folder: {self.folder}")
+
+    def __enter__(self) -> "Warehouse":
+        return self
+
+    def __exit__(self, kind: Optional[type], fault: Optional[BaseException], trace: Optional[TracebackType]) -> None:
+        self.close()
+
+    # ---- what writes
+
+    def declare(self, lines: Union[str, Iterable[str]]) -> None:
+        """Declares a schema by the lines of a block of `schema`."""
+        self._write("".join(line + "\n" for line in ["schema", *declared_lines(lines), "end"]).encode())
+
+    @overload
+    def load(self, rows: Iterable[GivenRow]) -> int: ...
+
+    @overload
+    def load(self, rows: Iterable[GivenRow], number: Optional[int]) -> Optional[int]: ...
+
+    def load(self, rows: Iterable[GivenRow], number: Optional[int] = None) -> Optional[int]:
+        """Appends a batch, and gives how many facts there are then; None where the batch of this number was there already."""
+        reply = self._write(_block(b"load" if number is None else b"load %d" % number, rows))
+        return None if reply.startswith("already ") else int(reply.split()[1])
+
+    def begin(self, rows: Iterable[GivenRow]) -> None:
+        """Makes a batch pending: other runs wait until `finish` or `abandon`."""
+        self._write(_block(b"begin", rows))
+
+    def step(self, moves: int) -> None:
+        """Makes so many moves of the refresh that takes in the pending batch, or all that are left."""
+        self._write(b"step %d\n" % moves)
+
+    def finish(self) -> int:
+        """Appends the pending batch, and gives how many facts there are then."""
+        return int(self._write(b"finish\n").split()[1])
+
+    def abandon(self) -> None:
+        """Drops the pending batch."""
+        self._write(b"abandon\n")
+
+    # ---- what asks
+
+    def slice(self, text: str) -> Answer:
+        """The answer to a slice, in the words of the program without `slice` before them."""
+        question = text.encode("utf-8", "surrogateescape")
+        if b"\n" in question or len(question) > LONGEST_SLICE:
+            raise Fault(f"a slice is one line of at most {LONGEST_SLICE:,} bytes")
+        with self._question() as session:
+            records, last = session.answer(question)
+        if session.schema is None or last.startswith("refused "):
+            raise Refused(last)
+        return Answer(text, session.schema, records)
+
+    def status(self) -> Status:
+        """How many facts there are."""
+        with self._question() as session:
+            words = session.ask(b"status\n").split()
+        return Status(words[0] == "facts", int(words[1]) if words[0] == "facts" else 0, int(words[3]) if words[2:] else None)
+
+    @property
+    def schema(self) -> Optional[Schema]:
+        """The schema, None where none is declared."""
+        with self._question() as session:
+            return session.schema
+
+    # ---- runs
+
+    def pause(self) -> None:
+        """Lets others into the folder that wait for what was asked; what asks next begins a new run."""
+        with self._lock:
+            if isinstance(self._session, Asking):
+                self.close()
+
+    def close(self) -> None:
+        """Ends the run, and lets others into the folder; a batch that is pending is dropped."""
+        with self._lock:
+            session, self._session = self._session, None
+            self._over.set()
+            if session:
+                session.end()
+
+    def _write(self, command: bytes) -> str:
+        """The reply to a command that works on the files; a fault where it is a refusal."""
+        with self._lock:
+            if not isinstance(self._session, Loading):
+                self.close()
+                self._session = Loading(Writer(self.tool, self.folder, self.wait))
+            with self._dropped_when_cut_off(self._session):
+                reply = self._session.exchange(command)
+        if reply.startswith("refused "):
+            raise Refused(reply)
+        return reply
+
+    @contextmanager
+    def _question(self) -> Iterator[Session]:
+        """A session that asks: that of the writer, where this is one."""
+        with self._lock:
+            if self._session is None:
+                self._session = Asking(Reader(self.tool, self.folder, self.wait))
+                self._over = threading.Event()
+                threading.Thread(target=self._end_in_a_pause, args=(self._over,), daemon=True).start()
+            with self._dropped_when_cut_off(self._session):
+                yield self._session
+            self._asked = time.monotonic()
+            if self._session.age() > LONGEST_RUN:
+                self.pause()
+
+    @contextmanager
+    def _dropped_when_cut_off(self, session: Session) -> Iterator[None]:
+        """Drops a session whose reply was not read to its end."""
+        try:
+            yield
+        except BaseException:
+            self._session = None
+            self._over.set()
+            session.drop()
+            raise
+
+    def _end_in_a_pause(self, over: threading.Event) -> None:
+        """Ends a run that only asks, once nothing was asked for a while."""
+        while not over.wait(LONGEST_PAUSE):
+            with self._lock, suppress(Fault):  # All that was asked has been answered.
+                if not over.is_set() and time.monotonic() > self._asked + LONGEST_PAUSE:
+                    self.pause()
+
+
+def _block(command: bytes, given: Iterable[GivenRow]) -> bytes:
+    """A command with its rows."""
+    rows = list(encoded(given))
+    for number, row in enumerate(rows, 1):
+        if has_end(row):
+            raise Refused(f"refused row {number} end")
+    return block(command, rows)
+
+
+def open(folder: "Union[str, os.PathLike[str]]" = ".", *, wait: bool = True) -> Warehouse:
+    """The warehouse in a folder, to be used by `with`; without waiting a call raises Busy where another run is in the way."""
+    return Warehouse(folder, wait=wait)
