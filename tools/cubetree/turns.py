@@ -10,8 +10,8 @@ they may be removed by whoever holds F exclusively.
 
 F   Every tool holds F shared for the whole life of its run. `flock . cubetree` in a shell holds F exclusively, so that run and the tools exclude
     each other, and a shell line needs no other lock.
-W   A writer (load-csv --into, refresh-slowly) holds W exclusively for the whole life of its run, and over all runs of one load. Each of its batches
-    is built on the files as the run itself left them, so another writer may not come in between two batches either.
+W   A writer (load-csv --into, refresh-slowly, feed while it sends) holds W exclusively for the whole life of its run, and over all runs of one load.
+    Each of its batches is built on the files as the run itself left them, so another writer may not come in between two batches either.
 B   A writer holds B exclusively while its program works on the files: from before the program is started until its first reply, from before `schema`
     or `load` is sent until the reply has been read, and from before `begin` is sent until the reply to `finish` or `abandon` has been read. A
     reader (ask, and any tool that only asks) holds B shared from before its program is started until that run has ended. So no commit falls
@@ -20,6 +20,9 @@ B   A writer holds B exclusively while its program works on the files: from befo
 Q   The turnstile before B lets readers in between two batches, and lets no stream of readers keep a writer out. A reader takes Q shared, then B shared,
     then lets Q go; a writer takes Q exclusively, then B exclusively, then lets Q go. When a writer lets B go, every waiting reader holds Q, so
     the writer cannot have Q again before each of them has B. While a writer waits for B it holds Q, so no new reader gets in.
+
+A feed also holds the folder of its spool exclusively for its whole life, before all of these: what it has sent is known by the number of the batch, so
+a folder has one feed.
 
 Every tool takes them in the order F, W, Q, B, and waits for no lock while it holds B. So no tools wait for each other in a circle.
 

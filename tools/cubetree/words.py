@@ -8,9 +8,9 @@ from .errors import Fault
 from .runs import program
 
 
-def counted(number: int, word: str) -> str:
+def counted(number: int, word: str, words: str = "") -> str:
     """A number with its word."""
-    return f"{number:,} {word}" + ("" if number == 1 else "s")
+    return f"{number:,} {word if number == 1 else words or word + 's'}"
 
 
 def say_bytes(errors: str) -> None:

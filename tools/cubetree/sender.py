@@ -1,0 +1,130 @@
+"""Sends the batches of a spool to the program, and puts the rows aside that it refuses."""
+import os
+import time
+from typing import Optional
+
+from .errors import Fault, Refused
+from .records import faults_of, may_be_unsendable
+from .rows import block, line_writer
+from .sessions import Loading
+from .sources import say
+from .spool import Batch, Spool, owner_of
+from .turns import Writer
+from .words import counted
+
+GREATEST = (1 << 64) - 1
+LONGEST_RUN, LONGEST_PAUSE, GAP = 10.0, 0.2, 0.05  # seconds: of a run, of a run without a batch, and between two runs, in which others get in
+
+
+class Sender:
+    """The runs of a feed, which last no longer than there are batches to send, or some seconds where others wait."""
+
+    def __init__(self, folder: str, spool: Spool, refused: str, waits: bool) -> None:
+        self.folder, self.spool, self.refused, self.waits = folder, spool, refused, waits
+        self.loading: Optional[Loading] = None
+        self.sent, self.batches, self.put_aside, self.facts, self.used = 0, 0, 0, 0, 0.0
+        self.begin()
+
+    # ---- runs
+
+    def begin(self) -> Loading:
+        """A run, with the number that is due."""
+        if self.loading:
+            return self.loading
+        self.loading = Loading(Writer("feed", self.folder, self.waits), is_shielded=True)
+        self.waits, self.used = True, time.monotonic()
+        if self.loading.schema is None:
+            raise Fault(f"no schema is declared in {self.folder}")
+        self.schema, self.owner = self.loading.schema, owner_of(self.folder, self.loading.schema)
+        self.facts = int(self.loading.status.split()[1])
+        self.due = Refused(self.loading.exchange(block(b"load %d" % GREATEST, []))).due or GREATEST
+        return self.loading
+
+    def rest(self, is_over: bool = False) -> None:
+        """Ends a run that has nothing to send, or is so long that others may wait for it."""
+        if self.loading and (is_over or time.monotonic() > self.used + LONGEST_PAUSE or self.loading.age() > LONGEST_RUN):
+            loading, self.loading = self.loading, None
+            loading.end()
+            time.sleep(0 if is_over else GAP)
+
+    def drop(self) -> None:
+        """Ends a run that need not end well."""
+        if self.loading:
+            self.loading.drop()
+
+    # ---- batches
+
+    def send(self, batch: Batch) -> None:
+        """Sends a batch until it is acknowledged."""
+        loading = self.begin()
+        if self.owner != self.spool.owner:
+            raise Fault(f"the folder {self.folder} was begun anew since the feed began")
+        self.set_number(batch)
+        self.write_refused(batch)
+        if may_be_unsendable(batch.rows):
+            self.put_faults_aside(batch, "")
+        while batch.rows:
+            reply = loading.exchange(block(b"load %d" % (batch.number or 0), [row + b"\n" for row in batch.rows]))
+            if not reply.startswith("refused "):
+                self.count(batch, reply)
+                break
+            self.put_faults_aside(batch, reply)
+        self.spool.drop(batch)
+        self.used = time.monotonic()
+
+    def set_number(self, batch: Batch) -> None:
+        """Gives a batch the number that is due, where it has none."""
+        if batch.number is None:
+            self.spool.number(batch, self.due)
+        elif batch.number > self.due:
+            raise Fault(f"batch {batch.number} stands in the spool {self.spool.folder}, and {self.folder} has no batch {self.due}: it was set back")
+
+    def count(self, batch: Batch, reply: str) -> None:
+        """Counts what is acknowledged."""
+        if reply.startswith("committed "):
+            self.facts = int(reply.split()[1])
+        self.due = max(self.due, (batch.number or 0) + 1)
+        self.sent, self.batches = self.sent + len(batch.rows), self.batches + 1
+
+    def put_faults_aside(self, batch: Batch, reply: str) -> None:
+        """Takes the rows out of a batch that are refused: the one that the reply names, and all that would be in its place."""
+        faults = faults_of(batch.rows, self.schema)
+        if reply:
+            row = Refused(reply).row
+            if row is None:
+                raise Fault(f"batch {batch.number} is refused, and its rows stand in the spool {self.spool.folder}: {reply}")
+            faults[row - 1] = reply.partition(f"row {row} ")[2]
+        if faults:
+            written = line_writer()
+            lines = ((self.schema.row_fault(reason), batch.rows[place].decode("utf-8", "surrogateescape")) for place, reason in sorted(faults.items()))
+            text = "".join(written(line)[:-2] + "\n" for line in lines)
+            self.spool.rewrite(batch, [row for place, row in enumerate(batch.rows) if place not in faults], text, size_of(self.refused))
+            self.put_aside += len(faults)
+            say(f"{counted(len(faults), 'row')} of batch {batch.number} refused: {self.refused}")
+            self.write_refused(batch)
+
+    def write_refused(self, batch: Batch) -> None:
+        """Writes the rows that were taken out of a batch into their file, where they stand already if this was done before."""
+        if "refused" in batch.head:
+            place = min(batch.head["offset"], size_of(self.refused))
+            write_at(self.refused, batch.head["refused"].encode("utf-8", "surrogateescape"), place)
+
+
+def size_of(path: str) -> int:
+    """How many bytes a file has, none where it is not there."""
+    return os.stat(path).st_size if os.path.exists(path) else 0
+
+
+def write_at(path: str, text: bytes, place: int) -> None:
+    """Writes bytes at an offset of a file, and syncs it."""
+    try:
+        descriptor = os.open(path, os.O_WRONLY | os.O_CREAT, 0o666)
+        try:
+            while text:
+                written = os.pwrite(descriptor, text, place)
+                place, text = place + written, text[written:]
+            os.fsync(descriptor)
+        finally:
+            os.close(descriptor)
+    except OSError as error:
+        raise Fault(f"refused rows cannot be written: {path}: {error.strerror}") from error
