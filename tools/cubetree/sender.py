@@ -95,9 +95,7 @@ class Sender:
                 raise Fault(f"batch {batch.number} is refused, and its rows stand in the spool {self.spool.folder}: {reply}")
             faults[row - 1] = reply.partition(f"row {row} ")[2]
         if faults:
-            written = line_writer()
-            lines = ((self.schema.row_fault(reason), batch.rows[place].decode("utf-8", "surrogateescape")) for place, reason in sorted(faults.items()))
-            text = "".join(written(line)[:-2] + "\n" for line in lines)
+            text = "".join(refused_line(self.schema.row_fault(reason), batch.rows[place]) for place, reason in sorted(faults.items()))
             self.spool.rewrite(batch, [row for place, row in enumerate(batch.rows) if place not in faults], text, size_of(self.refused))
             self.put_aside += len(faults)
             say(f"{counted(len(faults), 'row')} of batch {batch.number} refused: {self.refused}")
@@ -108,6 +106,18 @@ class Sender:
         if "refused" in batch.head:
             place = min(batch.head["offset"], size_of(self.refused))
             write_at(self.refused, batch.head["refused"].encode("utf-8", "surrogateescape"), place)
+
+
+    def put_row_aside(self, why: str, row: bytes) -> None:
+        """Puts a row aside that is in no batch."""
+        write_at(self.refused, refused_line(why, row).encode("utf-8", "surrogateescape"), size_of(self.refused))
+        self.put_aside += 1
+        say(f"a row was put aside: {self.refused}")
+
+
+def refused_line(why: str, row: bytes) -> str:
+    """A refused row behind the reason, as a line of csv."""
+    return line_writer()([why, row.decode("utf-8", "surrogateescape")])[:-2] + "\n"
 
 
 def size_of(path: str) -> int:

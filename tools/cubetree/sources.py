@@ -1,8 +1,10 @@
 """Where the rows of a feed come from: standard input, named pipes, and files that grow and are rotated."""
+import fcntl
 import os
 import select
 import stat
 import sys
+import termios
 import zlib
 from typing import Callable, Mapping, Optional, Sequence, Union
 
@@ -12,6 +14,7 @@ from .spool import INPUT, Place
 
 PIECE, FIRST = 1 << 16, 1 << 10  # bytes that are read at once, and by which a file is known
 Places = Mapping["tuple[str, int]", Place]
+Aside = Callable[[str, bytes], None]
 Take = Callable[[Place, "list[bytes]"], None]
 
 
@@ -24,12 +27,18 @@ def say(text: str) -> None:
 class Stream:
     """Standard input, which comes to its end, or a named pipe, which is opened again behind each writer."""
 
-    def __init__(self, path: str, places: Places) -> None:
-        self.path, self.is_over = path, False
+    def __init__(self, path: str, places: Places, put_aside: Aside) -> None:
+        self.path, self.is_over, self.put_aside = path, False, put_aside
         self.descriptor = 0 if path == INPUT else os.open(path, os.O_RDONLY | os.O_NONBLOCK)
         self.inode = os.fstat(self.descriptor).st_ino
         kept = places.get((path, self.inode))
         self.rows = Rows(kept.rest.encode("latin-1") if kept else b"")
+        # A named pipe that is empty may have a new writer, who does not go on with the row of the former one.
+        self.is_doubtful = path != INPUT and self.rows.front != b"" and self.waiting() == 0
+
+    def waiting(self) -> int:
+        """How many bytes wait to be read."""
+        return int.from_bytes(fcntl.ioctl(self.descriptor, termios.FIONREAD, bytes(4)), sys.byteorder)
 
     def place(self) -> Place:
         """The front of the row that is not whole yet."""
@@ -47,8 +56,11 @@ class Stream:
             piece = os.read(self.descriptor, PIECE)
         except BlockingIOError:
             return False
-        take_rows = self.rows.take(piece) if piece else self.rows.rest()
-        take(self.place(), take_rows)
+        rows = self.rows.take(piece) if piece else self.rows.rest()
+        if self.is_doubtful and rows:
+            self.put_aside("a stop has parted it", rows.pop(0))
+            self.is_doubtful = False
+        take(self.place(), rows)
         if not piece:
             self.end()
         return True
@@ -209,17 +221,17 @@ class Input(Tail):
 Source = Union[Stream, Growing, Input]
 
 
-def source_of(path: str, places: Places, forget: Callable[[Place], None]) -> Source:
+def source_of(path: str, places: Places, forget: Callable[[Place], None], put_aside: Aside) -> Source:
     """The source of a path."""
     if path == INPUT:
-        return Input(places) if stat.S_ISREG(os.fstat(0).st_mode) else Stream(path, places)
+        return Input(places) if stat.S_ISREG(os.fstat(0).st_mode) else Stream(path, places, put_aside)
     try:
         is_stream = not stat.S_ISREG(os.stat(path).st_mode)
     except FileNotFoundError:
         is_stream = False
     if is_stream and not stat.S_ISFIFO(os.stat(path).st_mode):
         raise Fault(f"neither a file nor a pipe: {path}")
-    return Stream(path, places) if is_stream else Growing(path, places, forget)
+    return Stream(path, places, put_aside) if is_stream else Growing(path, places, forget)
 
 
 def lost_streams(sources: Sequence[Source], places: Places) -> "list[Place]":
