@@ -1,0 +1,62 @@
+"""Tests of ask."""
+import json
+import os
+
+from cubetree.runs import program
+from test_cubetree import SCHEMA
+from tests.case import Case, ask, run
+
+
+class Ask(Case):
+    ROWS = 'bolt,1997,5\nnut,1997,-2\nbolt,1998,4\n"a, ""b""\nc",1999,123456789012345678901234567890\n'
+
+    def setUp(self):
+        super().setUp()
+        run(program(), given=f"schema\n{SCHEMA}end\nload\n{self.ROWS}end\n".encode(), cwd="w")
+
+    def test_table(self):
+        table = "part  sum(qty)  count\n----  --------  -----\nbolt         5      1\nnut         -2      1\n(2 rows)\n"
+        self.assertEqual(ask("--in", "w", "slice sum(qty),count by part where year=1997")[0], table)
+        self.assertEqual(ask("--in", "w", "sum(qty),count", "by", "part", "where", "year=1997")[0], table)
+        self.assertIn('\na, "b"\\nc  ', ask("--in", "w", "count by part")[0])
+        self.assertEqual(ask("count by year where part=none", cwd="w")[0], "year  count\n----  -----\n(0 rows)\n")
+
+    def test_csv_and_json(self):
+        wanted = 'part,year,max(qty)\n"a, ""b""\nc",1999,123456789012345678901234567890\nbolt,1997,5\nbolt,1998,4\nnut,1997,-2\n'
+        self.assertEqual(ask("--in", "w", "--csv", "max(qty) by part,year")[0], wanted)
+        rows = [json.loads(line) for line in ask("--in", "w", "--json", "max(qty) by part,year")[0].splitlines()]
+        self.assertEqual(rows[0], {"part": 'a, "b"\nc', "year": 1999, "max(qty)": 123456789012345678901234567890})
+        self.assertEqual(len(rows), 4)
+
+    def test_lines(self):
+        told, said = ask("--in", "w", "--csv", given=b"slice count\n\nsum(cost)\r\ncount by part where year=1998\n", status=1)
+        self.assertEqual(told, "count\n4\n\npart,count\nbolt,1\n")
+        self.assertEqual(said, "ask: refused measure 5: no measure has this name; there are qty\n  sum(cost)\n      ^\n")
+
+    def test_refusals(self):
+        os.mkdir("empty")
+        for words, wanted in [
+            (["--in", "w", "sum(qty) by"], "refused syntax 9"),
+            (["--in", "w", "count by colour"], "refused attribute 10: no attribute has this name; there are part, year"),
+            (["--in", "w", "count by part,part"], "refused repeated 15"),
+            (["--in", "w", "count by part where year=x"], "refused value 26"),
+            (["--in", "w", "status"], "refused syntax 1"),
+            (["--in", "empty", "count"], "refused no schema: no schema is declared in the folder"),
+            (["--in", "nowhere", "count"], "no such folder: nowhere"),
+            (["--in", "w", "count\nstatus"], "a slice is one line"),
+        ]:
+            with self.subTest(words):
+                self.assertIn(wanted, ask(*words, status=1)[1])
+        ask("--never", status=2)
+        os.mkdir("narrow")
+        run(program(), given=b"schema\nattr part text\nattr year number\nmeasure qty\nview part\nview year\nend\n", cwd="narrow")
+        self.assertIn("no view has all attributes that are grouped by or have a condition; the views are of part; year\n", ask("--in", "narrow", "count by part,year", status=1)[1])
+
+    def test_damaged(self):
+        with open("w/root", "r+b") as root:
+            for slot in range(2):  # the number of the format in each body
+                root.seek(1024 * slot + 8)
+                root.write(b"xx")
+        said = ask("--in", "w", "count", status=3)[1]
+        self.assertIn("cubetree: damaged file", said)
+        self.assertIn("ask: the program ended with the status 6", said)

@@ -1,0 +1,58 @@
+"""What the tests of the tools have in common."""
+import csv
+import io
+import os
+import subprocess
+import time
+from typing import Any, Callable
+
+from test_cubetree import Room
+
+
+HERE = os.path.dirname(os.path.dirname(os.path.realpath(__file__)))
+TOOLS = HERE if os.path.exists(os.path.join(HERE, "ask")) else "/usr/lib/cubetree"
+
+
+def run(*words, status=0, given=b"", **more):
+    """What a command prints, and what it says on standard error."""
+    if "stdin" not in more:
+        more["input"] = given
+    done = subprocess.run(words, capture_output=True, **more)
+    if status is not None and done.returncode != status:
+        raise AssertionError(f"{words} ended with {done.returncode} and not {status}: {done.stderr.decode()}")
+    return done.stdout.decode("utf-8", "surrogateescape"), done.stderr.decode("utf-8", "replace")
+
+
+def load(*words, **more):
+    return run(os.path.join(TOOLS, "load-csv"), *words, **more)
+
+
+def ask(*words, **more):
+    return run(os.path.join(TOOLS, "ask"), *words, **more)
+
+
+def until(is_so: Callable[[], bool]) -> None:
+    """Waits until something is so."""
+    end = time.monotonic() + 60
+    while not is_so():
+        if time.monotonic() > end:
+            raise AssertionError("this was waited for in vain")
+        time.sleep(0.02)
+
+
+def wait_too_long(*_: Any) -> None:
+    """Ends a test whose tools wait for each other."""
+    raise AssertionError("the test took more than five minutes")
+
+
+class Case(Room):
+    """A test of the tools."""
+
+    def put(self, name, content):
+        with open(name, "wb") as file:
+            file.write(content if isinstance(content, bytes) else content.encode())
+        return name
+
+    def rows(self, slice):
+        """The rows of an answer, without their header."""
+        return list(csv.reader(io.StringIO(ask("--in", "w", "--csv", slice)[0], newline="")))[1:]

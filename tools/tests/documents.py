@@ -1,0 +1,54 @@
+"""Tests of the man pages, the types, the tour and the Debian package."""
+import glob
+import os
+import re
+import shutil
+import unittest
+
+from cubetree.runs import TOP
+from tests.case import Case, TOOLS, run
+
+
+class Documents(Case):
+    def test_man_page_has_each_refusal_and_status(self):
+        with open(os.path.join(TOP, "docs", "cubetree.1"), encoding="utf-8") as page:
+            lines = [re.sub(r"^\.[A-Z]+ ", "", line) for line in page]
+        text = " ".join(re.sub(r"\\f.|[\"]", "", "".join(lines)).split())
+        with open(os.path.join(TOP, "docs", "SCRIPT.md"), encoding="utf-8") as script:
+            rows = [line for line in script if line.startswith("| `refused") or re.match(r"\| \d ", line)]
+        replies = [reply for row in rows for reply in re.findall(r"`(refused [^`]+)`", row.split(" | ")[0])]
+        self.assertGreater(len(replies), 25)
+        for reply in replies:
+            self.assertIn(reply, text)
+        for status in re.findall(r"^\| (\d) ", "".join(rows), re.M):
+            self.assertRegex("".join(lines), rf"\n{status}\n")
+
+    @unittest.skipUnless(shutil.which("man"), "no man")
+    def test_man_pages_are_well_formed(self):
+        for page in glob.glob(os.path.join(TOP, "docs", "*.1")):
+            self.assertEqual(run("man", "--warnings", "-l", page)[1], "")
+
+    def test_man_pages_are_those_of_the_tools(self):
+        for tool in ("ask", "load-csv", "refresh-slowly", "feed"):
+            with open(os.path.join(TOP, "docs", f"cubetree-{tool}.1"), encoding="utf-8") as page:
+                self.assertEqual(run(os.path.join(TOOLS, "make-man"), tool)[0], page.read())
+            self.assertIn(f"{tool}, of a checkout, and of no package; the program is ", run(os.path.join(TOOLS, tool), "--version")[0])
+
+    @unittest.skipUnless(shutil.which("mypy"), "no mypy")
+    def test_types(self):
+        words = ["mypy", "--strict", "--python-version", "3.9", "--cache-dir", os.path.join(self.room, "cache")]
+        for script in ("cubetree", "ask", "load-csv", "refresh-slowly", "feed", "run-tour", "make-man", "test_cubetree.py"):
+            run(*words, script, cwd=TOOLS, env=dict(os.environ, MYPYPATH=TOOLS))
+
+    def test_tour(self):
+        self.assertEqual(run(os.path.join(TOOLS, "run-tour")), ("", ""))
+
+    @unittest.skipUnless(shutil.which("dpkg-deb"), "no dpkg-deb")
+    def test_tour_of_the_package(self):
+        run(os.path.join(TOOLS, "make-deb"), self.room)
+        package = [name for name in os.listdir(".") if name.endswith(".deb")][0]
+        run("dpkg-deb", "-x", package, "root")
+        clean = {"PATH": os.path.join(self.room, "root/usr/bin") + ":/usr/bin:/bin", "HOME": self.room}
+        self.assertEqual(run("root/usr/lib/cubetree/run-tour", env=clean), ("", ""))
+        self.assertIn("usage", run("cubetree-ask", "--help", env=clean, cwd="w")[0])
+        self.assertRegex(run("cubetree-feed", "--version", env=clean)[0], r"feed, of the package cubetree 0\.\d+; the program is .*/root/usr/bin/cubetree\n")
