@@ -1,3 +1,3 @@
 pub mod Keeping
-pub mod Slots
+pub mod InSlots
 pub mod Used

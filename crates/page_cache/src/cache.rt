@@ -1,6 +1,6 @@
 //! The cache of pages: those last used, each lent from where it is kept.
 
-ghost use Rattle.std.specs.Prelude.{◌≡◌, ◌<◌, ◌≤◌, ◌+◌, ◌^◌, [], ◌∷◌, List, ℕ, IsTrue, IsFalse, IsSome, IfOk, IfErr, IfSome, Ok, OnOk, OnErr, Some, is_some, length, max};
+ghost use Rattle.std.specs.Prelude.{◌≡◌, ◌<◌, ◌≤◌, ◌+◌, ◌^◌, [], ◌∷◌, List, ℕ, IsTrue, IsFalse, IfOk, IfErr, IfSome, Ok, OnOk, OnErr, Some, is_some, length, max};
 ghost use Rattle.std.specs.Borrow.{sem};
 ghost use Rattle.std.specs.Map.{lookup};
 ghost use Rattle.std.specs.NonZero.{non_zero_usize_get};
@@ -14,6 +14,7 @@ ghost use Rattle.page_cache.specs.Keeping.{Agrees, unkept};
 ghost use Rattle.page_cache.specs.Slots.{HasHead, IsFound, IsGiven, IsIn, cache_in};
 
 use crate::kept::Kept;
+use crate::slots::Slots;
 use cube_point::Shape;
 use fact_model::Memory;
 use lru::LruCache;
@@ -49,23 +50,16 @@ pub struct Accepted<'a> {
 /// Pages of files, by file and number: those last used, up to the capacity.
 #[derive(Drop)]
 pub struct Pages {
-    // The pages that are kept; where none may be, the page that was given last.
-    map: LruCache<(u32, u64), Kept>,
-    // What the next page is read into.
-    spare: Option<Box<[u8; PAGE]>>,
-    capacity: u32,
+    slots: Slots,
 }
 
 impl Model for Pages {
-    ghost use Rattle.std.specs.Prelude.{◌≡◌, IsSome, max};
     ghost use Rattle.page_cache.specs.Giving.{Cache};
-    ghost use Rattle.page_cache.specs.Slots.{kept_in};
+    ghost use Rattle.page_cache.specs.Slots.{cache_in};
 
     ghost Value = { Cache };
 
-    ghost view = { λ p. record { capacity = p.capacity; kept = kept_in p.capacity p.map.entries } };
-
-    ghost invariant = { λ p. (p.map.cap ≡ max p.capacity 1) × IsSome p.spare };
+    ghost view = { λ p. cache_in p.slots };
 }
 
 impl Pages {
@@ -79,9 +73,11 @@ impl Pages {
         let spare = Some(Box::new(alloc, [0; PAGE])?);
         match LruCache::new(alloc, places(capacity)) {
             Ok(map) => Ok(Pages {
-                map,
-                spare,
-                capacity,
+                slots: Slots {
+                    map,
+                    spare,
+                    capacity,
+                },
             }),
             Err(_) => Err(Memory),
         }
@@ -121,18 +117,11 @@ impl Pages {
         ensures untouched { IsTrue (is_kept self.old (file, number)) → site.new ≡ site.old }
         ensures looks { LooksOnly T.Site (HasCauseWhere CacheStop.Disk) 1 site.old site.new result }
     {
-        let head = match fetch(
-            &mut self.map,
-            &mut self.spare,
-            self.capacity,
-            site,
-            shape,
-            (file, number),
-        ) {
+        let head = match fetch(&mut self.slots, site, shape, (file, number)) {
             Ok(head) => head,
             Err(stop) => return Err(stop),
         };
-        match self.map.peek(&(file, number)) {
+        match self.slots.map.peek(&(file, number)) {
             Some(kept) => Ok(Accepted {
                 bytes: &kept.page,
                 head,
@@ -147,7 +136,7 @@ impl Pages {
         ensures capacity { self.new.capacity ≡ self.old.capacity }
         ensures empty { self.new.kept ≡ [] }
     {
-        self.map.clear();
+        self.slots.map.clear();
     }
 }
 
@@ -163,106 +152,92 @@ fn places(capacity: u32) -> NonZeroUsize
 
 /// Makes the page the one last used of the map, and answers its head. It is read unless it is kept.
 fn fetch<T: Site>(
-    map: &mut LruCache<(u32, u64), Kept>,
-    spare: &mut Option<Box<[u8; PAGE]>>,
-    capacity: u32,
+    slots: &mut Slots,
     site: &mut T,
     shape: &Shape,
     name: (u32, u64),
 ) -> Result<Head, CacheStop>
-    requires cap { map.old.cap ≡ max capacity 1 }
-    requires spare { IsSome spare.old }
     requires dims { shape.now.dims ≤ 8 }
     requires measures { shape.now.measures ≤ 4 }
     requires file { name.0 < 4 }
     requires few { name.1 < 2 ^ 50 }
 
-    ensures given { OnOk result (IsGiven capacity name map.old map.new) }
-    ensures accepted { IfOk result (HasHead shape.now name map.new) }
-    ensures page { IsTrue T.tells → Agrees (T.disk site.old).files (cache_in capacity map.old)
-        → OnOk result (IsFound ((T.disk site.old).files name.0) name map.new) }
+    ensures given { OnOk result (IsGiven name slots.old slots.new) }
+    ensures accepted { IfOk result (HasHead shape.now name slots.new) }
+    ensures page { IsTrue T.tells → Agrees (T.disk site.old).files (cache_in slots.old)
+        → OnOk result (IsFound ((T.disk site.old).files name.0) name slots.new) }
     ensures stop { IsTrue T.tells → IfErr result (ExplainsStop ((T.disk site.old).files name.0) name.1) }
-    ensures unlawful { IsTrue T.tells → Agrees (T.disk site.old).files (cache_in capacity map.old)
+    ensures unlawful { IsTrue T.tells → Agrees (T.disk site.old).files (cache_in slots.old)
         → IfErr result (IsUnlawful shape.now ((T.disk site.old).files name.0) name.1) }
 
     // Whatever the file holds.
-    ensures kept { IsTrue (is_kept (cache_in capacity map.old) name) → IfErr result (IsRefused shape.now (cache_in capacity map.old) name) }
-    ensures untouched { IsTrue (is_kept (cache_in capacity map.old) name) → site.new ≡ site.old }
-    ensures as_before { OnErr result (map.new ≡ map.old) }
-    ensures spare { IsSome spare.new }
+    ensures kept { IsTrue (is_kept (cache_in slots.old) name) → IfErr result (IsRefused shape.now (cache_in slots.old) name) }
+    ensures untouched { IsTrue (is_kept (cache_in slots.old) name) → site.new ≡ site.old }
+    ensures as_before { OnErr result (cache_in slots.new ≡ cache_in slots.old) }
     ensures looks { LooksOnly T.Site (HasCauseWhere CacheStop.Disk) 1 site.old site.new result }
 {
-    match use_kept(map, capacity, shape, name) {
-        Ok(None) => read_in(map, spare, capacity, site, shape, name),
+    match use_kept(slots, shape, name) {
+        Ok(None) => read_in(slots, site, shape, name),
         Ok(Some(head)) => Ok(head),
         Err(stop) => Err(stop),
     }
 }
 
 /// The head of a page that is kept, which is then the one last used; none where it is not kept.
-fn use_kept(
-    map: &mut LruCache<(u32, u64), Kept>,
-    capacity: u32,
-    shape: &Shape,
-    name: (u32, u64),
-) -> Result<Option<Head>, CacheStop>
-    requires cap { map.old.cap ≡ max capacity 1 }
+fn use_kept(slots: &mut Slots, shape: &Shape, name: (u32, u64)) -> Result<Option<Head>, CacheStop>
     requires dims { shape.now.dims ≤ 8 }
     requires measures { shape.now.measures ≤ 4 }
 
-    ensures kept { IfOk result (λ head. is_some head ≡ is_kept (cache_in capacity map.old) name) }
-    ensures given { IfOk result (λ head. IsTrue (is_some head) → IsGiven capacity name map.old map.new) }
-    ensures accepted { IfOk result (λ head. IfSome head (λ h. HasHead shape.now name map.new h)) }
-    ensures none { IfOk result (λ head. IsFalse (is_some head) → map.new ≡ map.old) }
-    ensures refused { IfErr result (IsRefused shape.now (cache_in capacity map.old) name) }
-    ensures as_before { OnErr result (map.new ≡ map.old) }
+    ensures kept { IfOk result (λ head. is_some head ≡ is_kept (cache_in slots.old) name) }
+    ensures given { IfOk result (λ head. IsTrue (is_some head) → IsGiven name slots.old slots.new) }
+    ensures accepted { IfOk result (λ head. IfSome head (λ h. HasHead shape.now name slots.new h)) }
+    ensures none { IfOk result (λ head. IsFalse (is_some head) → slots.new ≡ slots.old) }
+    ensures refused { IfErr result (IsRefused shape.now (cache_in slots.old) name) }
+    ensures as_before { OnErr result (cache_in slots.new ≡ cache_in slots.old) }
 {
     // A page that may not be kept lies there alone.
-    if map.len() > capacity as usize {
+    if slots.map.len() > slots.capacity as usize {
         return Ok(None);
     }
-    let Some(kept) = map.peek(&name) else {
+    let Some(kept) = slots.map.peek(&name) else {
         return Ok(None);
     };
     let Ok(head) = kept.judge(shape, name.1) else {
         return Err(CacheStop::Unlawful);
     };
-    map.promote(&name);
+    slots.map.promote(&name);
     Ok(Some(head))
 }
 
 /// Reads a page that is not kept, tests it, and puts it into the map, as the one last used.
 fn read_in<T: Site>(
-    map: &mut LruCache<(u32, u64), Kept>,
-    spare: &mut Option<Box<[u8; PAGE]>>,
-    capacity: u32,
+    slots: &mut Slots,
     site: &mut T,
     shape: &Shape,
     name: (u32, u64),
 ) -> Result<Head, CacheStop>
-    requires cap { map.old.cap ≡ max capacity 1 }
-    requires spare { IsSome spare.old }
-    requires absent { IsFalse (is_kept (cache_in capacity map.old) name) }
+    requires absent { IsFalse (is_kept (cache_in slots.old) name) }
     requires dims { shape.now.dims ≤ 8 }
     requires measures { shape.now.measures ≤ 4 }
     requires file { name.0 < 4 }
     requires few { name.1 < 2 ^ 50 }
 
-    ensures given { OnOk result (IsGiven capacity name map.old map.new) }
-    ensures accepted { IfOk result (HasHead shape.now name map.new) }
-    ensures page { IsTrue T.tells → OnOk result (IsFound ((T.disk site.old).files name.0) name map.new) }
+    ensures given { OnOk result (IsGiven name slots.old slots.new) }
+    ensures accepted { IfOk result (HasHead shape.now name slots.new) }
+    ensures page { IsTrue T.tells → OnOk result (IsFound ((T.disk site.old).files name.0) name slots.new) }
     ensures stop { IsTrue T.tells → IfErr result (ExplainsStop ((T.disk site.old).files name.0) name.1) }
     ensures unlawful { IsTrue T.tells → IfErr result (IsUnlawful shape.now ((T.disk site.old).files name.0) name.1) }
-    ensures as_before { OnErr result (map.new ≡ map.old) }
-    ensures spare { IsSome spare.new }
+    ensures as_before { OnErr result (cache_in slots.new ≡ cache_in slots.old) }
     ensures looks { LooksOnly T.Site (HasCauseWhere CacheStop.Disk) 1 site.old site.new result }
 {
-    let Some(page) = spare else { unreachable!() };
+    let Some(page) = &mut slots.spare else {
+        unreachable!()
+    };
     read(site, name.0, name.1, page)?;
     let Ok(head) = take_page(page, shape, name.1) else {
         return Err(CacheStop::Unlawful);
     };
-    put_in(map, spare, capacity, name, shape, head)?;
+    put_in(slots, name, shape, head)?;
     Ok(head)
 }
 
@@ -289,41 +264,31 @@ fn read<T: Site>(
 
 /// Puts the spare page into the map, as the one last used, with the head that it was accepted with. The page that goes out of the map is
 /// the next spare one, and a new one where none goes out.
-fn put_in(
-    map: &mut LruCache<(u32, u64), Kept>,
-    spare: &mut Option<Box<[u8; PAGE]>>,
-    capacity: u32,
-    name: (u32, u64),
-    shape: &Shape,
-    head: Head,
-) -> Result<(), Memory>
-    requires cap { map.old.cap ≡ max capacity 1 }
-    requires spare { IsSome spare.old }
-    requires accepted { IfSome spare.old (λ page. Ok head ≡ taken shape.now name.1 page.value) }
-    requires absent { IsFalse (is_kept (cache_in capacity map.old) name) }
+fn put_in(slots: &mut Slots, name: (u32, u64), shape: &Shape, head: Head) -> Result<(), Memory>
+    requires accepted { IfSome slots.old.spare (λ page. Ok head ≡ taken shape.now name.1 page.value) }
+    requires absent { IsFalse (is_kept (cache_in slots.old) name) }
 
-    ensures given { OnOk result (IsGiven capacity name map.old map.new) }
-    ensures put { OnOk result (IsIn spare.old name map.new) }
-    ensures as_before { OnErr result (map.new ≡ map.old) }
-    ensures spare { IsSome spare.new }
+    ensures given { OnOk result (IsGiven name slots.old slots.new) }
+    ensures put { OnOk result (IsIn slots.old.spare name slots.new) }
+    ensures as_before { OnErr result (cache_in slots.new ≡ cache_in slots.old) }
 {
-    let next = if map.len() < map.cap().get() {
-        Some(Box::new(*map.allocator(), [0; PAGE])?)
+    let next = if slots.map.len() < slots.map.cap().get() {
+        Some(Box::new(*slots.map.allocator(), [0; PAGE])?)
     } else {
         None
     };
-    let Some(page) = mem::replace(spare, next) else {
+    let Some(page) = mem::replace(&mut slots.spare, next) else {
         unreachable!()
     };
     let kept = Kept::new(page, shape, name.1, head);
-    match map.push(name, kept) {
+    match slots.map.push(name, kept) {
         Ok(None) => Ok(()),
         Ok(Some((_, old))) => {
-            *spare = Some(old.page);
+            slots.spare = Some(old.page);
             Ok(())
         }
         Err(refused) => {
-            *spare = Some(refused.value.1.page);
+            slots.spare = Some(refused.value.1.page);
             Err(Memory)
         }
     }

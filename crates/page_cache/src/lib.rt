@@ -3,5 +3,6 @@
 
 mod cache;
 mod kept;
+mod slots;
 
 pub use cache::{Accepted, CacheStop, Pages};

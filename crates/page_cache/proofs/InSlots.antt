@@ -13,6 +13,7 @@ use Rattle.page_fmt.specs.Taking.{taken}
 use Rattle.lru.specs.LruCache.{LruCache, displaced, lru_cache, promoted, put_entries}
 use Rattle.lru.proofs.CallerLemmas.{lookup-put_entries}
 use Rattle.page_cache.specs.declared.kept.Kept.{Kept}
+use Rattle.page_cache.specs.declared.slots.Slots.{Slots}
 use Rattle.page_cache.specs.declared.cache.CacheStop.{CacheStop}
 use Rattle.page_cache.specs.Giving.{Cache, IsRefused, IsUnlawful, Name, is_kept, same_name, used}
 use Rattle.page_cache.specs.Keeping.{Agrees}
@@ -24,8 +25,8 @@ use Rattle.page_cache.proofs.Used.{All-lookup, name-is, name-laws, remove-none}
 abbrev Places : Type 0
 Places = List (Name × Kept)
 
-abbrev Slots : Type 0
-Slots = LruCache Name Kept
+abbrev Map : Type 0
+Map = LruCache Name Kept
 
 -- nothing more is found among the first
 pub take-none : {V : Type 0} (test : Name → Bool) (n : ℕ) (es : List (Name × V)) → lookup test es ≡ None → lookup test (take n es) ≡ None
@@ -88,7 +89,13 @@ module _ (test : Name → Bool) where
         ∙ (ap (λ l. unboxed e ∷ l) (remove-unboxed es) ∙ ap (map unboxed) (sym (cond-false _ es (e ∷ remove_entry test es) apart)))
   ]
 
-module _ (capacity : ℕ) (name : Name) (old : Slots) where
+module _ (name : Name) (slots : Slots) where
+  abbrev capacity : ℕ
+  capacity = slots.capacity
+
+  abbrev old : Map
+  old = slots.map
+
   -- ---- a page that is kept
 
   all-kept : length old.entries ≤ capacity → kept_in capacity old.entries ≡ map unboxed old.entries
@@ -102,17 +109,17 @@ module _ (capacity : ℕ) (name : Name) (old : Slots) where
       by None is = ap is_some (lookup-none (same_name name) es is) ∙ sym (ap is_some is)
       by (Some place) is = ap is_some (lookup-some (same_name name) es place is) ∙ sym (ap is_some is)
 
-  pub kept-is : length old.entries ≤ capacity → is_kept (cache_in capacity old) name ≡ is_some (lookup (same_name name) old.entries)
+  pub kept-is : length old.entries ≤ capacity → is_kept (cache_in slots) name ≡ is_some (lookup (same_name name) old.entries)
   kept-is few = ap (λ l. is_some (lookup (same_name name) l)) (all-kept few) ∙ found-as old.entries
 
   -- a page beyond the capacity lies there alone, and is not kept
-  pub kept-beyond : old.cap ≡ max capacity 1 → length old.entries ≤ old.cap → capacity < length old.entries → is_kept (cache_in capacity old) name ≡ false
-  kept-beyond cap few many =
-      let none : capacity ≡ 0 = omega (arith, cap, few, many) in
+  pub kept-beyond : length old.entries ≤ old.cap → capacity < length old.entries → is_kept (cache_in slots) name ≡ false
+  kept-beyond few many =
+      let none : capacity ≡ 0 = omega (arith, slots.places, few, many) in
       ap (λ n. is_some (lookup (same_name name) (kept_in n old.entries))) none
 
-  pub absent-from : old.cap ≡ max capacity 1 → length old.entries ≤ old.cap → is_kept (cache_in capacity old) name ≡ false → (capacity ≡ 0) ⊎ (lookup (same_name name) old.entries ≡ None)
-  absent-from cap few not = by capacity refl
+  pub absent-from : length old.entries ≤ old.cap → is_kept (cache_in slots) name ≡ false → (capacity ≡ 0) ⊎ (lookup (same_name name) old.entries ≡ None)
+  absent-from few not = by capacity refl
     where
       none-of : (o : Option Kept) → is_some o ≡ false → o ≡ None
       none-of None is = refl
@@ -120,16 +127,19 @@ module _ (capacity : ℕ) (name : Name) (old : Slots) where
 
       by : (n : ℕ) → capacity ≡ n → (capacity ≡ 0) ⊎ (lookup (same_name name) old.entries ≡ None)
       by zero is = inl is
-      by (suc n) is = inr (none-of (lookup (same_name name) old.entries) (sym (kept-is (omega (arith, cap, few, is))) ∙ not))
+      by (suc n) is = inr (none-of (lookup (same_name name) old.entries) (sym (kept-is (omega (arith, slots.places, few, is))) ∙ not))
 
   -- a place that is found has its page kept
   pub kept-page : length old.entries ≤ capacity → (place : Kept) → lookup (same_name name) old.entries ≡ Some place → lookup (same_name name) (kept_in capacity old.entries) ≡ Some place.page.value
   kept-page few place found = ap (lookup (same_name name)) (all-kept few) ∙ lookup-some (same_name name) old.entries place found
 
   -- it is found, and goes to the front
-  module _ (place : Kept) (found : lookup (same_name name) old.entries ≡ Some place) (new : Slots) (is : new ≡ lru_cache (promoted (same_name name) old.entries) old.cap) where
+  seen-as : (new : Slots) (kept : List (Name × List ℕ)) → new.capacity ≡ capacity → kept_in capacity new.map.entries ≡ kept → cache_in new ≡ record { capacity = capacity; kept = kept }
+  seen-as new kept cap is = λ i. record { capacity = cap i; kept = (ap (λ n. kept_in n new.map.entries) cap ∙ is) i }
+
+  module _ (place : Kept) (found : lookup (same_name name) old.entries ≡ Some place) (new : Map) (is : new ≡ lru_cache (promoted (same_name name) old.entries) old.cap) where
     front : (e : Name × Kept) → lookup_entry (same_name name) old.entries ≡ Some e → new.entries ≡ e ∷ remove_entry (same_name name) old.entries
-    front e entry = ap (λ (m : Slots). m.entries) is ∙ ap (λ o. option_map_or (λ x. x ∷ remove_entry (same_name name) old.entries) o old.entries) entry
+    front e entry = ap (λ (m : Map). m.entries) is ∙ ap (λ o. option_map_or (λ x. x ∷ remove_entry (same_name name) old.entries) o old.entries) entry
 
     pub there-promoted : lookup (same_name name) new.entries ≡ Some place
     there-promoted =
@@ -138,20 +148,21 @@ module _ (capacity : ℕ) (name : Name) (old : Slots) where
         ap (lookup (same_name name)) (front e entry.1)
         ∙ (cond-true _ (Some e.1) (lookup (same_name name) (remove_entry (same_name name) old.entries)) entry.3 ∙ ap Some entry.2)
 
-    pub given-kept : length old.entries ≤ capacity → IsGiven capacity name old new
-    given-kept few =
-        let entry = entry-of (same_name name) old.entries place found in
-        let e = entry.0 in
-        let named : e ≡ (name, place) = λ i. (sym (name-is name e.0 entry.3) i, entry.2 i) in
-        record {
-          place = place;
-          there = there-promoted;
-          kept = ap (kept_in capacity) (front e entry.1)
-              ∙ (ap (λ (x : Name × Kept). kept_in capacity (x ∷ remove_entry (same_name name) old.entries)) named
-              ∙ ap (λ l. take capacity ((name, place.page.value) ∷ l)) (sym (remove-unboxed (same_name name) old.entries) ∙ ap (remove_entry (same_name name)) (sym (all-kept few))));
-          same = λ page at. let both : Some place.page.value ≡ Some page = sym (kept-page few place found) ∙ at in cc;
-          cap = ap (λ (m : Slots). m.cap) is;
-        }
+  pub given-kept : (place : Kept) → lookup (same_name name) old.entries ≡ Some place → (new : Slots) → new.map ≡ lru_cache (promoted (same_name name) old.entries) old.cap → length old.entries ≤ capacity → new.capacity ≡ capacity
+      → IsGiven name slots new
+  given-kept place found new is few cap =
+      let entry = entry-of (same_name name) old.entries place found in
+      let e = entry.0 in
+      let named : e ≡ (name, place) = λ i. (sym (name-is name e.0 entry.3) i, entry.2 i) in
+      record {
+        place = place;
+        there = there-promoted place found new.map is;
+        kept = seen-as new (used capacity name place.page.value (kept_in capacity old.entries)) cap
+            (ap (kept_in capacity) (front place found new.map is e entry.1)
+            ∙ (ap (λ (x : Name × Kept). kept_in capacity (x ∷ remove_entry (same_name name) old.entries)) named
+            ∙ ap (λ l. take capacity ((name, place.page.value) ∷ l)) (sym (remove-unboxed (same_name name) old.entries) ∙ ap (remove_entry (same_name name)) (sym (all-kept few)))));
+        same = λ page at. let both : Some place.page.value ≡ Some page = sym (kept-page few place found) ∙ at in cc;
+      }
 
   -- ---- a page that is not kept
 
@@ -161,26 +172,25 @@ module _ (capacity : ℕ) (name : Name) (old : Slots) where
   not-kept (inr absent) = take-none (same_name name) capacity (map unboxed old.entries) (lookup-none (same_name name) old.entries absent)
 
   -- it is put in front
-  pub there-put : (place : Kept) (new : Slots) → new ≡ lru_cache (put_entries same_name old name place) old.cap → lookup (same_name name) new.entries ≡ Some place
-  there-put place new is = ap (λ (m : Slots). lookup (same_name name) m.entries) is ∙ lookup-put_entries same_name old name place name-laws
+  pub there-put : (place : Kept) (new : Map) → new ≡ lru_cache (put_entries same_name old name place) old.cap → lookup (same_name name) new.entries ≡ Some place
+  there-put place new is = ap (λ (m : Map). lookup (same_name name) m.entries) is ∙ lookup-put_entries same_name old name place name-laws
 
-  pub given-put : old.cap ≡ max capacity 1 → (capacity ≡ 0) ⊎ (lookup (same_name name) old.entries ≡ None) → (place : Kept)
-      → (new : Slots) → new ≡ lru_cache (put_entries same_name old name place) old.cap → IsGiven capacity name old new
-  given-put cap absent place new is = record {
+  pub given-put : (capacity ≡ 0) ⊎ (lookup (same_name name) old.entries ≡ None) → (place : Kept)
+      → (new : Slots) → new.map ≡ lru_cache (put_entries same_name old name place) old.cap → new.capacity ≡ capacity → IsGiven name slots new
+  given-put absent place new is cap = record {
     place = place;
-    there = there-put place new is;
-    kept = by absent;
+    there = there-put place new.map is;
+    kept = seen-as new (used capacity name place.page.value (kept_in capacity old.entries)) cap (by absent);
     same = λ page at. let never : None ≡ Some page = sym (not-kept absent) ∙ at in cc;
-    cap = ap (λ (m : Slots). m.cap) is;
   }
     where
-      put : (n : ℕ) → old.cap ≡ n + 1 → lookup (same_name name) old.entries ≡ None → new.entries ≡ (name, place) ∷ take n old.entries
+      put : (n : ℕ) → old.cap ≡ n + 1 → lookup (same_name name) old.entries ≡ None → new.map.entries ≡ (name, place) ∷ take n old.entries
       put n places none =
-          ap (λ (m : Slots). m.entries) is
+          ap (λ (m : Map). m.entries) is
           ∙ (ap (λ o. option_map_or (λ (e : Name × Kept). (e.0, place) ∷ remove_entry (same_name name) old.entries) o ((name, place) ∷ take (old.cap - 1) old.entries)) (no-entry (same_name name) old.entries none)
           ∙ ap (λ (k : ℕ). (name, place) ∷ take k old.entries) (omega (arith, places)))
 
-      taken : (n : ℕ) → old.cap ≡ max n 1 → lookup (same_name name) old.entries ≡ None → kept_in n new.entries ≡ used n name place.page.value (kept_in n old.entries)
+      taken : (n : ℕ) → old.cap ≡ max n 1 → lookup (same_name name) old.entries ≡ None → kept_in n new.map.entries ≡ used n name place.page.value (kept_in n old.entries)
       taken zero places none = refl
       taken (suc n) places none =
           let kept : List (Name × List ℕ) = map unboxed old.entries in
@@ -190,9 +200,9 @@ module _ (capacity : ℕ) (name : Name) (old : Slots) where
           (ap (take n) (sym (take-map unboxed n old.entries))
           ∙ (take-take n n kept (omega arith) ∙ (sym (take-take n (suc n) kept (omega arith)) ∙ ap (take n) (sym (remove-none (same_name name) (take (suc n) kept) gone)))))
 
-      by : (capacity ≡ 0) ⊎ (lookup (same_name name) old.entries ≡ None) → kept_in capacity new.entries ≡ used capacity name place.page.value (kept_in capacity old.entries)
-      by (inl zero-is) = ap (λ n. kept_in n new.entries) zero-is ∙ ap (λ n. used n name place.page.value (kept_in n old.entries)) (sym zero-is)
-      by (inr none) = taken capacity cap none
+      by : (capacity ≡ 0) ⊎ (lookup (same_name name) old.entries ≡ None) → kept_in capacity new.map.entries ≡ used capacity name place.page.value (kept_in capacity old.entries)
+      by (inl zero-is) = ap (λ n. kept_in n new.map.entries) zero-is ∙ ap (λ n. used n name place.page.value (kept_in n old.entries)) (sym zero-is)
+      by (inr none) = taken capacity slots.places none
 
   -- a full map gives up a page
   pub gives-up : (place : Kept) → None ≡ displaced same_name old name place → 0 < old.cap → old.cap ≤ length old.entries → ⊥
@@ -213,13 +223,13 @@ module _ (capacity : ℕ) (name : Name) (old : Slots) where
 
   -- ---- what was given
 
-  module _ (new : Slots) (given : IsGiven capacity name old new) where
+  module _ (new : Slots) (given : IsGiven name slots new) where
     -- a page that was kept is as a read gives it, where all are
-    pub found-kept : is_kept (cache_in capacity old) name ≡ true → (files : Files) → Agrees files (cache_in capacity old) → IsFound (files name.0) name new
+    pub found-kept : is_kept (cache_in slots) name ≡ true → (files : Files) → Agrees files (cache_in slots) → IsFound (files name.0) name new
     found-kept kept files agree = by (lookup (same_name name) (kept_in capacity old.entries)) refl
       where
         by : (o : Option (List ℕ)) → lookup (same_name name) (kept_in capacity old.entries) ≡ o → IsFound (files name.0) name new
-        by None is = absurd (both_ways (is_kept (cache_in capacity old) name) (ap is_some is) kept)
+        by None is = absurd (both_ways (is_kept (cache_in slots) name) (ap is_some is) kept)
         by (Some page) is = (
           given.place,
           given.there,
@@ -227,13 +237,13 @@ module _ (capacity : ℕ) (name : Name) (old : Slots) where
               (All-lookup (λ (e : Name × List ℕ). IsPageOf (files e.0.0) e.0.1 e.1) (kept_in capacity old.entries) name page agree is),
         )
 
-    module _ (place : Kept) (there : Some place ≡ lookup (same_name name) new.entries) where
+    module _ (place : Kept) (there : Some place ≡ lookup (same_name name) new.map.entries) where
       same-place : given.place ≡ place
       same-place = let both : Some place ≡ Some given.place = there ∙ given.there in cc
 
       -- the page that is lent is the one last used
-      pub lent-used : cache_in capacity new ≡ after (cache_in capacity old) name place.page.value
-      lent-used = λ i. record { capacity = capacity; kept = (given.kept ∙ ap (λ (x : Kept). used capacity name x.page.value (kept_in capacity old.entries)) same-place) i }
+      pub lent-used : cache_in new ≡ after (cache_in slots) name place.page.value
+      lent-used = given.kept ∙ ap (λ (x : Kept). after (cache_in slots) name x.page.value) same-place
 
       pub lent-same : (page : List ℕ) → lookup (same_name name) (kept_in capacity old.entries) ≡ Some page → place.page.value ≡ page
       lent-same page is = ap (λ (x : Kept). x.page.value) (sym same-place) ∙ given.same page is
