@@ -47,7 +47,7 @@ use Rattle.forest_store.proofs.Storable.{storable}
 use Rattle.forest_open.specs.declared.stop.OpenStop.{OpenStop}
 use Rattle.forest_open.specs.declared.stop.OpenStop.TheVariants as stops
 use Rattle.forest_open.specs.Breaks.{BreaksAt, TellsBreak}
-use Rattle.forest_open.specs.Judging.{IsNoDamage, IsWarehouse, Judges, JudgesRest, MayBeOpened, NamesPlace}
+use Rattle.forest_open.specs.Judging.{IsNoDamage, IsWarehouse, Judges, JudgesRest, JudgesSide, MayBeOpened, NamesPlace}
 use Rattle.forest_open.specs.Opening.{AreOpened, BreaksBody, BreaksEntries, BreaksEntry, BreaksNames, BreaksSide, HasSchema, Place, declared_by, entries_in, has_pages, is_of_schema, is_zero, schema_in, text_in}
 use Rattle.forest_open.proofs.Declarations.{declared_again}
 
@@ -150,12 +150,15 @@ judged_all body files now schema entries result has same stays judged =
     by (Err (stops.Damaged file offset)) judged = inr (schema, has, judged)
     by (Err stops.Memory) judged = judged
 
--- the side is the one thing that is amiss
-pub side_short : (body : Body) (files : Files) (schema : Schema) (entries : List ℕ) (names : Book) (side end pages : ℕ) (stop : OpenStop) → is_of_schema body schema ≡ true → HasRead (no_names schema) names entries []
-    → side ≡ side_of body → end ≡ length (files (side_of body)) → pages ≡ page_total body schema → end / 4096 < pages → stop ≡ stops.Damaged side end → JudgesRest body files schema entries (Err stop)
-side_short body files schema entries names side end pages stop of_schema read here long count few is =
-    let short : has_pages body files schema ≡ false = lt-leb (4096 * page_total body schema) (length (files (side_of body))) (omega (arith, few, long, count)) in
-    subst (λ (s : OpenStop). JudgesRest body files schema entries (Err s)) (sym is) (inr (of_schema, inr (names, read, short, (λ i. (here i, long i)))))
+-- a side that is looked at is too short, or has all pages
+module _ (body : Body) (files : Files) (schema : Schema) (end pages : ℕ) (long : end ≡ length (files (side_of body))) (count : pages ≡ page_total body schema) where
+  pub side_short : (side : ℕ) (stop : OpenStop) → side ≡ side_of body → end / 4096 < pages → stop ≡ stops.Damaged side end → JudgesSide body files schema (Err stop)
+  side_short side stop here few is =
+      let short : has_pages body files schema ≡ false = lt-leb (4096 * page_total body schema) (length (files (side_of body))) (omega (arith, few, long, count)) in
+      subst (λ (s : OpenStop). JudgesSide body files schema (Err s)) (sym is) (short, here, long)
+
+  pub side_whole : pages ≤ end / 4096 → has_pages body files schema ≡ true
+  side_whole few = le-leb (4096 * page_total body schema) (length (files (side_of body))) (omega (arith, few, long, count))
 
 -- a body of a schema has its views
 pub has_views : (body : Body) (schema : Schema) → is_of_schema body schema ≡ true → body.views ≡ length schema.views

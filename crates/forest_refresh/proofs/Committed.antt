@@ -1,5 +1,5 @@
 -- A commit makes of accepted facts all of them.
-use Rattle.std.proofs.Common.{◌≡◌, ◌≢◌, ◌+◌, ◌%◌, ℕ, List, ◌++◌, inl, inr, sym, ◌∙◌, ap, subst, arith}
+use Rattle.std.proofs.Common.{◌≡◌, ◌≢◌, ◌+◌, ◌%◌, ℕ, List, ◌++◌, Result, Ok, Err, OnOk, inl, inr, sym, ◌∙◌, ap, subst, arith}
 use Rattle.site_core.specs.Disk.{Files, Disk}
 use Rattle.site_core.specs.Moments.{LeavesOnly}
 use Rattle.site_core.proofs.Run.{wider, joined}
@@ -12,7 +12,7 @@ use Rattle.forest_commit.specs.Commit.{EachMoment, IsLiveNow, slot_of}
 use Rattle.forest_commit.specs.Commit as commits
 use Rattle.forest_commit.specs.Refresh.{IsRefresh}
 use Rattle.cube_schema.specs.declared.schema.Schema.{Schema}
-use Rattle.forest_store.specs.Held.{AreAccepted, KeepsFacts, held, names_text}
+use Rattle.forest_store.specs.Held.{AreAccepted, IsLive, KeepsFacts, held, names_text}
 use Rattle.forest_refresh.specs.Begun.{IsNext}
 use Rattle.forest_refresh.specs.Refreshed.{KeepsEither}
 
@@ -46,6 +46,12 @@ either_facts schema accepted all last number old new fine run = wider old new _ 
     by : (files : Files) → commits.KeepsEither (held schema accepted last) (held schema all number) files → KeepsEither schema accepted last all number files
     by files (inl old) = inl old
     by files (inr new) = inr (fine, new)
+
+-- the body of all facts is live
+pub then_live : {A E : Type 0} (result : Result A E) (schema : Schema) (all : List Fact) (next : Body) (disk : Disk) → OnOk result (IsLiveNow (held schema all next.last) (slot_of next) next disk)
+    → OnOk result (IsLive schema next all disk.files)
+then_live (Ok done) schema all next disk live = record { slot = slot_of next; at = live.read }
+then_live (Err fault) schema all next disk live = tt
 
 -- while the live body stays, the facts are kept
 pub live_facts : (schema : Schema) (accepted : List Fact) (last slot : ℕ) (live : Body) (old new : Disk) → EachMoment old new (LiveAt (held schema accepted last) slot live)

@@ -1,4 +1,4 @@
--- The end of a refresh: pages are written on the other side while the facts stay live, and then all facts are committed.
+-- Pages are written on the other side while the facts stay live; the body of all facts, and their store.
 use Rattle.std.proofs.Common.{◌≡◌, ◌≢◌, ◌∙◌, ◌+◌, ◌<◌, ◌≤◌, ◌++◌, ℕ, List, length, inl, refl, sym, ap, subst, arith, length-append, take}
 use Rattle.site_core.specs.Disk.{Disk, Files}
 use Rattle.site_core.specs.Calls.{Changes}
@@ -106,10 +106,6 @@ module _ (r : Begun) (begun : IsBegun r) where
     pub still_live : (k : ℕ) × IsLiveNow (held r.store.forest.schema facts r.store.forest.body.last) k r.store.forest.body mid
     still_live = (live_slot, live_paged (held r.store.forest.schema facts r.store.forest.body.last) live_slot spare r.store.forest.body low other old mid now 0 run)
 
-    pub while_written : OnlyNow old → LeavesOnly old mid (λ told files. (told ≡ old.told) × KeepsEither r.store.forest.schema facts r.store.forest.body.last (facts ++ batch) r.next.last files)
-    while_written only_now = wider old mid _ _ (λ told files left. (left.0, inl (live_slot, r.store.forest.body, left.1)))
-        (paged_moments (held r.store.forest.schema facts r.store.forest.body.last) live_slot spare r.store.forest.body low other old mid now 0 run only_now)
-
     -- so the facts alone are kept on the way, and the batch is still added to them
     pub while_moved : OnlyNow old → LeavesOnly old mid (λ told files. (told ≡ old.told) × KeepsFacts r.store.forest.schema facts r.store.forest.body.last files)
     while_moved only_now = wider old mid _ _ (λ told files left. (left.0, (live_slot, r.store.forest.body, left.1)))
@@ -121,21 +117,6 @@ module _ (r : Begun) (begun : IsBegun r) where
       left = λ files left. live_again r facts batch old.files files both.read (record { slot = still_live.0; at = still_live.1.left files left });
     }
 
-    -- and then the commit
-    pub then_committed : (new : Disk) → OnlyNow old → LeavesOnly mid new (λ told files. (told ≡ mid.told) × KeepsEither r.store.forest.schema facts r.store.forest.body.last (facts ++ batch) r.next.last files)
-        → LeavesOnly old new (λ told files. (told ≡ old.told) × KeepsEither r.store.forest.schema facts r.store.forest.body.last (facts ++ batch) r.next.last files)
-    then_committed new only_now last = then_either r.store.forest.schema facts (facts ++ batch) r.store.forest.body.last r.next.last old mid new run.told (while_written only_now) last
-
--- ---- by an equal refresh
-
-pub either_by : (r self : Begun) → r ≡ self → (facts all : List Fact) (old new : Disk)
-    → LeavesOnly old new (λ told files. (told ≡ old.told) × KeepsEither r.store.forest.schema facts r.store.forest.body.last all r.next.last files)
-    → LeavesOnly old new (λ told files. (told ≡ old.told) × KeepsEither self.store.forest.schema facts self.store.forest.body.last all self.next.last files)
-either_by r self same facts all old new run = subst (λ (b : Begun). LeavesOnly old new (λ told files. (told ≡ old.told) × KeepsEither b.store.forest.schema facts b.store.forest.body.last all b.next.last files)) same run
-
-pub damage_by : (r self : Begun) → r ≡ self → (files : Files) (stop : RefreshStop) → TellsFirstDamage r.store.forest files r.deltas stop → TellsFirstDamage self.store.forest files self.deltas stop
-damage_by r self same files stop tells = subst (λ (b : Begun). TellsFirstDamage b.store.forest files b.deltas stop) same tells
-
 -- ---- the store of all facts
 
 pub store_of : (r : Begun) (facts batch : List Fact) (old new : Files) (done : Store) → IsRefreshOf r facts batch old → done.forest.schema ≡ r.store.forest.schema → done.dicts ≡ r.store.dicts
@@ -145,8 +126,3 @@ store_of r facts batch old new done is schema dicts whole live = record {
   live = subst (λ (s : Schema). IsLive s done.forest.body (facts ++ batch) new) (sym schema) live;
   names = named_shown done (facts ++ batch) whole (λ a. ap (λ (b : Book). names_at b a) dicts ∙ is.names a);
 }
-
--- the side that holds all facts is that of the next body
-pub on_side : (schema : Schema) (all : List Fact) (spare slot : ℕ) (files : Files) → spare ≡ slot → take (length (forest schema all)) (files (2 + spare)) ≡ forest schema all
-    → take (length (forest schema all)) (files (2 + slot)) ≡ forest schema all
-on_side schema all spare slot files same pages = subst (λ k. take (length (forest schema all)) (files (2 + k)) ≡ forest schema all) same pages

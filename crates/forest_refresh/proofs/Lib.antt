@@ -4,6 +4,7 @@ pub mod Begins
 pub mod Committed
 pub mod Damages
 pub mod Dropped
+pub mod Ends
 pub mod Finishes
 pub mod Named
 pub mod NamesRoom

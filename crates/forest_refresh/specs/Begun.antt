@@ -78,6 +78,12 @@ pub record IsRefreshOf (r : Begun) (facts batch : List Fact) (files : Files) : T
   pub counted : r.next.facts ≡ length (facts ++ batch)
   pub masses : r.next.masses ≡ masses_of (facts ++ batch)
 
+-- the body of the generation behind it, with its numbers of points
+pub record IsNextBody (r : Begun) (body : Body) : Type 0 where
+  pub follows : IsNext r.store.forest.body r.entries body
+  pub facts : body.facts ≡ r.next.facts
+  pub last : body.last ≡ r.next.last
+
 -- the store of the generation behind it
 pub record IsNextStore (r : Begun) (store : Store) : Type 0 where
   pub schema : store.forest.schema ≡ r.store.forest.schema

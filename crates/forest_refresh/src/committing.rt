@@ -1,5 +1,5 @@
 //! What stands on the other side is committed, with the new names and the new body.
-ghost use Rattle.std.specs.Prelude.{◌≡◌, ◌<◌, ◌≤◌, ◌+◌, ◌++◌, ℕ, IsTrue, IfOk, OnOk, List, length, take};
+ghost use Rattle.std.specs.Prelude.{◌≡◌, ◌≤◌, ◌+◌, ◌++◌, ℕ, IsTrue, OnOk, List, length, take};
 ghost use Rattle.site_core.specs.Causes.{HasCause};
 ghost use Rattle.site_core.specs.Moments.{IsStable, LeavesOnly};
 ghost use Rattle.site_core.specs.Frames.{WritesOnly};
@@ -21,36 +21,30 @@ use forest_commit::{Commit, finish};
 use forest_root::{Body, Forest, Store};
 use site_core::{Fault, Site};
 
-/// Commits what stands on the other side: the entries of the new names, this body, and its gate. It takes no memory. The store has all
-/// names already, and slices know them from now on.
+/// Commits what stands on the other side: the entries of the new names, this body, and its gate. It takes no memory.
 pub(crate) fn commit<T: Site>(
     site: &mut T,
-    store: Store,
+    store: &Store,
     names: &Text,
-    next: Body,
-) -> Result<Store, Fault>
-    requires next { IsNext store.forest.body names.now next }
-    requires names { next.names_len ≤ length (canonical store.forest.schema) + entries_len store.dicts }
+    next: &Body,
+) -> Result<(), Fault>
+    requires next { IsNext store.now.forest.body names.now next.now }
     requires root { IsTrue T.tells → RootIsStable (T.disk site.old) }
-    requires shut { IsTrue T.tells → IsShut (slot_of next) ((T.disk site.old).files 0) }
-    requires place { IsTrue T.tells → HasRoot store.forest.body (T.disk site.old).files }
+    requires shut { IsTrue T.tells → IsShut (slot_of next.now) ((T.disk site.old).files 0) }
+    requires place { IsTrue T.tells → HasRoot store.now.forest.body (T.disk site.old).files }
 
-    ensures committed { IsTrue T.tells → (accepted all : List facts.Fact) (old : ℕ) → IsLiveNow (held store.forest.schema accepted store.forest.body.last) old store.forest.body (T.disk site.old)
-        → IsBodyOf (held store.forest.schema all next.last) next → names_text store.forest.schema all ≡ names_text store.forest.schema accepted ++ names.now
-        → take (length (forest store.forest.schema all)) ((T.disk site.old).files (2 + slot_of next)) ≡ forest store.forest.schema all
-        → IfOk result (λ done. IsLive store.forest.schema done.forest.body all (T.disk site.new).files) }
-    ensures any_moment { IsTrue T.tells → (accepted all : List facts.Fact) (old : ℕ) → IsLiveNow (held store.forest.schema accepted store.forest.body.last) old store.forest.body (T.disk site.old)
-        → AreAccepted store.forest.schema all
-        → IsBodyOf (held store.forest.schema all next.last) next → names_text store.forest.schema all ≡ names_text store.forest.schema accepted ++ names.now
-        → take (length (forest store.forest.schema all)) ((T.disk site.old).files (2 + slot_of next)) ≡ forest store.forest.schema all
+    ensures committed { IsTrue T.tells → (accepted all : List facts.Fact) (old : ℕ) → IsLiveNow (held store.now.forest.schema accepted store.now.forest.body.last) old store.now.forest.body (T.disk site.old)
+        → IsBodyOf (held store.now.forest.schema all next.now.last) next.now → names_text store.now.forest.schema all ≡ names_text store.now.forest.schema accepted ++ names.now
+        → take (length (forest store.now.forest.schema all)) ((T.disk site.old).files (2 + slot_of next.now)) ≡ forest store.now.forest.schema all
+        → OnOk result (IsLive store.now.forest.schema next.now all (T.disk site.new).files) }
+    ensures any_moment { IsTrue T.tells → (accepted all : List facts.Fact) (old : ℕ) → IsLiveNow (held store.now.forest.schema accepted store.now.forest.body.last) old store.now.forest.body (T.disk site.old)
+        → AreAccepted store.now.forest.schema all
+        → IsBodyOf (held store.now.forest.schema all next.now.last) next.now → names_text store.now.forest.schema all ≡ names_text store.now.forest.schema accepted ++ names.now
+        → take (length (forest store.now.forest.schema all)) ((T.disk site.old).files (2 + slot_of next.now)) ≡ forest store.now.forest.schema all
         → LeavesOnly (T.disk site.old) (T.disk site.new) (λ told files.
-        (told ≡ (T.disk site.old).told) × KeepsEither store.forest.schema accepted store.forest.body.last all next.last files) }
+        (told ≡ (T.disk site.old).told) × KeepsEither store.now.forest.schema accepted store.now.forest.body.last all next.now.last files) }
 
-    ensures schema { IfOk result (λ done. done.forest.schema ≡ store.forest.schema) }
-    ensures body { IfOk result (λ done. done.forest.body ≡ next) }
-    ensures names { IfOk result (λ done. done.dicts ≡ store.dicts) }
-    ensures whole { IfOk result IsWhole }
-    ensures opened { IsTrue T.tells → IfOk result (λ done. IsOpened done.forest.body (T.disk site.new)) }
+    ensures opened { IsTrue T.tells → OnOk result (IsOpened next.now (T.disk site.new)) }
     ensures stable { IsTrue T.tells → OnOk result (IsStable (T.disk site.new)) }
     ensures told { IsTrue T.tells → (T.disk site.new).told ≡ (T.disk site.old).told }
     ensures calls { WritesOnly T.Site HasCause 3 site.old site.new result }
@@ -58,18 +52,30 @@ pub(crate) fn commit<T: Site>(
     let end = Commit {
         names_at: store.forest.body.names_len,
         entries: names.as_bytes(),
-        body: &next,
+        body: next,
     };
-    finish(site, &end)?;
+    finish(site, &end)
+}
+
+/// The store of the generation that has this body: slices know all its names.
+pub(crate) fn with_body(store: Store, body: Body) -> Store
+    requires next { (entries : List ℕ) × IsNext store.forest.body entries body }
+    requires names { body.names_len ≤ length (canonical store.forest.schema) + entries_len store.dicts }
+
+    ensures schema { result.forest.schema ≡ store.forest.schema }
+    ensures body { result.forest.body ≡ body }
+    ensures names { result.dicts ≡ store.dicts }
+    ensures whole { IsWhole result }
+{
     let shown = store.dicts.lengths();
     let forest = Forest {
         schema: store.forest.schema,
         mapping: store.forest.mapping,
-        body: next,
+        body,
     };
-    Ok(Store {
+    Store {
         forest,
         dicts: store.dicts,
         shown,
-    })
+    }
 }

@@ -15,7 +15,7 @@ ghost use Rattle.forest_store.specs.Opened.{IsOpened};
 ghost use Rattle.forest_store.specs.Sides.{page_total};
 ghost use Rattle.forest_store.specs.Stored.{IsStoreOf, IsWhole};
 ghost use Rattle.forest_refresh.specs.Back.{BeginCause, IsBack, IsCut};
-ghost use Rattle.forest_refresh.specs.Begun.{HasMoved, IsBegun, IsGoing, IsNextStore, IsReady, IsRefreshOf, StandsAt};
+ghost use Rattle.forest_refresh.specs.Begun.{HasMoved, IsBegun, IsGoing, IsNextBody, IsNextStore, IsReady, IsRefreshOf, StandsAt};
 ghost use Rattle.forest_refresh.specs.Limits.{IsBatchOf, TellsLimit};
 ghost use Rattle.forest_refresh.specs.Next.{last_behind};
 ghost use Rattle.forest_moves.specs.Forest.{forest_moves};
@@ -25,7 +25,7 @@ ghost use Rattle.forest_refresh.specs.Prepared.{begun_with};
 ghost use Rattle.forest_refresh.specs.Refreshed.{IsNoDamage, KeepsEither, NamesPageIn, SparesLive};
 ghost use Rattle.forest_refresh.specs.Trees.{AreAllWhole, TellsFirstDamage, deltas_by};
 
-use crate::committing::commit;
+use crate::committing::{commit, with_body};
 use crate::preparing::{Prepared, prepare};
 use crate::room::Room;
 use crate::stop::{BeginFault, BeginStop, RefreshStop};
@@ -212,25 +212,54 @@ impl Refresh {
         ensures told { IsTrue T.tells → (T.disk site.new).told ≡ (T.disk site.old).told }
         ensures calls { Calls T.Site (HasCauseWhere RefreshStop.Disk) (page_total self.store.forest.body self.store.forest.schema) site.old site.new result }
     {
-        let Refresh {
-            store,
-            deltas,
-            names,
-            next,
-            mut room,
-        } = self;
-        advance(
-            site,
-            &store.forest,
-            &deltas,
-            slot(&next),
-            u64::MAX,
-            &mut room,
-        )?;
-        let counts = view_counts(&store.forest, &room.rows);
-        let next = Body { counts, ..next };
-        match commit(site, store, &names, next) {
-            Ok(store) => Ok(store),
+        let mut refresh = self;
+        match refresh.end(site) {
+            Ok(body) => {
+                let Refresh { store, .. } = refresh;
+                Ok(with_body(store, body))
+            }
+            Err(stop) => {
+                drop(refresh);
+                Err(stop)
+            }
+        }
+    }
+
+    /// Makes the moves that are left, and commits the new trees; it answers the body that is live then.
+    fn end<T: Site>(&mut self, site: &mut T) -> Result<Body, RefreshStop>
+        requires goes { IsGoing self.old }
+        requires ready { IsTrue T.tells → IsReady self.old (T.disk site.old) }
+
+        ensures same { self.new ≡ record self.old { progress = self.new.progress } }
+        ensures next { IfOk result (IsNextBody self.old) }
+        ensures live { IsTrue T.tells → (accepted batch : List declared.Fact) → HoldsNow (IsRefreshOf self.old accepted batch) (T.disk site.old)
+            → IfOk result (λ body. IsLive self.old.store.forest.schema body (accepted ++ batch) (T.disk site.new).files) }
+        ensures undamaged { IsTrue T.tells → (accepted batch : List declared.Fact) → IsRefreshOf self.old accepted batch (T.disk site.old).files
+            → IfErr result IsNoDamage }
+        ensures any_moment { IsTrue T.tells → (accepted batch : List declared.Fact) → HoldsNow (IsRefreshOf self.old accepted batch) (T.disk site.old)
+            → LeavesOnly (T.disk site.old) (T.disk site.new) (λ told files.
+            (told ≡ (T.disk site.old).told) × KeepsEither self.old.store.forest.schema accepted self.old.store.forest.body.last (accepted ++ batch) self.old.next.last files) }
+        ensures cost { IsTrue T.tells → (accepted batch : List declared.Fact) → IsRefreshOf self.old accepted batch (T.disk site.old).files
+            → KeepsTo (forest_moves self.old.store.forest.schema accepted batch) self.old.progress.taken (length (forest_moves self.old.store.forest.schema accepted batch))
+            (T.reads site.old, T.writes site.old + 3) (T.reads site.new, T.writes site.new) }
+        ensures joined { IsTrue T.tells → OnOk result (AreAllWhole self.old.store.forest (T.disk site.old).files self.old.deltas) }
+        ensures spared { IsTrue T.tells → IfErr result (λ stop. stop ≢ RefreshStop.Disk → SparesLive self.old.store.forest.body (T.disk site.old) (T.disk site.new)) }
+        ensures damaged { IsTrue T.tells → IfErr result (TellsFirstDamage self.old.store.forest (T.disk site.old).files self.old.deltas) }
+        ensures place { IfErr result (NamesPageIn self.old.store.forest.body self.old.store.forest.schema) }
+        ensures opened { IsTrue T.tells → IfOk result (λ body. IsOpened body (T.disk site.new)) }
+        ensures stable { IsTrue T.tells → OnOk result (IsStable (T.disk site.new)) }
+        ensures told { IsTrue T.tells → (T.disk site.new).told ≡ (T.disk site.old).told }
+        ensures calls { Calls T.Site (HasCauseWhere RefreshStop.Disk) (page_total self.old.store.forest.body self.old.store.forest.schema) site.old site.new result }
+    {
+        self.step(site, u64::MAX)?;
+        let store = &self.store;
+        let counts = view_counts(&store.forest, &self.room.rows);
+        let next = Body {
+            counts,
+            ..self.next
+        };
+        match commit(site, store, &self.names, &next) {
+            Ok(()) => Ok(next),
             Err(Fault) => Err(RefreshStop::Disk),
         }
     }
