@@ -20,7 +20,8 @@ use Rattle.tree_pack.specs.Packing.{max_first}
 use Rattle.tree_pack.specs.Pages.{PointPage, pages_of as tree_pages_of}
 use Rattle.tree_pack.proofs.Bytes.{each-lawful}
 use Rattle.tree_scan.specs.Scanning.{entries_in, pages_in}
-use Rattle.tree_scan.proofs.Packed.{AreLawful as AreLawfulContents, packed-pages}
+use Rattle.tree_scan.specs.Packed.{AreLawful as AreLawfulContents}
+use Rattle.tree_scan.proofs.Packed.{packed-pages}
 use Rattle.forest_pages.specs.Forest.{body_counts, forest, views_over}
 use Rattle.forest_pages.proofs.Bounds.{pages-within}
 use Rattle.forest_pages.proofs.Bytes.{tree-lawful}

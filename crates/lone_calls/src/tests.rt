@@ -1,4 +1,4 @@
-//! What the plain list of facts answers, a slice that is written, and a script that is fed in pieces.
+//! What the plain list of facts answers, a slice that is written, a script that is fed in pieces, and a host that lacks a file.
 ghost use Rattle.std.specs.Prelude.{◌≡◌, [], ◌∷◌, IfOk};
 ghost use Rattle.fact_model.specs.declared.slice.Column.TheVariants.{Sum, Count};
 
@@ -6,7 +6,11 @@ use cube_schema::Schema;
 use fact_model::{
     Column, ColumnList, Fact, FactList, ListOf, Memory, Row, Slice, Text, Value, slow_slice,
 };
+use part_host::PartHost;
 use script_lang::{Command, Lines};
+use site_core::Site;
+use site_folder::FolderSite;
+use site_mem::MemorySite;
 use slice_lang::{read_slice, write_slice};
 use std::alloc::Global;
 use std::process::Abort;
@@ -89,5 +93,20 @@ fn a_script_is_fed_in_pieces(rt: HostRuntime) -> Result<(), Fail> {
     lines.end();
     assert!(rt; matches!(lines.next_command()?, Some(Command::Unknown)));
     assert!(rt; lines.next_command()?.is_none());
+    Ok(())
+}
+
+#[test]
+fn a_file_that_is_not_there_is_made_by_its_first_write(rt: HostRuntime) -> Result<(), Fail> {
+    let memory = MemorySite::new(rt.alloc());
+    let mut site = FolderSite::new(PartHost::without(memory, 3, 1));
+    let mut into = [0u8; 8];
+    assert_eq!(rt; site.length(1), Ok(0));
+    assert_eq!(rt; site.read(1, 0, &mut into), Ok(0));
+    assert_eq!(rt; site.sync(), Ok(()));
+    assert_eq!(rt; site.write(1, 0, b"bolts"), Ok(()));
+    assert_eq!(rt; site.sync(), Ok(()));
+    assert_eq!(rt; site.read(1, 0, &mut into), Ok(5));
+    assert_eq!(rt; &into[..5], b"bolts".as_slice());
     Ok(())
 }

@@ -1,5 +1,6 @@
 -- A run of moves over the files of a site.
-use Rattle.std.proofs.Common.{◌≡◌, ◌≢◌, ◌≤◌, ◌+◌, ◌*◌, ℕ, Bool, true, IsTrue, List, length, refl, ap, sym, ◌∙◌, subst}
+use Rattle.std.proofs.Common.{◌≡◌, ◌≢◌, ◌≤◌, ◌+◌, ◌*◌, ℕ, Bool, true, IsTrue, List, length, Result, Ok, Err, refl, ap, sym, ◌∙◌, subst}
+use Rattle.std.specs.Prelude.{IfOk, OnOk}
 use Rattle.site_core.specs.Calls.{Changes}
 use Rattle.site_core.proofs.Run.{Changes-then, Changes-wider}
 use Rattle.site_core.specs.Disk.{Disk, Files, Torn, overwritten, DiffersPast}
@@ -13,7 +14,7 @@ use Rattle.tree_scan.specs.Streaming.{Scanned}
 use Rattle.tree_scan.specs.declared.stop.ScanStop.{ScanStop}
 use Rattle.merge_pack.specs.declared.side.Advance.{Advance}
 use Rattle.merge_pack.specs.declared.side.Advance.TheVariants as advances
-use Rattle.merge_pack.specs.Building.{IsBuilding, IsBuilt, IsCounted, IsDamaged}
+use Rattle.merge_pack.specs.Building.{BuildsOn, EndsBuilt, IsBuilding, IsBuilt, IsCounted, IsDamaged}
 use Rattle.merge_pack.specs.Merging.{Goes, Merger, Merging, closes_full, closes_last, closes_leaf, closes_rest, is_done, moves_point, needs_page, turns_leaf, merging_of, page_of}
 use Rattle.merge_pack.specs.Safe.{IsSafe}
 use Rattle.merge_pack.specs.Between.{word_of}
@@ -100,6 +101,23 @@ module _ (begun now next : Files) (start v w : Merger) (new : List Entry) (a : A
         let goes = done-goes true (begun start.scan.file) v w new a known done in
         subst (λ (s : Shape). IsCounted (begun start.scan.file) s old_first total new w) (same.shape ∙ shape)
         (done-counted (begun start.scan.file) old_first total first new front (next start.file) (count + length (word_of a)) w safe_next builds (merging_of w new) advances.Done goes refl)
+
+-- a move of its own
+module _ (before after : Files) (v w : Merger) (new : List Entry) (tells : Bool) (telling : IsTrue tells) (apart : v.file ≢ v.scan.file) (safe : IsSafe v new) (reach : PAGE * v.at.next_page ≤ length (before v.file)) where
+  pub move-builds : (result : Result Advance ScanStop) → IfOk result (λ a. Steps tells (before v.scan.file) v new a w) → IfOk result (λ a. after ≡ files_after a v.file v.at.next_page (page_of a v.at) before)
+      → IfOk result (λ a. length (page_of a v.at) ≡ 4096 * pages_made a) → IfOk result (λ a. BuildsOn (before v.scan.file) new (length (word_of a)) (before v.file) v (after v.file) w)
+  move-builds (Ok a) steps files long = λ old_first total first count front is.
+      builds-next before before after v v w new a refl refl refl (λ g not. refl) files tells telling apart safe steps old_first total first count front is reach long
+  move-builds (Err stop) steps files long = tt
+
+  -- the last one
+  pub move-built : (result : Result Advance ScanStop) → IfOk result (λ a. Steps tells (before v.scan.file) v new a w) → IfOk result (λ a. after ≡ files_after a v.file v.at.next_page (page_of a v.at) before)
+      → IfOk result (λ a. length (page_of a v.at) ≡ 4096 * pages_made a) → OnOk result (IsSafe w new) → IfOk result (λ a. a ≡ advances.Done → EndsBuilt (before v.scan.file) new (before v.file) v (after v.file) w)
+  move-built (Ok a) steps files long safe_next = λ done old_first total first count front is. (
+    built-all before before after v v w new a refl refl refl (λ g not. refl) files tells telling apart safe steps old_first total first count front is reach long done safe_next,
+    counted-all before before after v v w new a refl refl refl (λ g not. refl) files tells telling apart safe steps old_first total first count front is reach long done safe_next,
+  )
+  move-built (Err stop) steps files long safe_next = tt
 
 -- where the run stops
 pub stops-next : (begun now : Files) (start v : Merger) (new : List Entry) (old_file : v.scan.file ≡ start.scan.file) (shape : v.scan.shape ≡ start.scan.shape) → ((g : ℕ) → g ≢ start.file → now g ≡ begun g)

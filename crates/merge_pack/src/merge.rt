@@ -20,8 +20,8 @@ ghost use Rattle.page_fmt.specs.declared.page.Place as places;
 ghost use Rattle.tree_pack.specs.Pages.{Views};
 ghost use Rattle.tree_scan.specs.Scanning.{NamesPage, pages_in};
 ghost use Rattle.tree_scan.specs.Streaming.{HasTaken, at_start};
-ghost use Rattle.merge_pack.specs.Building.{IsBuilding, IsBuilt, IsCounted, IsDamaged, MayMerge};
-ghost use Rattle.merge_pack.specs.Between.{IsMergeInto, moves_of};
+ghost use Rattle.merge_pack.specs.Building.{BuildsOn, EndsBuilt, IsBuilding, IsBuilt, IsCounted, IsDamaged, MayMerge};
+ghost use Rattle.merge_pack.specs.Between.{IsMergeInto, moves_of, word_of};
 ghost use Rattle.merge_pack.specs.Safe.{IsSafe, MayCount, falls};
 ghost use Rattle.merge_pack.specs.Standing.{HasEnded, IsMergeOf, IsMerged, moves_tried};
 ghost use Rattle.merge_pack.specs.Stepping.{HasRefused, HasStopped, HasTried, Steps, files_after, made_last, pages_made, pages_read};
@@ -392,8 +392,8 @@ impl Merge {
         self.new_counts
     }
 
-    /// Makes the next move, with at most one call on a file: the write of the page that was made, or the read of the next old page. It
-    /// takes no memory.
+    /// Makes the next move, with at most one call on a file: the write of the page that was made, or the read of the next old page. At
+    /// `Done` the tree of the old and the new points stands there whole. It takes no memory.
     ///
     /// `Damaged` names the old page that was to be read, where it is refused, or the one that was read last, where a cell of its next point
     /// does not join with that of the new point there.
@@ -402,6 +402,10 @@ impl Merge {
         requires place { IsTrue T.tells → 4096 * self.old.at.next_page ≤ length ((T.disk site.old).files self.old.file) }
 
         ensures steps { IfOk result (λ advance. Steps T.tells ((T.disk site.old).files self.old.scan.file) self.old delta.now advance self.new) }
+        ensures builds { IsTrue T.tells → self.old.file ≢ self.old.scan.file → IfOk result (λ advance. BuildsOn ((T.disk site.old).files self.old.scan.file) delta.now
+            (length (word_of advance)) ((T.disk site.old).files self.old.file) self.old ((T.disk site.new).files self.old.file) self.new) }
+        ensures built { IsTrue T.tells → self.old.file ≢ self.old.scan.file → IfOk result (λ advance. advance ≡ Advance.Done → EndsBuilt
+            ((T.disk site.old).files self.old.scan.file) delta.now ((T.disk site.old).files self.old.file) self.old ((T.disk site.new).files self.old.file) self.new) }
         ensures stopped { IfErr result (HasStopped T.tells ((T.disk site.old).files self.old.scan.file) self.old delta.now) }
         ensures tried { OnErr result (HasTried self.old delta.now (T.reads site.old, T.writes site.old) (T.reads site.new, T.writes site.new)) }
         ensures safe { OnOk result (IsSafe self.new delta.now) }

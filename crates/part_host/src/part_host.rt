@@ -1,6 +1,6 @@
 //! Each call of a host as a part of one of a site.
 ghost use Rattle.std.specs.Prelude.{◌≡◌, ◌<◌, ◌+◌, IsTrue, IfOk, IsErr, OnErr};
-ghost use Rattle.part_host.specs.Flags.{AreHonest, flags_ledger};
+ghost use Rattle.part_host.specs.Flags.{AreAbsent, AreHonest, HaveNothing, IsAbsent, flags_ledger};
 
 use site_core::{Fault, Site};
 use site_folder::Host;
@@ -11,6 +11,7 @@ use std::io;
 pub struct PartHost<T: Site> {
     pub site: T,
     most: usize,
+    is_there: [bool; 4],
     synced: [bool; 4],
     /// How often a sync of each file was asked for.
     asked: [u64; 4],
@@ -18,6 +19,8 @@ pub struct PartHost<T: Site> {
     far: u64,
     ghost some: { 0 < most },
     ghost honest: { IsTrue T.tells → AreHonest synced (T.disk site) },
+    ghost absent: { IsTrue T.tells → AreAbsent is_there (T.disk site) },
+    ghost nothing: { HaveNothing is_there synced },
 }
 
 impl<T: Site> PartHost<T> {
@@ -29,7 +32,29 @@ impl<T: Site> PartHost<T> {
         PartHost {
             site,
             most,
+            is_there: [true; 4],
             synced: [false; 4],
+            asked: [0; 4],
+            far: 0,
+        }
+    }
+
+    /// The same where this file is not there until it is made. So there is nothing of it to sync.
+    pub fn without(site: T, most: usize, file: u32) -> PartHost<T>
+        requires some { 0 < most }
+        requires file { file < 4 }
+        requires absent { IsTrue T.tells → IsAbsent file (T.disk site) }
+        ensures { result.site ≡ site }
+    {
+        let mut is_there = [true; 4];
+        let mut synced = [false; 4];
+        is_there[file as usize] = false;
+        synced[file as usize] = true;
+        PartHost {
+            site,
+            most,
+            is_there,
+            synced,
             asked: [0; 4],
             far: 0,
         }
@@ -52,7 +77,7 @@ impl<T: Site> Host for PartHost<T> {
 
     ghost disk = { λ h. T.disk h.site };
 
-    ghost ledger = { λ h. flags_ledger h.synced h.asked };
+    ghost ledger = { λ h. flags_ledger h.is_there h.synced h.asked };
 
     ghost disk_faults = { λ h. T.disk_faults h.site + h.far };
 
@@ -66,11 +91,15 @@ impl<T: Site> Host for PartHost<T> {
 
     ghost stable_now = { λ h tells synced. h.honest tells synced.files };
 
-    fn open(&mut self, _file: u32) -> io::Result<()> {
-        Ok(())
+    fn open(&mut self, file: u32) -> io::Result<()> {
+        if self.is_there[file as usize] {
+            return Ok(());
+        }
+        Err(io::ErrorKind::NotFound.into())
     }
 
-    fn make(&mut self, _file: u32) -> io::Result<()> {
+    fn make(&mut self, file: u32) -> io::Result<()> {
+        self.is_there[file as usize] = true;
         Ok(())
     }
 

@@ -1,9 +1,12 @@
 //! The old points of a tree, lent from the page that was read last.
 
-ghost use Rattle.std.specs.Prelude.{◌≡◌, ◌<◌, ◌≤◌, ◌+◌, ◌^◌, [], drop, length, IsTrue, IfOk, IfErr, OnOk, OnErr};
+ghost use Rattle.std.specs.Prelude.{◌≡◌, ◌<◌, ◌≤◌, ◌+◌, ◌^◌, ℕ, List, [], drop, length, IsTrue, IfOk, IfErr, OnOk, OnErr};
 ghost use Rattle.site_core.specs.Causes.{HasCauseWhere};
 ghost use Rattle.site_core.specs.Frames.{LooksOnly};
 ghost use Rattle.page_fmt.specs.Writing.{IsShape};
+ghost use Rattle.cube_point.specs.declared.point.Entry as declared;
+ghost use Rattle.page_fmt.specs.Lawful.{Content};
+ghost use Rattle.tree_scan.specs.Packed.{ArePacked, IsNextOf, WillGive, points_in};
 ghost use Rattle.tree_scan.specs.Scanning.{ArePoints, NamesPage};
 ghost use Rattle.page_fmt.specs.InFiles.{HasRead};
 ghost use Rattle.tree_scan.specs.Streaming.{HasTaken, IsHeld, IsRefused, Scanned, at_start, first_of, held_of, last_point};
@@ -58,12 +61,14 @@ impl Scan {
         })
     }
 
-    /// Begins a tree of so many pages of a file, from page `first` on. No page is read yet.
+    /// Begins a tree of so many pages of a file, from page `first` on. No page is read yet. Where the pages are packed, all their points will be
+    /// given, each once and in order, and no damage is told.
     pub fn start(&mut self, file: u32, first: u64, pages: u64, shape: Shape)
         requires file { file < 4 }
         requires few { first + pages ≤ 2 ^ 50 }
         requires shape { IsShape shape }
-        ensures { self.new ≡ at_start shape file first pages }
+        ensures begun { self.new ≡ at_start shape file first pages }
+        ensures packed { (bytes : List ℕ) (contents : List Content) → length contents ≡ pages → ArePacked shape bytes first contents → WillGive bytes self.new (points_in contents) }
     {
         self.shape = shape;
         self.index = 0;
@@ -76,7 +81,8 @@ impl Scan {
 
     /// The next point, where it lies.
     pub fn next(&self) -> Option<Coded<'_>>
-        ensures { result ≡ first_of self.now.held }
+        ensures held { result ≡ first_of self.now.held }
+        ensures packed { (bytes : List ℕ) (es : List declared.Entry) → WillGive bytes self.now es → IsNextOf result self.now.left es }
     {
         if self.index < self.count {
             Some(lent_entry(&self.page, &self.shape, self.index))
@@ -88,7 +94,8 @@ impl Scan {
     /// Passes over the next point.
     pub fn skip(&mut self)
         requires { 0 < length self.old.held }
-        ensures { self.new ≡ record self.old { held = drop 1 self.old.held } }
+        ensures passed { self.new ≡ record self.old { held = drop 1 self.old.held } }
+        ensures packed { (bytes : List ℕ) (es : List declared.Entry) → WillGive bytes self.old es → WillGive bytes self.new (drop 1 es) }
     {
         self.index += 1;
     }
@@ -119,6 +126,10 @@ impl Scan {
         ensures taken { OnOk result (HasTaken T.tells ((T.disk site.old).files self.old.file) self.old self.new) }
         ensures refused { IfErr result (IsRefused T.tells ((T.disk site.old).files self.old.file) self.old) }
         ensures kept { OnErr result (self.new ≡ self.old) }
+        ensures packed { IsTrue T.tells → OnOk result ((es : List declared.Entry)
+            → WillGive ((T.disk site.old).files self.old.file) self.old es → WillGive ((T.disk site.old).files self.old.file) self.new es) }
+        ensures undamaged { IsTrue T.tells → (es : List declared.Entry)
+            → WillGive ((T.disk site.old).files self.old.file) self.old es → IfErr result (λ stop. stop ≡ ScanStop.Disk) }
 
         // Whatever the file holds.
         ensures looks { LooksOnly T.Site (HasCauseWhere ScanStop.Disk) 1 site.old site.new result }
