@@ -1,179 +1,85 @@
 -- A batch is made pending: an empty one, or one that has begun.
-use Rattle.std.proofs.Common.{◌≡◌, ◌∙◌, IsTrue, Global, Vec, ℕ, inr, List, [], Option, Some, Ok, Err, refl, sym, ap, arith, subst}
-use Rattle.std.specs.Prelude.{codes}
-use Rattle.site_core.specs.declared.site.Site.{Ghosts}
-use Rattle.forest_refresh.specs.Begun.{Begun}
-use Rattle.forest_root.specs.declared.body.Body.{Body}
-use Rattle.forest_root.specs.declared.forest.Forest.{Forest}
-use Rattle.page_cache.specs.Giving.{Cache}
-use Rattle.reply_text.specs.Replies.{line}
-use Rattle.script_lang.specs.declared.command.Block.{Block}
 use Rattle.script_lang.specs.declared.command.Command.TheVariants as says
-use Rattle.plain_machine.specs.declared.batch_source.BatchSource.TheVariants.{Rows}
-use Rattle.plain_machine.specs.Machine.{Answer, Given, act, begun}
-use Rattle.plain_machine.proofs.Acts.{act_begin}
-use Rattle.cube_state.specs.declared.state.State.{State}
-use Rattle.cube_state.specs.declared.state.State.TheVariants.{Hollow, Idle, Pending}
-use Rattle.cube_state.specs.declared.stop.Stop.{Stop}
-use Rattle.cube_state.specs.Batches.{BeginGives, GivesBegun}
-use Rattle.cube_state.specs.Cached.{Fits, FitsLive, SideStays, generation, live_file, live_of}
-use Rattle.cube_state.specs.Carried.{CarriesOut, CarriesOutAlone, IsReadyFor, Reply}
-use Rattle.cube_state.specs.Frames.{RunsOn}
-use Rattle.cube_state.specs.Moves.{moves_made}
-use Rattle.cube_state.specs.Session.{AttendsAs, IsAnswer, Stands}
-use Rattle.cube_state.proofs.Cached.{kept_same, live_no_root, side_fits}
-use Rattle.cube_state.proofs.Costs.{spends_none}
-use Rattle.cube_state.proofs.Looking.{quiet_on}
-use Rattle.cube_batches.specs.Committing.{SaysOnly}
-use Rattle.cube_batches.specs.Dropping.{hollow_of}
-use Rattle.cube_batches.specs.Taking.{TakesIn}
-use Rattle.cube_batches.specs.declared.taking.Taken.TheVariants.{Empty as Nothing, Begun as Began}
-use Rattle.cube_batches.proofs.Sent.{asked_spends, runs_out}
-use Rattle.cube_batches.proofs.Sources.{Sends, begin_answer, begin_sends, begins_is, goes_nowhere, rows_last}
+use Rattle.cube_state.specs.declared.stop.Stop.TheVariants as stops
+use Rattle.cube_batches.proofs.Names.{◌≡◌, AttendsAs, BeginGives, Begun, Block, Cache, CarriesOut, CarriesOutAlone, Err, ForEach, Forest, Ghosts, Given, GivesBegun, Global, HasBegun, HasNone}
+use Rattle.cube_batches.proofs.Names.{Hollow, Idle, IsReadyFor, IsTrue, Ok, OnlyNow, Pending, Reply, Rows, RunsFor, SaysOnly, Some, State, Store, Vec, [], act, ap, arith, begun, beside, both}
+use Rattle.cube_batches.proofs.Names.{codes, given_to, hollow_of, inr, line, live_file, live_no_root, live_of, quiet_on, quiet_out, refl, replied, runs_out, spends_more, still, stopped, subst}
+use Rattle.cube_batches.proofs.Names.{sym, unharmed, ℕ}
+use Rattle.cube_batches.proofs.Calls.{answered_by, says_either}
+use Rattle.cube_batches.proofs.Sources.{begin_answer, begin_sends, begins_is, rows_last}
+use Rattle.cube_batches.proofs.Takings.{begun_fits}
+use Rattle.cube_batches.proofs.Loads.{done_none, empty_fitting}
 
-module _ {S : Type 0} (T : Ghosts S) (block : Block) (state next final : State) (old new : S) where
-  abbrev sends : Sends (says.Begin block) (Rows block)
-  sends = begin_sends block
+-- ---- it is empty
 
-  -- ---- it is empty
+module _ {S : Type 0} (T : Ghosts S) (block : Block) (site : S) (cache : Cache) (only : IsTrue T.tells → OnlyNow (T.disk site)) (store : Store)
+    (given : given_to store (Rows block) ≡ Ok ([], store.forest.body.last)) where
+  hollows : IsReadyFor T site cache (Idle store) → (reply : Vec ℕ Global) → reply.items ≡ line (codes "begun") → CarriesOut T (says.Begin block) (Idle store) (Hollow store) site site cache cache (Ok reply)
+  hollows ready reply said =
+      let gives : BeginGives (Idle store) block reply.items = subst (λ (g : Given). GivesBegun store g reply.items) (sym given) (inr said) in
+      still T (says.Begin block) (λ schema. refl) (Idle store) (Hollow store) site only cache ready reply (record {
+        answer = λ t world stands. (let fits = empty_fitting (Rows block) store (T.disk site) given world stands in
+            answered_by (T.disk site) (act world (says.Begin block)) (begun world []) (Hollow store) reply.items (begin_answer world block stands.0 [] stands.0.last fits)
+            (stands.0, record { kept = stands.1.kept; pending = refl }, stands.2) said);
+        moved = λ t world stands. refl;
+        uncalled = λ t world stands none. refl;
+        answered = λ t. gives;
+        runs = record { running = ready.runs.running; fit = ready.runs.fit };
+        made = λ no. refl;
+        said = λ alone files. gives;
+      }) refl
 
-  module _ (takes : TakesIn T (Rows block) state next old new (Ok Nothing)) (hollow : final ≡ hollow_of next) where
-    now_hollow : final ≡ Hollow takes.taken.store
-    now_hollow = hollow ∙ ap hollow_of (takes.taken.stays ∙ takes.taken.idle)
+  hollows_or_out : IsReadyFor T site cache (Idle store) → (result : Reply) → SaysOnly (line (codes "begun")) result → CarriesOut T (says.Begin block) (Idle store) (Hollow store) site site cache cache result
+  hollows_or_out ready = says_either (CarriesOut T (says.Begin block) (Idle store) (Hollow store) site site cache cache) (line (codes "begun")) (hollows ready)
+      (runs_out T (says.Begin block) (Idle store) site cache only ready (Hollow store))
 
-    same_live : live_of final ≡ live_of state
-    same_live = ap live_of now_hollow ∙ sym (ap live_of takes.taken.idle)
+pub begins_none : {S : Type 0} (T : Ghosts S) (block : Block) (state next final : State) (old new : S) → (IsTrue T.tells → OnlyNow (T.disk old)) → HasNone (Rows block) state next old new
+    → final ≡ hollow_of next → (result : Reply) → SaysOnly (line (codes "begun")) result → CarriesOutAlone T (says.Begin block) state final old new result
+begins_none T block state next final old new only is hollow result said = λ cache ready.
+    subst (λ (f : State). CarriesOut T (says.Begin block) state f old new cache cache result) (sym hollow)
+    (done_none (Rows block) state next old new is (λ s n site. IsReadyFor T old cache s → CarriesOut T (says.Begin block) s (hollow_of n) old site cache cache result)
+    (λ here. hollows_or_out T block old cache only is.store is.given here result said) ready)
 
-    hollow_runs : RunsOn T old state → RunsOn T new final
-    hollow_runs runs =
-        let is = takes.taken in
-        let before : RunsOn T old (Idle is.store) = subst (RunsOn T old) is.idle runs in
-        subst (λ (s : S). RunsOn T s final) (sym is.same) (subst (RunsOn T old) (sym now_hollow) (record { running = before.running; fit = before.fit }))
+-- ---- it has begun
 
-    hollow_gives : (reply : List ℕ) → reply ≡ line (codes "begun") → BeginGives state block reply
-    hollow_gives reply said =
-        let is = takes.taken in
-        subst (λ (s : State). BeginGives s block reply) (sym is.idle) (subst (λ (g : Given). GivesBegun is.store g reply) (sym is.given) (inr said))
+module _ {S : Type 0} (T : Ghosts S) (block : Block) (store : Store) (old new : S) (r : Begun) (is : HasBegun T (Rows block) store old new r) where
+  begin_runs : ForEach T (Idle store) old (RunsFor T (says.Begin block) (Idle store) old new)
+  begin_runs t world stands = record {
+    any_moment = is.any_moment t stands.0 stands.2 world (act world (says.Begin block)).0 stands.1.kept;
+    cost = λ cost costs. (let least = (begin_sends block).costs world 0 cost costs stands.0 is.batch is.last (begun_fits T (Rows block) store old new r is t world stands) is.some in
+        spends_more T (record { reads = 1; writes = 1 }) cost old new least.0 least.1 is.spent);
+  }
 
-    begins_empty : (cache : Cache) → IsReadyFor T old cache state → (reply : Vec ℕ Global) → reply.items ≡ line (codes "begun")
-        → CarriesOut T (says.Begin block) state final old new cache cache (Ok reply)
-    begins_empty cache ready reply said =
-        let is = takes.taken in
-        record {
-          by_world = λ t world stands. (let for = takes.by_world t world stands in let its = for.taken in record {
-            answer = subst (λ (a : Answer). IsAnswer (T.disk new) a final reply.items)
-                (sym (act_begin world block ∙ begin_answer world block its.warehouse [] its.warehouse.last its.fitting)) (record {
-                  stands = subst (λ (s : State). Stands s (T.disk new) (begun world []).0) (sym (hollow ∙ ap hollow_of its.is))
-                      (its.warehouse, record { kept = its.fitting.knows.kept; pending = refl }, its.belongs);
-                  said = said;
-                });
-            any_moment = for.any_moment (act world (says.Begin block)).0;
-            undamaged = tt;
-            moved = ap moves_made now_hollow ∙ sym (ap moves_made is.idle);
-            cost = λ cost costs. spends_none T cost old new is.same;
-            uncalled = λ none. is.same;
-            saves = λ numbers goes. absurd (goes_nowhere (says.Begin block) sends.none_asked world numbers goes);
-            keeps = λ numbers goes. absurd (goes_nowhere (says.Begin block) sends.none_asked world numbers goes);
-          });
-          any_files = λ t. record {
-            damage = tt;
-            answered = hollow_gives reply.items said;
-            spared = tt;
-            looks = λ none. absurd (none tt);
-            fits = subst (λ (s : S). Fits final (T.disk s).files cache) (sym is.same) (subst (λ (l : Option Body). FitsLive l (T.disk old).files cache) (sym same_live) (ready.fits t));
-          };
-          goes_on = record {
-            runs = hollow_runs ready.runs;
-            cache = λ none. sym (kept_same (live_of state) (live_of final) cache (ap generation same_live));
-            capacity = refl;
-            unwritten = λ none. absurd (none tt);
-            quiet = quiet_on takes.quiet;
-          };
-          leaves = record {
-            made = λ no. ap moves_made now_hollow ∙ sym (ap moves_made is.idle);
-            live = λ same. same_live;
-            harmless = λ none. tt;
-            said = λ alone files. hollow_gives reply.items said;
-            unasked = λ none nothing. absurd (none tt);
-            fits = λ t none. absurd (none tt);
-            side = λ t same. subst (λ (s : S). SideStays (live_of state) (T.disk old).files (T.disk s).files) (sym is.same) refl;
-            step_side = λ t step. absurd step;
-          };
-        }
+  begins_some : CarriesOutAlone T (says.Begin block) (Idle store) (Pending r) old new (Err stops.Memory)
+      × ((reply : Vec ℕ Global) → reply.items ≡ line (codes "begun") → CarriesOutAlone T (says.Begin block) (Idle store) (Pending r) old new (Ok reply))
+  begins_some = (
+    λ cache ready. stopped T (says.Begin block) (λ schema. refl) (Idle store) (Pending r) old new tt cache cache refl stops.Memory begin_runs
+        (unharmed T (says.Begin block) (λ schema. refl) (Idle store) (Pending r) old new stops.Memory tt (λ t step. absurd step)) (quiet_out is.quiet),
+    λ reply said cache ready.
+        let gives : BeginGives (Idle store) block reply.items = subst (λ (g : Given). GivesBegun store g reply.items) (sym is.given) (inr said) in
+        replied T (says.Begin block) (λ schema. refl) (Idle store) (Pending r) old new cache cache reply begin_runs (record {
+          answer = λ t world stands. (let fits = begun_fits T (Rows block) store old new r is t world stands in
+              answered_by (T.disk new) (act world (says.Begin block)) (begun world is.batch) (Pending r) reply.items (begin_answer world block stands.0 is.batch is.last fits) (
+                stands.0,
+                is.batch,
+                record { kept = stands.1.kept; pending = refl },
+                subst (λ n. AttendsAs n r (T.disk new) stands.0 is.batch) (rows_last stands.0.schema stands.0.last is.last block is.batch fits.read) (is.attends t stands.0 stands.2),
+              ) said);
+          moved = λ t world stands. is.none_made;
+          uncalled = λ t world stands none. absurd (omega (arith, none, begins_is world block stands.0 is.batch is.last (begun_fits T (Rows block) store old new r is t world stands) is.some));
+          answered = λ t. gives;
+          runs = record { running = is.goes; fit = is.ready };
+          made = λ no. is.none_made;
+          said = λ alone files. gives;
+        })
+        (beside T (says.Begin block) (λ schema. refl) (Idle store) (Pending r) old new cache ready (ap (λ (f : Forest). Some f.body) is.forest)
+        (λ t. (is.closes t).range.others (live_file (live_of (Idle store))) (live_no_root (live_of (Idle store)))) (λ no. absurd (no tt)))
+        (quiet_on is.quiet),
+  )
 
-    pub begins_none : (result : Reply) → SaysOnly (line (codes "begun")) result → CarriesOutAlone T (says.Begin block) state final old new result
-    begins_none (Ok reply) said = λ cache ready. begins_empty cache ready reply said
-    begins_none (Err stop) said = λ cache ready.
-        subst (λ (s : Stop). CarriesOut T (says.Begin block) state final old new cache cache (Err s)) (sym said)
-        (runs_out T (says.Begin block) (Rows block) sends state next old new cache final Nothing takes)
-
-  -- ---- it has begun
-
-  module _ (r : Begun) (takes : TakesIn T (Rows block) state next old new (Ok (Began r))) (pending : final ≡ Pending r) where
-    begun_live : live_of final ≡ live_of state
-    begun_live = ap live_of pending ∙ (ap (λ (f : Forest). Some f.body) takes.taken.forest ∙ sym (ap live_of takes.taken.idle))
-
-    begun_fits : (t : IsTrue T.tells) (cache : Cache) → Fits state (T.disk old).files cache → Fits final (T.disk new).files cache
-    begun_fits t cache fits =
-        subst (λ (l : Option Body). FitsLive l (T.disk new).files cache) (sym begun_live)
-        (side_fits (live_of state) (T.disk old).files (T.disk new).files cache ((takes.taken.closes t).range.others (live_file (live_of state)) (live_no_root (live_of state))) fits)
-
-    begun_gives : (reply : List ℕ) → reply ≡ line (codes "begun") → BeginGives state block reply
-    begun_gives reply said =
-        let is = takes.taken in
-        subst (λ (s : State). BeginGives s block reply) (sym is.idle) (subst (λ (g : Given). GivesBegun is.store g reply) (sym is.given) (inr said))
-
-    begins_some : (cache : Cache) → IsReadyFor T old cache state → (reply : Vec ℕ Global) → reply.items ≡ line (codes "begun")
-        → CarriesOut T (says.Begin block) state final old new cache cache (Ok reply)
-    begins_some cache ready reply said =
-        let is = takes.taken in
-        record {
-          by_world = λ t world stands. (let for = takes.by_world t world stands in let warehouse = for.taken.0 in let batch = for.taken.1 in let fitting = for.taken.3 in record {
-            answer = subst (λ (a : Answer). IsAnswer (T.disk new) a final reply.items) (sym (act_begin world block ∙ begin_answer world block warehouse batch for.taken.2 fitting)) (record {
-              stands = subst (λ (s : State). Stands s (T.disk new) (begun world batch).0) (sym pending) (
-                warehouse,
-                batch,
-                record { kept = fitting.knows.kept; pending = refl },
-                subst (λ n. AttendsAs n r (T.disk new) warehouse batch) (rows_last warehouse.schema warehouse.last for.taken.2 block batch fitting.read) for.taken.4,
-              );
-              said = said;
-            });
-            any_moment = for.any_moment (act world (says.Begin block)).0;
-            undamaged = tt;
-            moved = ap moves_made pending ∙ (is.none_made ∙ sym (ap moves_made is.idle));
-            cost = λ cost costs. asked_spends T (says.Begin block) (Rows block) sends state next old new cache world (moves_made state) cost costs for.asks;
-            uncalled = λ none. absurd (omega (arith, none, begins_is world block warehouse batch for.taken.2 fitting for.taken.4.some));
-            saves = λ numbers goes. absurd (goes_nowhere (says.Begin block) sends.none_asked world numbers goes);
-            keeps = λ numbers goes. absurd (goes_nowhere (says.Begin block) sends.none_asked world numbers goes);
-          });
-          any_files = λ t. record {
-            damage = tt;
-            answered = begun_gives reply.items said;
-            spared = tt;
-            looks = λ none. absurd (none tt);
-            fits = begun_fits t cache (ready.fits t);
-          };
-          goes_on = record {
-            runs = subst (RunsOn T new) (sym pending) (record { running = is.goes; fit = is.ready });
-            cache = λ none. sym (kept_same (live_of state) (live_of final) cache (ap generation begun_live));
-            capacity = refl;
-            unwritten = λ none. absurd (none tt);
-            quiet = quiet_on takes.quiet;
-          };
-          leaves = record {
-            made = λ no. ap moves_made pending ∙ (is.none_made ∙ sym (ap moves_made is.idle));
-            live = λ same. begun_live;
-            harmless = λ none. tt;
-            said = λ alone files. begun_gives reply.items said;
-            unasked = λ none nothing. absurd (none tt);
-            fits = λ t none. absurd (none tt);
-            side = λ t same. (is.closes t).range.others (live_file (live_of state)) (live_no_root (live_of state));
-            step_side = λ t step. absurd step;
-          };
-        }
-
-    pub begins_on : (result : Reply) → SaysOnly (line (codes "begun")) result → CarriesOutAlone T (says.Begin block) state final old new result
-    begins_on (Ok reply) said = λ cache ready. begins_some cache ready reply said
-    begins_on (Err stop) said = λ cache ready.
-        subst (λ (s : Stop). CarriesOut T (says.Begin block) state final old new cache cache (Err s)) (sym said)
-        (runs_out T (says.Begin block) (Rows block) sends state next old new cache final (Began r) takes)
+pub begins_on : {S : Type 0} (T : Ghosts S) (block : Block) (state final : State) (old new : S) (r : Begun) → (store : Store) × (state ≡ Idle store) × HasBegun T (Rows block) store old new r
+    → final ≡ Pending r → (result : Reply) → SaysOnly (line (codes "begun")) result → CarriesOutAlone T (says.Begin block) state final old new result
+begins_on T block state final old new r is pending result said =
+    let both = begins_some T block is.0 old new r is.2 in
+    subst (λ (s : State × State). CarriesOutAlone T (says.Begin block) s.0 s.1 old new result) (λ i. (sym is.1 i, sym pending i))
+    (says_either (CarriesOutAlone T (says.Begin block) (Idle is.0) (Pending r) old new) (line (codes "begun")) both.1 both.0 result said)

@@ -1,4 +1,3 @@
-pub mod Answers
 pub mod Begins
 pub mod Begun
 pub mod Calls
@@ -7,8 +6,9 @@ pub mod Costs
 pub mod Ends
 pub mod Limits
 pub mod Loads
+pub mod Names
 pub mod Nexts
+pub mod Nothings
 pub mod Rooted
-pub mod Sent
 pub mod Sources
 pub mod Takings
