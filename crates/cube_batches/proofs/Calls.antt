@@ -1,8 +1,10 @@
 -- Calls one after another, and what they leave of the files.
 use Rattle.cube_state.specs.declared.stop.Stop.TheVariants as stops
-use Rattle.cube_batches.proofs.Names.{◌%◌, ◌+◌, ◌∙◌, ◌≡◌, ◌≢◌, Answer, Between, Body, ClosesGate, Disk, Err, Files, Ghosts, Global, IsAnswer, IsQuiet, KeepsEither, List, Ok, Reply, Result}
-use Rattle.cube_batches.proofs.Names.{SaysOnly, Some, Spares, SparesOthers, Stands, State, Stop, StopCause, Vec, World, arith, both, joined, next_side, quiet, refl, subst, sym, wider, with_file}
-use Rattle.cube_batches.proofs.Names.{with_file-other, ℕ}
+use Rattle.forest_refresh.specs.declared.stop.RefreshStop.TheVariants as ends
+use Rattle.cube_batches.proofs.Names.{◌%◌, ◌+◌, ◌∙◌, ◌≡◌, ◌≢◌, Answer, AreAllWhole, Begun, Between, Body, ClosesGate, Disk, Err, Fact, Files, Forest, Ghosts, Global, IsAnswer, IsQuiet}
+use Rattle.cube_batches.proofs.Names.{KeepsEither, List, Ok, Reply, Result, SaysOnly, Some, Spares, SparesOthers, Stands, State, Stop, StopCause, Store, TellsBatchDamage, TellsFirstDamage}
+use Rattle.cube_batches.proofs.Names.{TellsRefreshDamage, Vec, World, arith, both, deltas_by, joined, names_with, next_side, quiet, refl, same-first-damage, same-whole, subst, sym, wider}
+use Rattle.cube_batches.proofs.Names.{with_file, with_file-other, ℕ}
 
 -- ---- a reply
 
@@ -65,3 +67,21 @@ side_spares live old new stop = closed_spares live old old new (record {
   range = record { others = λ file other. refl; no_shorter = omega arith; no_longer = omega arith; before = λ i low front. refl; after = λ i low behind. refl };
   rule = λ shut. refl;
 }) stop
+
+-- ---- damage, where the root file alone differs
+
+module _ (r : Begun) (store : Store) (batch : List Fact) (old new : Files) (others : (file : ℕ) → file ≢ 0 → new file ≡ old file) (forest : r.store.forest ≡ store.forest)
+    (points : r.deltas ≡ deltas_by (names_with store.dicts batch) store.forest.schema batch) where
+  -- of the batch that has begun over this store
+  pub batch_told : (stop : Stop) → TellsRefreshDamage r new stop → TellsBatchDamage store old batch stop
+  batch_told (stops.Damaged file offset) is =
+      subst (λ d. TellsFirstDamage store.forest old d (ends.Damaged file offset)) points
+      (subst (λ (f : Forest). TellsFirstDamage f old r.deltas (ends.Damaged file offset)) forest
+      (same-first-damage r.store.forest r.deltas old new others (ends.Damaged file offset) is))
+  batch_told stops.Disk is = tt
+  batch_told stops.Output is = tt
+  batch_told stops.Memory is = tt
+
+  pub batch_whole : AreAllWhole r.store.forest new r.deltas → AreAllWhole store.forest old (deltas_by (names_with store.dicts batch) store.forest.schema batch)
+  batch_whole whole = subst (λ d. AreAllWhole store.forest old d) points
+      (subst (λ (f : Forest). AreAllWhole f old r.deltas) forest (λ t low. same-whole r.store.forest r.deltas old new others t (whole t low)))

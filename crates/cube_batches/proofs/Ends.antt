@@ -3,16 +3,15 @@ use Rattle.script_lang.specs.declared.command.Command.TheVariants as says
 use Rattle.cube_state.specs.declared.stop.Stop.TheVariants as stops
 use Rattle.forest_refresh.specs.declared.stop.RefreshStop.TheVariants as ends
 use Rattle.forest_refresh.specs.Refreshed as refreshes
-use Rattle.cube_batches.proofs.Names.{◌+◌, ◌-◌, ◌<◌, ◌∙◌, ◌∷◌, ◌≡◌, ◌≤◌, Answer, Attends, Begun, Belongs, Calls, CarriesOutAlone, Cost, Disk, Empty, Ends, Err, Fact, ForEach, Forest, Ghosts}
-use Rattle.cube_batches.proofs.Names.{Global, HasCauseWhere, HasNoFact, HoldsNow, Hollow, Idle, IsAnswer, IsDropped, IsGoing, IsOpened, IsReady, IsRefreshOf, IsStoreOf, IsTrue, IsWithout}
-use Rattle.cube_batches.proofs.Names.{KeepsFacts, KeepsTo, Kept, Knows, LeavesOnly, List, None, Ok, OnlyNow, Option, Pending, RefreshStop, Result, RunsFor, RunsOn, SideStays, Some, Spares, Spends}
-use Rattle.cube_batches.proofs.Names.{StandsAt, State, Store, TellsFirstDamage, Vec, Warehouse, World, [], act, act_abandon, act_step, ap, arith, attends_belongs, beside, codes, forest_moves}
-use Rattle.cube_batches.proofs.Names.{holds_to, length, line, live_of, min, moves_made, moves_tried, page_total, pending_line, pending_over, quiet, refl, refresh_stop, replied, replies_with}
-use Rattle.cube_batches.proofs.Names.{spared_stays, still, stopped, subst, sym, ℕ}
-use Rattle.cube_batches.proofs.Calls.{answered_by, side_spares}
-use Rattle.cube_batches.proofs.Costs.{finish_answer, finish_is, step_made, step_spends}
-use Rattle.cube_batches.proofs.Begins.{begin_moments}
-use Rattle.cube_batches.proofs.Committed.{refresh_quiet, refresh_quiet_on, refresh_tells, same_damage}
+use Rattle.cube_batches.proofs.Names.{◌+◌, ◌-◌, ◌<◌, ◌∙◌, ◌∷◌, ◌≡◌, ◌≤◌, Answer, Attends, Begun, Belongs, Cache, Calls, CarriesOut, CarriesOutAlone, Cost, Disk, Empty, Ends, Err, Fact, Files}
+use Rattle.cube_batches.proofs.Names.{ForEach, Forest, Ghosts, Gives, Global, HasCauseWhere, HasNoFact, HoldsNow, Hollow, Idle, IsAnswer, IsDropped, IsErrAnd, IsGoing, IsOpened, IsReady}
+use Rattle.cube_batches.proofs.Names.{IsReadyFor, IsRefreshOf, IsStoreOf, IsTrue, IsWithout, KeepsFacts, KeepsTo, Kept, Knows, LeavesOnly, List, None, Ok, OnlyNow, OnlySays, Option, Pending}
+use Rattle.cube_batches.proofs.Names.{RefreshStop, Reply, Result, RunsFor, RunsOn, SaysOnly, SideStays, Some, Spares, Spends, Stands, StandsAt, State, Stop, Store, TellsFirstDamage, Vec}
+use Rattle.cube_batches.proofs.Names.{Warehouse, World, [], act, act_abandon, act_finish, act_step, ap, arith, attends_belongs, beside, codes, committed, committed_text, fact_count, forest_moves}
+use Rattle.cube_batches.proofs.Names.{goes_nowhere, holds_to, length, line, live_of, min, moves_made, moves_over, moves_tried, page_total, pending_line, pending_over, quiet, refl, refresh_stop}
+use Rattle.cube_batches.proofs.Names.{replied, replies_with, runs_out, says, spared_stays, still, stopped, subst, sym, ℕ}
+use Rattle.cube_batches.proofs.{Calls.answered_by, Calls.says_either, Calls.side_spares, Costs.finish_answer, Costs.finish_is, Costs.step_made, Costs.step_spends, Takings.begin_moments}
+use Rattle.cube_batches.proofs.{Loads.empty_answer, Committed.refresh_quiet, Committed.refresh_quiet_on, Committed.refresh_tells, Committed.same_damage}
 
 -- a batch that has a fact is not one without
 no_fact : (batch : List Fact) (pending : Option (List Fact)) → pending ≡ Some batch → 0 < length batch → HasNoFact pending → ⊥
@@ -140,18 +139,11 @@ without_belongs r store disk warehouse batch without is = record {
   opened = subst (λ (f : Forest). IsOpened f.body disk) (sym without.forest) is.ready.opened;
 }
 
-abandon_over : World → Kept → Option (List Fact) → Answer
+abbrev abandon_over : World → Kept → Option (List Fact) → Answer
 abandon_over world kept pending = pending_over world (λ warehouse batch. (record world { pending = None }, line (codes "abandoned"))) kept pending
 
--- the answer where nothing is pending, and where a batch is
-nothing_answers : (world : World) (kept : Kept) → Knows kept None world → act world says.Abandon ≡ (world, line (codes "refused nothing pending"))
-unfolding abandon_over
-nothing_answers world None knows = act_abandon world ∙ (λ i. abandon_over world (knows.kept i) (knows.pending i))
-nothing_answers world (Some warehouse) knows = act_abandon world ∙ (λ i. abandon_over world (knows.kept i) (knows.pending i))
-
-batch_answers : (world : World) (warehouse : Warehouse) (batch : List Fact) → Knows (Some warehouse) (Some batch) world → act world says.Abandon ≡ (record world { pending = None }, line (codes "abandoned"))
-unfolding abandon_over
-batch_answers world warehouse batch knows = act_abandon world ∙ (λ i. abandon_over world (knows.kept i) (knows.pending i))
+abandon_answers : (world : World) (kept : Kept) (pending : Option (List Fact)) → Knows kept pending world → act world says.Abandon ≡ abandon_over world kept pending
+abandon_answers world kept pending knows = act_abandon world ∙ (λ i. abandon_over world (knows.kept i) (knows.pending i))
 
 module _ {S : Type 0} (T : Ghosts S) (site : S) (only : IsTrue T.tells → OnlyNow (T.disk site)) (reply : Vec ℕ Global) where
   -- whatever it stood for
@@ -169,17 +161,97 @@ module _ {S : Type 0} (T : Ghosts S) (site : S) (only : IsTrue T.tells → OnlyN
 
   pub abandons : (state : State) → reply.items ≡ pending_line state (codes "abandoned") → (final : State) → IsDropped state final → CarriesOutAlone T says.Abandon state final site site (Ok reply)
   abandons Empty said final is = subst (λ (s : State). CarriesOutAlone T says.Abandon Empty s site site (Ok reply)) (sym is) (drops Empty Empty said
-      (λ t world it. answered_by (T.disk site) (act world says.Abandon) (world, line (codes "refused nothing pending")) Empty reply.items (nothing_answers world None it.0) it said)
+      (λ t world it. answered_by (T.disk site) (act world says.Abandon) (abandon_over world None None) Empty reply.items (abandon_answers world None None it.0) it said)
       (λ runs. runs) refl refl)
   abandons (Idle store) said final is = subst (λ (s : State). CarriesOutAlone T says.Abandon (Idle store) s site site (Ok reply)) (sym is) (drops (Idle store) (Idle store) said
-      (λ t world it. answered_by (T.disk site) (act world says.Abandon) (world, line (codes "refused nothing pending")) (Idle store) reply.items (nothing_answers world (Some it.0) it.1) it said)
+      (λ t world it. answered_by (T.disk site) (act world says.Abandon) (abandon_over world (Some it.0) None) (Idle store) reply.items (abandon_answers world (Some it.0) None it.1) it said)
       (λ runs. runs) refl refl)
   abandons (Hollow store) said final is = subst (λ (s : State). CarriesOutAlone T says.Abandon (Hollow store) s site site (Ok reply)) (sym is) (drops (Hollow store) (Idle store) said
-      (λ t world it. answered_by (T.disk site) (act world says.Abandon) (record world { pending = None }, line (codes "abandoned")) (Idle store) reply.items (batch_answers world it.0 [] it.1)
+      (λ t world it. answered_by (T.disk site) (act world says.Abandon) (abandon_over world (Some it.0) (Some [])) (Idle store) reply.items (abandon_answers world (Some it.0) (Some []) it.1)
       (it.0, record { kept = it.1.kept; pending = refl }, it.2) said)
       (λ runs. record { running = runs.running; fit = runs.fit }) refl refl)
   abandons (Pending r) said final is = subst (λ (s : State). CarriesOutAlone T says.Abandon (Pending r) s site site (Ok reply)) (sym is.1) (drops (Pending r) (Idle is.0) said
-      (λ t world it. answered_by (T.disk site) (act world says.Abandon) (record world { pending = None }, line (codes "abandoned")) (Idle is.0) reply.items (batch_answers world it.0 it.1 it.2)
+      (λ t world it. answered_by (T.disk site) (act world says.Abandon) (abandon_over world (Some it.0) (Some it.1)) (Idle is.0) reply.items (abandon_answers world (Some it.0) (Some it.1) it.2)
       (it.0, record { kept = it.2.kept; pending = refl }, without_belongs r is.0 (T.disk site) it.0 it.1 is.2 it.3) said)
       (λ runs. record { running = is.2.whole; fit = λ t. subst (λ (f : Forest). IsOpened f.body (T.disk site)) (sym is.2.forest) (runs.fit t).opened })
       refl (ap (λ (f : Forest). Some f.body) is.2.forest))
+
+-- want of memory for what only refuses
+pub memory_as : {A : Type 0} (result : Result A Stop) (stop : Stop) → stop ≡ stops.Memory → IsErrAnd result (λ s. s ≡ stop) → IsErrAnd result (λ s. s ≡ stops.Memory)
+memory_as result stop memory is = subst (λ (m : Stop). IsErrAnd result (λ s. s ≡ m)) memory is
+
+-- ---- nothing is pending: a step
+
+module _ {S : Type 0} (T : Ghosts S) (n : ℕ) (site : S) where
+  -- by what is kept and pending
+  step_over : (state : State) → moves_made state ≡ 0 → ((world : World) → Stands state (T.disk site) world → (kept : Kept) × (pending : Option (List Fact)) × Knows kept pending world
+      × (pending_over world (λ w b. replies_with world (codes "stepped")) kept pending ≡ (world, pending_line state (codes "stepped"))) × (length (moves_over kept pending) ≡ 0))
+      → OnlySays T (says.Step n) state site (pending_line state (codes "stepped"))
+  step_over state zero by = record {
+    acts = λ t world it. (let is = by world it in act_step world n ∙ (λ i. pending_over world (λ w b. replies_with world (codes "stepped")) (is.2.kept i) (is.2.pending i)) ∙ is.3);
+    moves = λ t world it. (let is = by world it in let none : length (moves_over world.kept world.pending) ≡ 0 = (λ i. length (moves_over (is.2.kept i) (is.2.pending i))) ∙ is.4 in omega (arith, none, zero));
+    goes = λ t world it numbers goes. goes_nowhere (says.Step n) (λ schema. refl) world numbers goes;
+    gives = λ files. refl;
+    alone = λ no. refl;
+  }
+
+  step_says : (state : State) → ((r : Begun) → state ≡ Pending r → ⊥) → OnlySays T (says.Step n) state site (pending_line state (codes "stepped"))
+  step_says Empty not = step_over Empty refl (λ world it. (None, None, it.0, refl, refl))
+  step_says (Idle store) not = step_over (Idle store) refl (λ world it. (Some it.0, None, it.1, refl, refl))
+  step_says (Hollow store) not = step_over (Hollow store) refl (λ world it. (Some it.0, Some [], it.1, refl, refl))
+  step_says (Pending r) not = absurd (not r refl)
+
+  pub steps_none : (state : State) → (IsTrue T.tells → OnlyNow (T.disk site)) → ((r : Begun) → state ≡ Pending r → ⊥) → (reply : Vec ℕ Global) → reply.items ≡ pending_line state (codes "stepped")
+      → CarriesOutAlone T (says.Step n) state state site site (Ok reply)
+  steps_none state only not reply said = λ cache ready. says T (says.Step n) state site cache only (pending_line state (codes "stepped")) reply ready (step_says state not) said
+
+-- ---- nothing is pending, or an empty batch: a finish
+
+module _ {S : Type 0} (T : Ghosts S) (site : S) where
+  abbrev text : List ℕ
+  text = line (codes "refused nothing pending")
+
+  finish_over : (state : State) → moves_made state ≡ 0 → ((world : World) → Stands state (T.disk site) world → act world says.Finish ≡ (world, text))
+      → ((files : Files) → Gives state files says.Finish text) → OnlySays T says.Finish state site text
+  finish_over state zero acts gives = record {
+    acts = λ t world it. acts world it;
+    moves = λ t world it. sym zero;
+    goes = λ t world it numbers goes. goes_nowhere says.Finish (λ schema. refl) world numbers goes;
+    gives = gives;
+    alone = λ no. sym zero;
+  }
+
+  finish_says : (state : State) → ((r : Begun) → state ≡ Pending r → ⊥) → ((store : Store) → state ≡ Hollow store → ⊥) → OnlySays T says.Finish state site text
+  finish_says Empty not full = finish_over Empty refl (λ world it. act_finish world ∙ (λ i. pending_over world (λ w b. committed world w b w.last) (it.0.kept i) (it.0.pending i))) (λ files. refl)
+  finish_says (Idle store) not full =
+      finish_over (Idle store) refl (λ world it. act_finish world ∙ (λ i. pending_over world (λ w b. committed world w b w.last) (it.1.kept i) (it.1.pending i))) (λ files. refl)
+  finish_says (Hollow store) not full = absurd (full store refl)
+  finish_says (Pending r) not full = absurd (not r refl)
+
+  module _ (cache : Cache) (only : IsTrue T.tells → OnlyNow (T.disk site)) where
+    pub finishes_none : (state : State) → IsReadyFor T site cache state → ((r : Begun) → state ≡ Pending r → ⊥) → ((store : Store) → state ≡ Hollow store → ⊥) → (final : State) → final ≡ state
+        → (result : Reply) → SaysOnly text result → CarriesOut T says.Finish state final site site cache cache result
+    finishes_none state ready not full final same result is = subst (λ (s : State). CarriesOut T says.Finish state s site site cache cache result) (sym same)
+        (says_either (CarriesOut T says.Finish state state site site cache cache) text (λ reply said. says T says.Finish state site cache only text reply ready (finish_says state not full) said)
+        (runs_out T says.Finish state site cache only ready state) result is)
+
+    -- an empty batch is acknowledged
+    ends_hollow : (store : Store) → IsReadyFor T site cache (Hollow store) → (reply : Vec ℕ Global) → reply.items ≡ committed_text store.forest.body.facts
+        → CarriesOut T says.Finish (Hollow store) (Idle store) site site cache cache (Ok reply)
+    ends_hollow store ready reply said = still T says.Finish (λ schema. refl) (Hollow store) (Idle store) site only cache ready reply (record {
+      answer = λ t world it. empty_answer world it.0 store (T.disk site) it.2 (act world says.Finish) (finish_answer world it.0 [] it.1) reply.items said;
+      moved = λ t world it. refl;
+      uncalled = λ t world it none. refl;
+      answered = λ t. said;
+      runs = record { running = ready.runs.running; fit = ready.runs.fit };
+      made = λ no. refl;
+      said = λ alone files. absurd alone;
+    }) refl
+
+    pub finishes_hollow : (state : State) → IsReadyFor T site cache state → (store : Store) → state ≡ Hollow store → (final : State) → final ≡ Idle store → (result : Reply)
+        → SaysOnly (committed_text (fact_count final)) result → CarriesOut T says.Finish state final site site cache cache result
+    finishes_hollow state ready store hollow final idle result said =
+        subst (λ (s : State × State). IsReadyFor T site cache s.0 → SaysOnly (committed_text (fact_count s.1)) result → CarriesOut T says.Finish s.0 s.1 site site cache cache result)
+        (λ i. (sym hollow i, sym idle i))
+        (λ here is. says_either (CarriesOut T says.Finish (Hollow store) (Idle store) site site cache cache) (committed_text store.forest.body.facts) (ends_hollow store here)
+        (runs_out T says.Finish (Hollow store) site cache only here (Idle store)) result is) ready said

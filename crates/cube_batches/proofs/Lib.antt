@@ -1,5 +1,3 @@
-pub mod Begins
-pub mod Begun
 pub mod Calls
 pub mod Committed
 pub mod Costs
@@ -8,7 +6,5 @@ pub mod Limits
 pub mod Loads
 pub mod Names
 pub mod Nexts
-pub mod Nothings
-pub mod Rooted
 pub mod Sources
 pub mod Takings

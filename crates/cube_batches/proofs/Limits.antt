@@ -1,9 +1,15 @@
 -- A batch against the limits: what the plain machine makes of it.
 use Rattle.forest_refresh.specs.declared.stop.BeginStop.TheVariants as begins
-use Rattle.cube_batches.proofs.Names.{◌++◌, ◌+◌, ◌<◌, ◌∙◌, ◌∷◌, ◌≡◌, ◌≤◌, Agrees, All, AreAccepted, Attr, BeginStop, Bool, Fact, HasNames, IsSchema, List, None, Schema, Some, TellsLimit}
-use Rattle.cube_batches.proofs.Names.{Warehouse, [], all-agree, ap, append-nil, arith, cases_Bool, fact_limit, false, few_measures, first_full, first_heavy, full_refusal, get_or, heavy_refusal}
-use Rattle.cube_batches.proofs.Names.{inl, inr, length, length-map, mass, mass_limit, mass_past, max_at, max_of, names-past, names_of, nat_le, nat_lt, nat_tests, no_attr, refl, refusal_of}
-use Rattle.cube_batches.proofs.Names.{refusal_text, subst, suc, sym, true, zero, ℕ}
+use Rattle.cube_batches.proofs.Names.{◌++◌, ◌+◌, ◌<◌, ◌∙◌, ◌∷◌, ◌≡◌, ◌≤◌, Agrees, All, AreAccepted, Attr, BeginStop, Fact, HasNames, IsSchema, List, None, Schema, Some, TellsLimit, Warehouse, []}
+use Rattle.cube_batches.proofs.Names.{all-agree, ap, append-nil, arith, cases_Bool, fact_limit, false, few_measures, first_full, first_heavy, full_refusal, get_or, heavy_refusal, inl, inr, length}
+use Rattle.cube_batches.proofs.Names.{length-map, mass, mass_limit, mass_past, max_at, max_of, names-past, names_of, nat_le, nat_lt, nat_tests, no_attr, refl, refusal_of, refusal_text, subst, suc}
+use Rattle.cube_batches.proofs.Names.{sym, true, zero, ℕ}
+
+fits_in : (m n : ℕ) → m ≤ n → nat_le m n ≡ true
+fits_in m n low = grind (arith, nat_tests)
+
+passes_by : (m n : ℕ) → n < m → nat_le m n ≡ false
+passes_by m n high = grind (arith, nat_tests)
 
 -- ---- the first attribute with too many names
 
@@ -12,9 +18,7 @@ none_full : (k : ℕ) (attrs : List Attr) (facts : List Fact) → ((a : ℕ) →
     → first_full k attrs facts ≡ None
 none_full k [] facts room = refl
 none_full k (attr ∷ attrs) facts room =
-    let here : length (names_of facts k) ≤ max_of attr.kind = subst (λ (n : ℕ). length (names_of facts n) ≤ max_of attr.kind) (omega arith) (room 0) in
-    let fits : nat_le (length (names_of facts k)) (max_of attr.kind) ≡ true = grind (arith, nat_tests) in
-    rw fits (none_full (suc k) attrs facts (λ a. subst (λ (n : ℕ). length (names_of facts n) ≤ max_of (get_or attrs a no_attr).kind) (omega arith) (room (suc a))))
+    rw (fits_in (length (names_of facts k)) (max_of attr.kind) (subst (λ (n : ℕ). length (names_of facts n) ≤ max_of attr.kind) (omega arith) (room 0))) (none_full (suc k) attrs facts (λ a. subst (λ (n : ℕ). length (names_of facts n) ≤ max_of (get_or attrs a no_attr).kind) (omega arith) (room (suc a))))
 
 -- it is the one behind a others
 one_full : (k a : ℕ) (attrs : List Attr) (facts : List Fact) → a < length attrs
@@ -22,13 +26,9 @@ one_full : (k a : ℕ) (attrs : List Attr) (facts : List Fact) → a < length at
     → max_of (get_or attrs a no_attr).kind < length (names_of facts (k + a)) → first_full k attrs facts ≡ Some (get_or attrs a no_attr).name
 one_full k a [] facts low room full = absurd (omega (arith, low))
 one_full k zero (attr ∷ attrs) facts low room full =
-    let over : max_of attr.kind < length (names_of facts k) = subst (λ (n : ℕ). max_of attr.kind < length (names_of facts n)) (omega arith) full in
-    let passes : nat_le (length (names_of facts k)) (max_of attr.kind) ≡ false = grind (arith, nat_tests) in
-    rw passes refl
+    rw (passes_by (length (names_of facts k)) (max_of attr.kind) (subst (λ (n : ℕ). max_of attr.kind < length (names_of facts n)) (omega arith) full)) refl
 one_full k (suc a) (attr ∷ attrs) facts low room full =
-    let here : length (names_of facts k) ≤ max_of attr.kind = subst (λ (n : ℕ). length (names_of facts n) ≤ max_of attr.kind) (omega arith) (room 0 (omega arith)) in
-    let fits : nat_le (length (names_of facts k)) (max_of attr.kind) ≡ true = grind (arith, nat_tests) in
-    rw fits (one_full (suc k) a attrs facts (omega (arith, low))
+    rw (fits_in (length (names_of facts k)) (max_of attr.kind) (subst (λ (n : ℕ). length (names_of facts n) ≤ max_of attr.kind) (omega arith) (room 0 (omega arith)))) (one_full (suc k) a attrs facts (omega (arith, low))
     (λ c below. subst (λ (n : ℕ). length (names_of facts n) ≤ max_of (get_or attrs c no_attr).kind) (omega arith) (room (suc c) (omega (arith, below))))
     (subst (λ (n : ℕ). max_of (get_or attrs a no_attr).kind < length (names_of facts n)) (omega arith) full))
 
@@ -37,23 +37,15 @@ one_full k (suc a) (attr ∷ attrs) facts low room full =
 -- none does
 none_heavy : (k : ℕ) (names : List (List ℕ)) (facts : List Fact) → ((m : ℕ) → m < k + length names → mass m facts ≤ mass_limit) → first_heavy k names facts ≡ None
 none_heavy k [] facts light = refl
-none_heavy k (name ∷ names) facts light =
-    let low = light k (omega arith) in
-    let fits : nat_le (mass k facts) mass_limit ≡ true = grind (arith, nat_tests) in
-    rw fits (none_heavy (suc k) names facts (λ m below. light m (omega (arith, below))))
+none_heavy k (name ∷ names) facts light = rw (fits_in (mass k facts) mass_limit (light k (omega arith))) (none_heavy (suc k) names facts (λ m below. light m (omega (arith, below))))
 
 -- the one behind m others does
 one_heavy : (k m : ℕ) (names : List (List ℕ)) (facts : List Fact) → m < length names → ((j : ℕ) → j < k + m → mass j facts ≤ mass_limit) → mass_limit < mass (k + m) facts
     → first_heavy k names facts ≡ Some (get_or names m [])
 one_heavy k m [] facts low light heavy = absurd (omega (arith, low))
-one_heavy k zero (name ∷ names) facts low light heavy =
-    let over : mass_limit < mass k facts = subst (λ (n : ℕ). mass_limit < mass n facts) (omega arith) heavy in
-    let passes : nat_le (mass k facts) mass_limit ≡ false = grind (arith, nat_tests) in
-    rw passes refl
+one_heavy k zero (name ∷ names) facts low light heavy = rw (passes_by (mass k facts) mass_limit (subst (λ (n : ℕ). mass_limit < mass n facts) (omega arith) heavy)) refl
 one_heavy k (suc m) (name ∷ names) facts low light heavy =
-    let fit = light k (omega arith) in
-    let fits : nat_le (mass k facts) mass_limit ≡ true = grind (arith, nat_tests) in
-    rw fits (one_heavy (suc k) m names facts (omega (arith, low)) (λ j below. light j (omega (arith, below))) (subst (λ (n : ℕ). mass_limit < mass n facts) (omega arith) heavy))
+    rw (fits_in (mass k facts) mass_limit (light k (omega arith))) (one_heavy (suc k) m names facts (omega (arith, low)) (λ j below. light j (omega (arith, below))) (subst (λ (n : ℕ). mass_limit < mass n facts) (omega arith) heavy))
 
 -- ---- a batch
 
@@ -64,22 +56,16 @@ module _ (warehouse : Warehouse) (batch : List Fact) (lawful : IsSchema warehous
   abbrev all : List Fact
   all = warehouse.facts ++ batch
 
-  abbrev few : Bool
-  few = nat_le (length (warehouse.facts ++ batch)) fact_limit
+  past_few : nat_le (length all) fact_limit ≡ true → refusal_of schema all ≡ full_refusal schema all (first_full 0 schema.attrs all)
+  past_few low = rw low refl
 
-  past_few : few ≡ true → refusal_of schema all ≡ full_refusal schema all (first_full 0 schema.attrs all)
-  past_few a = rw a refl
-
-  past_named : few ≡ true → HasNames schema all → refusal_of schema all ≡ heavy_refusal (first_heavy 0 schema.measures all)
-  past_named a named = past_few a ∙ ap (full_refusal schema all)
+  past_named : nat_le (length all) fact_limit ≡ true → HasNames schema all → refusal_of schema all ≡ heavy_refusal (first_heavy 0 schema.measures all)
+  past_named low named = past_few low ∙ ap (full_refusal schema all)
       (none_full 0 schema.attrs all (λ c. subst (λ (n : ℕ). length (names_of all n) ≤ max_at schema c) (omega arith) (named c)))
 
   -- a batch that keeps the limits is not refused
   pub none_refused : AreAccepted warehouse.schema (warehouse.facts ++ batch) → refusal_of warehouse.schema (warehouse.facts ++ batch) ≡ None
-  none_refused fine =
-      let long = fine.few in
-      let a : few ≡ true = grind (arith, nat_tests) in
-      past_named a fine.named
+  none_refused fine = past_named (let long = fine.few in grind (arith, nat_tests)) fine.named
       ∙ ap heavy_refusal (none_heavy 0 schema.measures all (λ m below. fine.masses m (omega (arith, below, few_measures schema lawful))))
 
   -- a full attribute is declared
@@ -106,20 +92,13 @@ module _ (warehouse : Warehouse) (batch : List Fact) (lawful : IsSchema warehous
   -- a batch that passes a limit is refused by it
   pub one_refused : All (Agrees warehouse.schema) (warehouse.facts ++ batch) → (why : BeginStop) (text : List ℕ) → TellsLimit warehouse.schema (warehouse.facts ++ batch) why
       → refusal_text warehouse.schema why ≡ Some text → refusal_of warehouse.schema (warehouse.facts ++ batch) ≡ Some text
-  one_refused each begins.FactsFull text is same =
-      let a : few ≡ false = grind (arith, nat_tests) in
-      let here : refusal_of schema all ≡ refusal_text schema begins.FactsFull = rw a refl in
-      here ∙ same
+  one_refused each begins.FactsFull text is same = let over : nat_le (length all) fact_limit ≡ false = grind (arith, nat_tests) in rw over same
   one_refused each (begins.NamesFull c) text is same =
-      let long = is.0 in
-      let a : few ≡ true = grind (arith, nat_tests) in
-      past_few a ∙ (ap (full_refusal schema all) (one_full 0 c schema.attrs all (full_declared each c is.1.passes)
+      past_few (let long = is.0 in grind (arith, nat_tests)) ∙ (ap (full_refusal schema all) (one_full 0 c schema.attrs all (full_declared each c is.1.passes)
       (λ k below. subst (λ (n : ℕ). length (names_of all n) ≤ max_at schema k) (omega arith) (is.1.first k below))
       (subst (λ (n : ℕ). max_at schema c < length (names_of all n)) (omega arith) is.1.passes)) ∙ same)
   one_refused each (begins.Mass m) text is same =
-      let long = is.0 in
-      let a : few ≡ true = grind (arith, nat_tests) in
-      past_named a is.1 ∙ (ap heavy_refusal (one_heavy 0 m schema.measures all (heavy_declared each m is.2.passes)
+      past_named (let long = is.0 in grind (arith, nat_tests)) is.1 ∙ (ap heavy_refusal (one_heavy 0 m schema.measures all (heavy_declared each m is.2.passes)
       (λ j below. is.2.first j (omega (arith, below))) (subst (λ (n : ℕ). mass_limit < mass n all) (omega arith) is.2.passes)) ∙ same)
   one_refused each begins.Memory text is same = absurd (cc)
   one_refused each begins.Disk text is same = absurd (cc)

@@ -10,9 +10,6 @@ module _ (schema : Schema) (last number : ℕ) (due : number ≡ last + 1) where
       let high : nat_lt (last + 1) number ≡ false = grind (arith, nat_tests) in
       rw (low, high) refl
 
-  as_given : (read : Read) (given : Given) → IsRead schema last given read → IsRead schema last (in_turn last number given) read
-  as_given read given is = subst (λ (g : Given). IsRead schema last g read) (sym (in_its_turn given)) is
-
   refused_is : (read : Result (List Fact) (List ℕ)) (reply : Vec ℕ Global) → IsRead schema last (with_last last read) (NotRead reply) → IsRead schema last (with_number number read) (NotRead reply)
   refused_is (Ok facts) reply is = absurd is
   refused_is (Err text) reply is = is
@@ -26,19 +23,22 @@ module _ (schema : Schema) (last number : ℕ) (due : number ≡ last + 1) where
   batch_is : (read : Result (List Fact) (List ℕ)) (batch : List Fact) (own : Option ℕ) → IsRead schema last (with_last last read) (Batch batch own) → 0 < length batch
       → IsRead schema last (with_number number read) (Batch batch (Some number))
   batch_is (Ok []) batch own is some = absurd (omega (arith, some, ap length is.facts))
-  batch_is (Ok (x ∷ xs)) batch own is some = record { facts = is.facts; next = refl; fits = record { few = is.fits.few; agree = is.fits.agree; due = due } }
+  batch_is (Ok (x ∷ xs)) batch own is some = record { facts = is.facts; next = refl; fits = record { few = is.fits.few; agree = is.fits.agree; due = due; some = some } }
   batch_is (Err text) batch own is some = absurd is
 
   -- what was read without a number
   module _ (read : Result (List Fact) (List ℕ)) (given : Read) (is : IsRead schema last (with_last last read) given) where
+    as_given : (other : Read) → given ≡ other → (next : Read) → (IsRead schema last (with_last last read) other → IsRead schema last (with_number number read) next)
+        → IsRead schema last (in_turn last number (with_number number read)) next
+    as_given other same next by = subst (λ (g : Given). IsRead schema last g next) (sym (in_its_turn (with_number number read))) (by (subst (IsRead schema last (with_last last read)) same is))
+
     pub next_refused : (reply : Vec ℕ Global) → given ≡ NotRead reply → IsRead schema last (in_turn last number (with_number number read)) (NotRead reply)
-    next_refused reply same = as_given (NotRead reply) (with_number number read) (refused_is read reply (subst (IsRead schema last (with_last last read)) same is))
+    next_refused reply same = as_given (NotRead reply) same (NotRead reply) (refused_is read reply)
 
     pub next_empty : (batch : List Fact) (own : Option ℕ) (reply : Vec ℕ Global) → given ≡ Batch batch own → length batch ≡ 0 → reply.items ≡ line (codes "refused empty")
         → IsRead schema last (in_turn last number (with_number number read)) (NotRead reply)
-    next_empty batch own reply same zero said =
-        as_given (NotRead reply) (with_number number read) (empty_is read batch own reply (subst (IsRead schema last (with_last last read)) same is) zero said)
+    next_empty batch own reply same none said = as_given (Batch batch own) same (NotRead reply) (λ its. empty_is read batch own reply its none said)
 
     pub next_batch : (batch : List Fact) (own : Option ℕ) → given ≡ Batch batch own → 0 < length batch
         → IsRead schema last (in_turn last number (with_number number read)) (Batch batch (Some number))
-    next_batch batch own same some = as_given (Batch batch (Some number)) (with_number number read) (batch_is read batch own (subst (IsRead schema last (with_last last read)) same is) some)
+    next_batch batch own same some = as_given (Batch batch own) same (Batch batch (Some number)) (λ its. batch_is read batch own its some)

@@ -1,12 +1,11 @@
 -- What the plain machine makes of the batch of a source, and what is said of each command that sends one.
 use Rattle.script_lang.specs.declared.command.Command.TheVariants as says
-use Rattle.cube_batches.proofs.Names.{◌++◌, ◌+◌, ◌<◌, ◌∙◌, ◌∷◌, ◌≡◌, Answer, BatchSource, BeginGives, Block, Bool, Command, Cost, Costs, Empty, Err, Fact, Files, Generator, Given, Gives}
-use Rattle.cube_batches.proofs.Names.{GivesBatch, GivesBegun, GivesGiven, Hollow, Idle, IsFitting, IsRefused, IsStep, Kept, Knows, List, LoadGives, MakesNoCall, MayWrite, None, Numbered, Ok}
-use Rattle.cube_batches.proofs.Names.{Option, Pending, RefusesBy, RefusesGiven, Result, Rows, Schema, Sends, Some, State, Store, Warehouse, World, [], act, act_begin, act_generate, act_load}
-use Rattle.cube_batches.proofs.Names.{act_load_numbered, already_text, answer_by, ap, arith, asked_by, batch_by, batch_from, batch_given, batch_sent, batch_with, begins, begins_over, begun}
-use Rattle.cube_batches.proofs.Names.{block_read, committed, cond, false, forest_moves, free, gap_text, generated_within, given_to, inl, length, length-append, load, load_cost, load_cost_of}
-use Rattle.cube_batches.proofs.Names.{load_of, made_alone, made_behind, makes_stage, moves_of, nat_le, nat_lt, number_of, read_by, refl, refusal_of, size, sym, take_over, true, unless, with_last}
-use Rattle.cube_batches.proofs.Names.{with_number, ℕ}
+use Rattle.cube_batches.proofs.Names.{◌++◌, ◌+◌, ◌<◌, ◌∙◌, ◌∷◌, ◌≡◌, Answer, BatchSource, BeginGives, Block, Command, Cost, Costs, Empty, Err, Fact, Files, Generator, Given, Gives, GivesBatch}
+use Rattle.cube_batches.proofs.Names.{GivesBegun, GivesGiven, Hollow, Idle, IsFitting, IsRefused, IsStep, Kept, Knows, List, LoadGives, MakesNoCall, MayWrite, None, Numbered, Ok, Option, Pending}
+use Rattle.cube_batches.proofs.Names.{RefusesBy, RefusesGiven, Result, Rows, Schema, Sends, Some, State, Store, Warehouse, World, [], act, act_begin, act_generate, act_load, act_load_numbered}
+use Rattle.cube_batches.proofs.Names.{answer_by, ap, arith, asked_by, batch_by, batch_from, batch_given, batch_sent, batch_with, begins, begins_over, begun, block_read, committed, cond}
+use Rattle.cube_batches.proofs.Names.{forest_moves, free, given_to, inl, length, length-append, load, load_cost, load_cost_of, load_of, made_alone, made_behind, makes_stage, moves_of, nat_lt}
+use Rattle.cube_batches.proofs.Names.{number_of, read_by, refl, refusal_of, size, sym, take_over, true, unless, with_last, ℕ}
 use Rattle.cube_batches.proofs.Costs.{grows}
 
 -- ---- the commands that take one in at once
@@ -56,10 +55,6 @@ last_in : ℕ → Given → ℕ
 last_in least (Ok given) = given.1
 last_in least (Err text) = least
 
-abbrev facts_in : Given → List Fact
-facts_in (Ok given) = given.0
-facts_in (Err text) = []
-
 -- without a number it stays
 same_last : (last n : ℕ) (read : Result (List Fact) (List ℕ)) (batch : List Fact) → with_last last read ≡ Ok (batch, n) → n ≡ last
 unfolding last_in
@@ -68,21 +63,6 @@ same_last last n (Err text) batch is = sym (ap (last_in last) is)
 
 pub rows_last : (schema : Schema) (last n : ℕ) (block : Block) (batch : List Fact) → batch_from schema last (Rows block) ≡ Ok (batch, n) → n ≡ last
 rows_last schema last n block batch is = same_last last n (block_read schema block) batch is
-
--- and so where the batch is empty, as a numbered one is not
-turn_last : (over early : Bool) (last number n : ℕ) (read : Result (List Fact) (List ℕ))
-    → cond over (Err (already_text number)) (cond early (Err (gap_text (last + 1))) (with_number number read)) ≡ Ok ([], n) → n ≡ last
-unfolding last_in
-turn_last true early last number n read is = sym (ap (last_in last) is)
-turn_last false true last number n read is = sym (ap (last_in last) is)
-turn_last false false last number n (Err text) is = sym (ap (last_in last) is)
-turn_last false false last number n (Ok []) is = sym (ap (last_in last) is)
-turn_last false false last number n (Ok (x ∷ xs)) is = absurd (omega (arith, ap (λ (g : Given). length (facts_in g)) is))
-
-pub empty_last : (schema : Schema) (last n : ℕ) (source : BatchSource) → batch_from schema last source ≡ Ok ([], n) → n ≡ last
-empty_last schema last n (Rows block) is = same_last last n (block_read schema block) [] is
-empty_last schema last n (Numbered number block) is = turn_last (nat_le number last) (nat_lt (last + 1) number) last number n (block_read schema block) is
-empty_last schema last n (Generator start rows) is = same_last last n (generated_within schema start rows) [] is
 
 -- ---- what a batch costs that is not empty
 

@@ -1,16 +1,89 @@
 -- What becomes of the batch of a source, at each end of taking it in.
 use Rattle.cube_state.specs.declared.stop.Stop.TheVariants as stops
 use Rattle.forest_refresh.specs.declared.stop.BeginStop.TheVariants as begins
-use Rattle.cube_batches.proofs.Names.{◌++◌, ◌<◌, ◌∙◌, ◌≡◌, ◌≢◌, ◌⊎◌, Agrees, All, Answer, Answers, AreAccepted, Batch, BatchSource, Began, BeginCause, BeginFault, BeginStop, Begun, Belongs}
-use Rattle.cube_batches.proofs.Names.{Between, CallsOnly, CarriesOut, Disk, Empty, Err, Fact, Files, Forest, Ghosts, Given, Global, HasBegun, HoldsNow, Hollow, Idle, IsBack, IsBatchFor, IsFitting}
-use Rattle.cube_batches.proofs.Names.{IsRead, IsStoreOf, IsTrue, KeepsFacts, Kept, LeavesOnly, List, NotRead, Nothing, Ok, OnlyNow, OnlyRefuses, Option, Pending, Read, Refused, RefusesBy}
-use Rattle.cube_batches.proofs.Names.{RefusesGiven, Result, Schema, Some, Stands, State, Stop, Store, Taken, TakesIn, TellsLimit, Vec, Warehouse, World, [], act, answer_by, ap, batch_from}
-use Rattle.cube_batches.proofs.Names.{begin_stop, begins, codes, given_to, goes_nowhere, inl, inr, last_behind, length, line, moves_made, nothing_added, refl, refusal_of, refusal_text, runs_out}
-use Rattle.cube_batches.proofs.Names.{says, spends_more, still, stopped, subst, sym, take_over, unharmed, unless, ℕ}
-use Rattle.cube_batches.proofs.Limits.{none_refused}
-use Rattle.cube_batches.proofs.Calls.{answered_by}
-use Rattle.cube_batches.proofs.Sources.{answer_batch, answer_read, empty_last}
-use Rattle.cube_batches.proofs.Begins.{all_fine, back_belongs, back_runs, begin_moments, by_limit}
+use Rattle.cube_batches.proofs.Names.{◌*◌, ◌++◌, ◌+◌, ◌<◌, ◌∙◌, ◌≡◌, ◌≢◌, ◌≤◌, ◌⊎◌, Agrees, All, All-append, Answer, Answers, AreAccepted, AttendsAs, Batch, BatchSource, Began, BeginCause}
+use Rattle.cube_batches.proofs.Names.{BeginFault, BeginStop, Begun, Belongs, Between, CallsOnly, CarriesOut, Disk, Empty, Err, Fact, Files, Forest, Ghosts, Given, Global, HasBegun, HoldsNow}
+use Rattle.cube_batches.proofs.Names.{Hollow, Idle, IfSome, IsBack, IsBatchFor, IsFitting, IsLive, IsOpened, IsRead, IsReady, IsRefreshOf, IsStable, IsStoreOf, IsTrue, Keeps, KeepsFacts, Kept}
+use Rattle.cube_batches.proofs.Names.{LeavesOnly, List, None, NotRead, Nothing, Ok, OnlyNow, OnlyRefuses, Option, Pending, Read, Refused, RefusesBy, RefusesGiven, Result, RunsOn, Schema, Some}
+use Rattle.cube_batches.proofs.Names.{Stands, StandsAt, State, Stop, Store, Taken, TakesIn, TellsLimit, Vec, Warehouse, World, [], act, answer_by, ap, arith, batch_from, begin_stop, begins}
+use Rattle.cube_batches.proofs.Names.{bytes_after, codes, forest_moves, given_to, goes_nowhere, holds_to, inl, inr, last_behind, length, line, moves_made, next_side, nothing_added, refl}
+use Rattle.cube_batches.proofs.Names.{refusal_of, refusal_text, runs_out, says, slice_index, spends_more, stable_holds, still, stopped, subst, sym, take, take_over, unharmed, unless, wider}
+use Rattle.cube_batches.proofs.Names.{written, ℕ}
+use Rattle.cube_batches.proofs.{Limits.none_refused, Limits.one_refused, Calls.answered_by, Sources.answer_batch, Sources.answer_read}
+
+-- ---- the store, the refresh and the warehouse
+
+-- no move is made
+none_moved : (r : Begun) (files : Files) (facts batch : List Fact) → r.progress.taken ≡ 0 → StandsAt r facts batch files
+none_moved r files facts batch none = record {
+  within = omega (arith, none);
+  pages = (λ i. take (4096 * written (none i) (forest_moves r.store.forest.schema facts batch)) (files (next_side r.store.forest.body)))
+      ∙ (λ i. bytes_after r.store.forest.schema facts batch (sym none i));
+}
+
+-- the number of a batch is the next one, or none
+last_due : (last : ℕ) (number : Option ℕ) → IfSome number (λ n. n ≡ last + 1) → last_behind last number ≤ last + 1
+last_due last (Some n) is = omega (arith, is)
+last_due last None is = omega arith
+
+module _ (store : Store) (old new : Disk) (warehouse : Warehouse) (is : Belongs store old warehouse) where
+  -- at every moment the files keep what they kept
+  pub begin_moments : (world next : World) → world.kept ≡ Some warehouse
+      → LeavesOnly old new (λ told files. (told ≡ old.told) × KeepsFacts store.forest.schema warehouse.facts store.forest.body.last files) → Between old new world next
+  begin_moments world next kept run = wider old new _ _ (λ told files both. (both.0, inl (subst (Keeps files) (sym kept) (record {
+    lawful = is.lawful;
+    kept = subst (λ (k : Schema × ℕ). KeepsFacts k.0 warehouse.facts k.1 files) (λ i. (is.schema i, is.last i)) both.1;
+  })))) run
+
+  -- it has begun
+  pub begin_attends : (batch : List Fact) (number : Option ℕ) (r : Begun) → r.store.forest ≡ store.forest → r.next.last ≡ last_behind store.forest.body.last number
+      → IfSome number (λ n. n ≡ store.forest.body.last + 1) → IsRefreshOf r warehouse.facts batch new.files → IsStable new → 0 < length batch → IsReady r new → r.progress.taken ≡ 0
+      → AttendsAs (last_behind store.forest.body.last number) r new warehouse batch
+  begin_attends batch number r same next due adds stable some ready none = record {
+    lawful = is.lawful;
+    schema = ap (λ (f : Forest). f.schema) same ∙ is.schema;
+    last = ap (λ (f : Forest). f.body.last) same ∙ is.last;
+    next = next;
+    due = subst (λ n. last_behind store.forest.body.last number ≤ n + 1) is.last (last_due store.forest.body.last number due);
+    adds = stable_holds (IsRefreshOf r warehouse.facts batch) new stable adds;
+    some = some;
+    ready = ready;
+    moved = none_moved r new.files warehouse.facts batch none;
+  }
+
+-- all facts keep the limits
+pub all_fine : {last : ℕ} (r : Begun) (new : Disk) (warehouse : Warehouse) (batch : List Fact) → AttendsAs last r new warehouse batch → AreAccepted warehouse.schema (warehouse.facts ++ batch)
+all_fine r new warehouse batch is = subst (λ (s : Schema). AreAccepted s (warehouse.facts ++ batch)) is.schema is.adds.read.all
+
+-- the store is handed back
+module _ (store back : Store) (same : IsBack store back) where
+  pub back_belongs : (disk : Disk) (warehouse : Warehouse) → Belongs store disk warehouse → Belongs back disk warehouse
+  back_belongs disk warehouse is = record {
+    lawful = is.lawful;
+    schema = ap (λ (f : Forest). f.schema) same.forest ∙ is.schema;
+    last = ap (λ (f : Forest). f.body.last) same.forest ∙ is.last;
+    stored = holds_to (IsStoreOf store warehouse.facts) (IsStoreOf back warehouse.facts) disk (λ files stored. record {
+      accepted = subst (λ (f : Forest). AreAccepted f.schema warehouse.facts) (sym same.forest) stored.accepted;
+      live = subst (λ (f : Forest). IsLive f.schema f.body warehouse.facts files) (sym same.forest) stored.live;
+      names = λ a. (λ i. take (slice_index (same.shown i).at a) (same.names a i)) ∙ stored.names a;
+    }) is.stored;
+    opened = subst (λ (f : Forest). IsOpened f.body disk) (sym same.forest) is.opened;
+  }
+
+  pub back_runs : {S : Type 0} (T : Ghosts S) (site : S) → RunsOn T site (Idle store) → RunsOn T site (Idle back)
+  back_runs T site runs = record {
+    running = λ a. (λ i. slice_index (same.shown i).at a) ∙ (runs.running a ∙ sym (ap length (same.names a)));
+    fit = λ t. subst (λ (f : Forest). IsOpened f.body (T.disk site)) (sym same.forest) (runs.fit t);
+  }
+
+-- where a limit is passed the plain machine refuses so
+pub by_limit : (store : Store) (disk : Disk) (warehouse : Warehouse) (batch : List Fact) (why : BeginStop) → Belongs store disk warehouse → All (Agrees store.forest.schema) batch
+    → TellsLimit store.forest.schema (warehouse.facts ++ batch) why → (text : List ℕ) → refusal_text store.forest.schema why ≡ Some text
+    → refusal_of warehouse.schema (warehouse.facts ++ batch) ≡ Some text
+by_limit store disk warehouse batch why is each limit text refused =
+    one_refused warehouse batch is.lawful.schema
+    (All-append (Agrees warehouse.schema) warehouse.facts batch is.lawful.accepted.each (subst (λ (s : Schema). All (Agrees s) batch) is.schema each)) why text
+    (subst (λ (s : Schema). TellsLimit s (warehouse.facts ++ batch) why) is.schema limit) (subst (λ (s : Schema). refusal_text s why ≡ Some text) is.schema refused)
 
 -- ---- no call was made
 
@@ -72,6 +145,11 @@ read_batch : (schema : Schema) (last : ℕ) (given : Given) (batch : List Fact) 
 read_batch schema last (Ok given) batch number is = ((λ i. Ok (is.facts i, is.next i)), is.fits)
 read_batch schema last (Err text) batch number is = absurd is
 
+-- an empty one has no number
+no_number : (last : ℕ) (number : Option ℕ) (batch : List Fact) → IfSome number (λ n. 0 < length batch) → length batch ≡ 0 → last_behind last number ≡ last
+no_number last (Some n) batch some none = absurd (omega (arith, some, none))
+no_number last None batch some none = refl
+
 module _ (source : BatchSource) (store : Store) (read : Read) (is : IsRead store.forest.schema store.forest.body.last (given_to store source) read) where
   -- the source gives none
   pub source_refuses : {S : Type 0} (T : Ghosts S) (site : S) → (IsTrue T.tells → OnlyNow (T.disk site)) → (reply : Vec ℕ Global) → read ≡ NotRead reply
@@ -88,10 +166,7 @@ module _ (source : BatchSource) (store : Store) (read : Read) (is : IsRead store
 
     -- it is empty
     pub empty_given : length batch ≡ 0 → given_to store source ≡ Ok ([], store.forest.body.last)
-    empty_given zero =
-        let given : given_to store source ≡ Ok ([], last_behind store.forest.body.last number)
-        = both.0 ∙ ap (λ (b : List Fact). Ok (b, last_behind store.forest.body.last number)) (nothing_added batch zero) in
-        given ∙ ap (λ (n : ℕ). Ok ([], n)) (empty_last store.forest.schema store.forest.body.last (last_behind store.forest.body.last number) source given)
+    empty_given none = both.0 ∙ (λ i. Ok (nothing_added batch none i, no_number store.forest.body.last number batch both.1.some none i))
 
     -- it may begin, for the store as it was taken out
     pub batch_given : (state : State) (out : Store) → state ≡ Idle store → state ≡ Idle out

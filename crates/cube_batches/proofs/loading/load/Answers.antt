@@ -1,8 +1,6 @@
-use Rattle.cube_state.specs.Carried.{CarriesOut}
-use Rattle.cube_state.specs.Commands.{load_of}
 use Rattle.cube_state.proofs.Writing.{at_error}
-use Rattle.cube_batches.proofs.Loads.{loads, loads_none}
-use Rattle.cube_batches.proofs.Sources.{load_sends}
+use Rattle.cube_state.specs.{Carried.CarriesOut, Commands.load_of}
+use Rattle.cube_batches.proofs.{Loads.loads, Loads.loads_none, Sources.load_sends}
 use Rattle.cube_batches.proofs.loading.load.Goals as goal
 
 pub returns-in_err-reply : goal.returns-in_err-reply

@@ -1,8 +1,7 @@
 use Rattle.script_lang.specs.declared.command.Command.TheVariants as says
-use Rattle.cube_state.specs.Carried.{CarriesOutAlone}
 use Rattle.cube_state.proofs.Writing.{at_error}
-use Rattle.cube_batches.proofs.Begun.{begins_none, begins_on}
-use Rattle.cube_batches.proofs.Sources.{begin_sends}
+use Rattle.cube_state.specs.Carried.{CarriesOutAlone}
+use Rattle.cube_batches.proofs.{Loads.begins_none, Loads.begins_on, Sources.begin_sends}
 use Rattle.cube_batches.proofs.pending.begin.Goals as goal
 
 pub returns-in_err-refusal : goal.returns-in_err-refusal

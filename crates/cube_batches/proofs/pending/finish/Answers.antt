@@ -1,10 +1,7 @@
-use Rattle.std.proofs.Common.{◌∙◌, subst, sym}
 use Rattle.script_lang.specs.declared.command.Command.TheVariants as says
-use Rattle.cube_state.specs.declared.state.State.{State}
-use Rattle.cube_state.specs.declared.state.State.TheVariants.{Pending}
-use Rattle.cube_state.specs.Carried.{CarriesOut}
-use Rattle.cube_batches.proofs.Ends.{finish_ends}
-use Rattle.cube_batches.proofs.Nothings.{finishes_hollow, finishes_none}
+use Rattle.std.proofs.Common.{◌∙◌, subst, sym}
+use Rattle.cube_state.specs.{declared.state.State.State, declared.state.State.TheVariants.Pending, Carried.CarriesOut}
+use Rattle.cube_batches.proofs.Ends.{finish_ends, finishes_hollow, finishes_none}
 use Rattle.cube_batches.proofs.pending.finish.Goals as goal
 
 pub returns-in-Pending : goal.returns-in-Pending

@@ -1,15 +1,9 @@
+use Rattle.script_lang.specs.declared.command.Command.TheVariants as says
 use Rattle.std.proofs.Common.{◌≡◌, Ok, subst, sym}
 use Rattle.std.specs.Prelude.{codes}
-use Rattle.script_lang.specs.declared.command.Command.TheVariants as says
-use Rattle.cube_state.specs.declared.state.State.{State}
-use Rattle.cube_state.specs.declared.state.State.TheVariants.{Pending}
-use Rattle.cube_state.specs.Batches.{pending_line}
-use Rattle.cube_state.specs.Carried.{CarriesOutAlone, Reply}
-use Rattle.cube_state.specs.Stops.{refresh_stop}
-use Rattle.cube_state.proofs.Carried.{runs_out_as}
-use Rattle.cube_state.proofs.Writing.{at_error}
-use Rattle.cube_batches.proofs.Ends.{moves_not, moves_on}
-use Rattle.cube_batches.proofs.Nothings.{memory_as, steps_none}
+use Rattle.cube_state.proofs.{Carried.runs_out_as, Writing.at_error}
+use Rattle.cube_state.specs.{declared.state.State.State, declared.state.State.TheVariants.Pending, Batches.pending_line, Carried.CarriesOutAlone, Carried.Reply, Stops.refresh_stop}
+use Rattle.cube_batches.proofs.Ends.{moves_not, moves_on, memory_as, steps_none}
 use Rattle.cube_batches.proofs.pending.step.Goals as goal
 
 pub returns-in_err-reply : goal.returns-in_err-reply

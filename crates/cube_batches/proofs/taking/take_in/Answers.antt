@@ -1,13 +1,9 @@
-use Rattle.std.proofs.Common.{◌≡◌, ◌<◌, Ok, length, refl, subst, sym, arith}
-use Rattle.std.proofs.lemmas.Bool.Decides.{nat_tests}
-use Rattle.cube_state.specs.declared.state.State.{State}
 use Rattle.cube_state.specs.declared.stop.Stop.TheVariants as stops
-use Rattle.cube_state.specs.Frames.{RunsOn}
+use Rattle.std.proofs.{Common.◌≡◌, Common.Ok, Common.length, Common.refl, Common.subst, Common.sym, Common.arith, lemmas.Bool.Decides.nat_tests}
 use Rattle.cube_state.proofs.Writing.{at_error}
-use Rattle.cube_batches.specs.Taking.{TakesIn}
-use Rattle.cube_batches.specs.declared.taking.Taken.TheVariants.{Refused}
-use Rattle.cube_batches.proofs.Nothings.{memory_as}
-use Rattle.cube_batches.proofs.Takings.{batch_given, busy_refuses, empty_given, empty_refuses, source_refuses, wants}
+use Rattle.cube_state.specs.{declared.state.State.State, Frames.RunsOn}
+use Rattle.cube_batches.proofs.{Ends.memory_as, Takings.batch_given, Takings.busy_refuses, Takings.empty_given, Takings.empty_refuses, Takings.source_refuses, Takings.wants}
+use Rattle.cube_batches.specs.{Taking.TakesIn, declared.taking.Taken.TheVariants.Refused}
 use Rattle.cube_batches.proofs.taking.take_in.Goals as goal
 
 pub returns-in_err-reply : goal.returns-in_err-reply
