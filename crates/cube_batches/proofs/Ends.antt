@@ -65,17 +65,17 @@ module _ {S : Type 0} (T : Ghosts S) (n : ℕ) (r now : Begun) (old new : S) whe
 
     pub moves_on : (reply : Vec ℕ Global) → reply.items ≡ line (codes "stepped") → CarriesOutAlone T (says.Step n) (Pending r) (Pending now) old new (Ok reply)
     moves_on reply said = λ cache ready. replied T (says.Step n) (λ schema. refl) (Pending r) (Pending now) old new cache cache reply (moves_run is few) (record {
-      answer = λ t world it. answered_by (T.disk new) (act world (says.Step n)) (world, line (codes "stepped")) (Pending now) reply.items
-          (act_step world n ∙ (λ i. pending_over world (λ w b. replies_with world (codes "stepped")) (it.2.kept i) (it.2.pending i))) (it.0, it.1, it.2, attends_on t it.0 it.1 it.3) said;
-      moved = λ t world it. step_made T old new r it.0 it.1 it.3 world it.2 n made now.progress.taken taken (stands t it.0.facts it.1 it.3.adds.read).1;
-      uncalled = λ t world it none. absurd (no_fact it.1 world.pending it.2.pending it.3.some none);
-      answered = λ t. said;
-      runs = record { running = goes; fit = ready_now };
-      made = λ no. absurd (no tt);
-      said = λ alone files. said;
-    })
-        (beside T (says.Step n) (λ schema. refl) (Pending r) (Pending now) old new cache ready (ap (λ (b : Begun). Some b.store.forest.body) same) (side_stays is) (λ no. absurd (no tt)))
-        (refresh_quiet_on T old new (page_total r.store.forest.body r.store.forest.schema) is.told made reply is.calls)
+        answer = λ t world it. answered_by (T.disk new) (act world (says.Step n)) (world, line (codes "stepped")) (Pending now) reply.items
+            (act_step world n ∙ (λ i. pending_over world (λ w b. replies_with world (codes "stepped")) (it.2.kept i) (it.2.pending i))) (it.0, it.1, it.2, attends_on t it.0 it.1 it.3) said;
+        moved = λ t world it. step_made T old new r it.0 it.1 it.3 world it.2 n made now.progress.taken taken (stands t it.0.facts it.1 it.3.adds.read).1;
+        uncalled = λ t world it none. absurd (no_fact it.1 world.pending it.2.pending it.3.some none);
+        answered = λ t. said;
+        runs = record { running = goes; fit = ready_now };
+        made = λ no. absurd (no tt);
+        said = λ alone files. said;
+      })
+      (beside T (says.Step n) (λ schema. refl) (Pending r) (Pending now) old new cache ready (ap (λ (b : Begun). Some b.store.forest.body) same) (side_stays is) (λ no. absurd (no tt)))
+      (refresh_quiet_on T old new (page_total r.store.forest.body r.store.forest.schema) is.told made reply is.calls)
 
   -- it stopped
   module _ (why : RefreshStop) (is : Moves T n r now old new (Err why))
@@ -87,13 +87,13 @@ module _ {S : Type 0} (T : Ghosts S) (n : ℕ) (r now : Begun) (old new : S) whe
 
     pub moves_not : (final : State) → CarriesOutAlone T (says.Step n) (Pending r) final old new (Err (refresh_stop why))
     moves_not final = λ cache ready. stopped T (says.Step n) (λ schema. refl) (Pending r) final old new tt cache cache refl (refresh_stop why) (moves_run is (omega arith)) (record {
-      undamaged = λ t world it. same_damage why (undamaged t it.0.facts it.1 it.3.adds.read);
-      damage = λ t. refresh_tells r (T.disk old).files why (damaged t);
-      spared = λ t. spares t why;
-      harmless = λ none. absurd none;
-      step_side = λ t step. side_stays is t;
-    })
-        (refresh_quiet T old new (page_total r.store.forest.body r.store.forest.schema) is.told why is.calls)
+        undamaged = λ t world it. same_damage why (undamaged t it.0.facts it.1 it.3.adds.read);
+        damage = λ t. refresh_tells r (T.disk old).files why (damaged t);
+        spared = λ t. spares t why;
+        harmless = λ none. absurd none;
+        step_side = λ t step. side_stays is t;
+      })
+      (refresh_quiet T old new (page_total r.store.forest.body r.store.forest.schema) is.told why is.calls)
 
 -- ---- it is committed
 
@@ -126,9 +126,6 @@ finish_ends T r site = record {
 }
 
 -- ---- it is dropped
-
-pub drop_pending : (state final : State) (r : Begun) (store : Store) → state ≡ Pending r → final ≡ Idle store → IsWithout r store → IsDropped state final
-drop_pending state final r store pending idle without = subst (λ (s : State). IsDropped s final) (sym pending) (store, idle, without)
 
 without_belongs : (r : Begun) (store : Store) (disk : Disk) (warehouse : Warehouse) (batch : List Fact) → IsWithout r store → Attends r disk warehouse batch → Belongs store disk warehouse
 without_belongs r store disk warehouse batch without is = record {

@@ -1,20 +1,20 @@
 -- A batch is taken in at once or made pending: it is empty, or it begins.
 use Rattle.script_lang.specs.declared.command.Command.TheVariants as says
 use Rattle.cube_state.specs.declared.stop.Stop.TheVariants as stops
-use Rattle.cube_batches.proofs.Names.{◌++◌, ◌<◌, ◌∙◌, ◌∷◌, ◌≡◌, Answer, AttendsAs, BatchSource, BeginGives, Begun, Belongs, Block, Cache, CarriesOut, CarriesOutAlone, Cost, Disk, Ends, EndsFor}
-use Rattle.cube_batches.proofs.Names.{Err, Fact, Files, ForEach, Forest, Ghosts, Given, Gives, GivesBatch, GivesBegun, GivesGiven, Global, HasBegun, HasNone, Hollow, Idle, IsAnswer, IsFitting}
-use Rattle.cube_batches.proofs.Names.{IsReadyFor, IsTakenIn, IsTrue, LeavesLive, List, LoadTells, Ok, OnlyNow, Pending, RepliesAlone, Reply, Rows, RunsFor, SaysOnly, Some, SparesOthers, Spends}
-use Rattle.cube_batches.proofs.Names.{Stands, State, Store, TellsDamage, TellsGivenDamage, TellsNone, Vec, Warehouse, World, [], act, ap, append-nil, arith, begun, beside, both, codes, committed}
-use Rattle.cube_batches.proofs.Names.{committed_text, fact_count, given_to, hollow_of, inr, length, line, live_file, live_no_root, live_of, load_of, quiet, quiet_on, quiet_out, refl, replied}
-use Rattle.cube_batches.proofs.Names.{runs_out, spends_more, still, stopped, subst, sym, unharmed, ℕ}
+use Rattle.cube_batches.proofs.Names.{◌++◌, ◌∙◌, ◌≡◌, Answer, AttendsAs, BatchSource, BeginGives, Begun, Belongs, Block, Cache, CarriesOut, CarriesOutAlone, Cost, Disk, Ends, EndsFor, Err, Fact}
+use Rattle.cube_batches.proofs.Names.{Files, ForEach, Forest, Ghosts, Given, Gives, GivesBegun, GivesGiven, Global, HasBegun, HasNone, Hollow, Idle, IsAnswer, IsFitting, IsReadyFor, IsTrue}
+use Rattle.cube_batches.proofs.Names.{LeavesLive, List, LoadTells, Ok, OnlyNow, Pending, RepliesAlone, Reply, Rows, RunsFor, SaysOnly, Some, SparesOthers, Spends, Stands, State, Store}
+use Rattle.cube_batches.proofs.Names.{TellsDamage, TellsGivenDamage, TellsNone, Vec, Warehouse, World, [], act, ap, append-nil, arith, begun, beside, both, codes, committed, committed_text}
+use Rattle.cube_batches.proofs.Names.{fact_count, given_to, hollow_of, inr, length, line, live_file, live_no_root, live_of, load_of, quiet, quiet_on, quiet_out, refl, replied, runs_out}
+use Rattle.cube_batches.proofs.Names.{spends_more, still, stopped, subst, sym, unharmed, ℕ}
 use Rattle.cube_batches.proofs.{Limits.empty_fits, Calls.answered_by, Calls.batch_told, Calls.batch_whole, Calls.between_then, Calls.closed_spares, Calls.quiet_then, Calls.says_either}
-use Rattle.cube_batches.proofs.{Costs.committed_spends, Sources.begin_answer, Sources.begin_sends, Sources.begins_is, Sources.each_load, Sources.load_answer, Sources.load_calls}
-use Rattle.cube_batches.proofs.{Sources.load_gives, Sources.load_is, Sources.load_sends, Sources.rows_last, Takings.begun_fits, Takings.known}
+use Rattle.cube_batches.proofs.{Costs.committed_spends, Sources.begin_answer, Sources.begin_sends, Sources.begins_is, Sources.each_load, Sources.given_some, Sources.load_answer}
+use Rattle.cube_batches.proofs.{Sources.load_calls, Sources.load_gives, Sources.load_is, Sources.load_sends, Sources.rows_last, Takings.begun_fits, Takings.known}
 
 -- nothing was done with an empty batch
 pub done_none : {S : Type 0} (source : BatchSource) (state next : State) (old new : S) (is : HasNone source state next old new) (P : State → State → S → Type 0)
-    → P (Idle is.store) (Idle is.store) old → P state next new
-done_none source state next old new is P here = subst (P state next) (sym is.same) (subst (λ (s : State). P state s old) (sym is.stays) (subst (λ (s : State). P s s old) (sym is.idle) here))
+    → P (Idle is.0) (Idle is.0) old → P state next new
+done_none source state next old new is P here = subst (P state next) (sym is.3) (subst (λ (s : State). P state s old) (sym is.2) (subst (λ (s : State). P s s old) (sym is.1) here))
 
 -- no fact is added
 same_facts : (warehouse : Warehouse) → record warehouse { facts = warehouse.facts ++ []; last = warehouse.last } ≡ warehouse
@@ -66,13 +66,9 @@ pub loads_none : {S : Type 0} (T : Ghosts S) (source : BatchSource) (state next 
     → IsReadyFor T old cache state → (result : Reply) → SaysOnly (committed_text (fact_count next)) result → CarriesOut T (load_of source) state next old new cache cache result
 loads_none T source state next old new cache only is ready result = done_none source state next old new is
     (λ s n site. IsReadyFor T old cache s → SaysOnly (committed_text (fact_count n)) result → CarriesOut T (load_of source) s n old site cache cache result)
-    (λ here. loads_empty T source old cache only is.store is.given here result) ready
+    (λ here. loads_empty T source old cache only is.0 is.4 here result) ready
 
 -- ---- one that has begun is committed
-
-given_whole : (store : Store) (files : Files) (batch : List Fact) (reply : List ℕ) → 0 < length batch → IsTakenIn store files batch reply → GivesBatch store files batch reply
-given_whole store files [] reply some is = absurd (omega (arith, some))
-given_whole store files (x ∷ xs) reply some is = inr is
 
 module _ {S : Type 0} (T : Ghosts S) (source : BatchSource) (store : Store) (old mid : S) (r : Begun) (is : HasBegun T source store old mid r) where
   load_ends_for : IsTrue T.tells → (world : World) → Stands (Idle store) (T.disk old) world → EndsFor T (load_of source) (Idle store) r old mid world
@@ -109,11 +105,11 @@ module _ {S : Type 0} (T : Ghosts S) (source : BatchSource) (store : Store) (old
         (subst (λ (g : Given). TellsGivenDamage store (T.disk old).files g stop) (sym is.given)
         (batch_told r store is.batch (T.disk old).files (T.disk mid).files (is.closes t).range.others is.forest is.points stop told));
     gives = λ t reply ends. load_gives source (Idle store) (T.disk old).files reply (subst (λ (g : Given). GivesGiven store (T.disk old).files g reply) (sym is.given)
-        (given_whole store (T.disk old).files is.batch reply is.some (record {
+        (given_some store (T.disk old).files is.batch reply is.some (inr (record {
           whole = batch_whole r store is.batch (T.disk old).files (T.disk mid).files (is.closes t).range.others is.forest is.points ends.whole;
           count = r.next.facts;
           said = ends.said;
-        })));
+        }))));
     spares = λ t new stop spares. closed_spares store.forest.body (T.disk old).files (T.disk mid).files (T.disk new).files (is.closes t) stop
         (subst (λ (f : Forest). SparesOthers f.body (T.disk mid).files (T.disk new).files stop) is.forest spares);
     live = ap (λ (f : Forest). f.body.generation) (sym is.forest);
@@ -151,7 +147,7 @@ pub begins_none : {S : Type 0} (T : Ghosts S) (block : Block) (state next final 
 begins_none T block state next final old new only is hollow result said = λ cache ready.
     subst (λ (f : State). CarriesOut T (says.Begin block) state f old new cache cache result) (sym hollow)
     (done_none (Rows block) state next old new is (λ s n site. IsReadyFor T old cache s → CarriesOut T (says.Begin block) s (hollow_of n) old site cache cache result)
-    (λ here. hollows_or_out T block old cache only is.store is.given here result said) ready)
+    (λ here. hollows_or_out T block old cache only is.0 is.4 here result said) ready)
 
 -- ---- one that has begun is made pending
 

@@ -1,6 +1,6 @@
 -- The words of other rooms that the proofs here speak in.
-pub use Rattle.std.proofs.Common.{Err, Global, IfSome, IsTrue, List, None, Ok, Option, Result, Some, Vec, [], ap, append-nil, arith, cond, false, get_or, inl, inr, length, length-append, min}
-pub use Rattle.std.proofs.Common.{refl, subst, suc, sym, take, true, zero, ℕ, ◌%◌, ◌*◌, ◌++◌, ◌+◌, ◌-◌, ◌/◌, ◌<◌, ◌∙◌, ◌∷◌, ◌≡◌, ◌≤◌, ◌⊎◌}
+pub use Rattle.std.proofs.Common.{Bool, Err, Global, IfSome, IsTrue, List, None, Ok, Option, Result, Some, Vec, [], ap, append-nil, arith, cond, false, get_or, inl, inr, length, length-append}
+pub use Rattle.std.proofs.Common.{min, refl, subst, suc, sym, take, true, zero, ℕ, ◌%◌, ◌*◌, ◌++◌, ◌+◌, ◌-◌, ◌/◌, ◌<◌, ◌∙◌, ◌∷◌, ◌≡◌, ◌≤◌, ◌⊎◌}
 pub use Rattle.plain_machine.proofs.Acts.{act_abandon, act_begin, act_finish, act_generate, act_load, act_load_numbered, act_step, nothing_added}
 pub use Rattle.plain_machine.specs.Machine.{Answer, Given, act, asked_by, batch_from, begun, block_read, committed, fact_limit, first_full, first_heavy, full_refusal, heavy_refusal, in_turn, load}
 pub use Rattle.plain_machine.specs.Machine.{pending_over, read_by, refusal_of, replies_with, take_over, unless, with_last, with_number}

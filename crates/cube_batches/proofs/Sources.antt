@@ -1,11 +1,11 @@
 -- What the plain machine makes of the batch of a source, and what is said of each command that sends one.
 use Rattle.script_lang.specs.declared.command.Command.TheVariants as says
-use Rattle.cube_batches.proofs.Names.{◌++◌, ◌+◌, ◌<◌, ◌∙◌, ◌∷◌, ◌≡◌, Answer, BatchSource, BeginGives, Block, Command, Cost, Costs, Empty, Err, Fact, Files, Generator, Given, Gives, GivesBatch}
-use Rattle.cube_batches.proofs.Names.{GivesBegun, GivesGiven, Hollow, Idle, IsFitting, IsRefused, IsStep, Kept, Knows, List, LoadGives, MakesNoCall, MayWrite, None, Numbered, Ok, Option, Pending}
-use Rattle.cube_batches.proofs.Names.{RefusesBy, RefusesGiven, Result, Rows, Schema, Sends, Some, State, Store, Warehouse, World, [], act, act_begin, act_generate, act_load, act_load_numbered}
-use Rattle.cube_batches.proofs.Names.{answer_by, ap, arith, asked_by, batch_by, batch_from, batch_given, batch_sent, batch_with, begins, begins_over, begun, block_read, committed, cond}
-use Rattle.cube_batches.proofs.Names.{forest_moves, free, given_to, inl, length, length-append, load, load_cost, load_cost_of, load_of, made_alone, made_behind, makes_stage, moves_of, nat_lt}
-use Rattle.cube_batches.proofs.Names.{number_of, read_by, refl, refusal_of, size, sym, take_over, true, unless, with_last, ℕ}
+use Rattle.cube_batches.proofs.Names.{◌++◌, ◌+◌, ◌<◌, ◌∙◌, ◌∷◌, ◌≡◌, ◌⊎◌, Answer, BatchSource, BeginGives, Block, Command, Cost, Costs, Empty, Err, Fact, Files, Generator, Given, Gives}
+use Rattle.cube_batches.proofs.Names.{GivesBatch, GivesBegun, GivesGiven, Hollow, Idle, IsFitting, IsRefused, IsStep, IsTakenIn, Kept, Knows, List, LoadGives, MakesNoCall, MayWrite, None}
+use Rattle.cube_batches.proofs.Names.{Numbered, Ok, Option, Pending, RefusesBy, RefusesGiven, Result, Rows, Schema, Sends, Some, State, Store, Warehouse, World, [], act, act_begin, act_generate}
+use Rattle.cube_batches.proofs.Names.{act_load, act_load_numbered, answer_by, ap, arith, asked_by, batch_by, batch_from, batch_given, batch_sent, batch_with, begins, begins_over, begun}
+use Rattle.cube_batches.proofs.Names.{block_read, committed, cond, forest_moves, free, given_to, inl, length, length-append, load, load_cost, load_cost_of, load_of, made_alone, made_behind}
+use Rattle.cube_batches.proofs.Names.{makes_stage, moves_of, nat_lt, number_of, read_by, refl, refusal_of, size, sym, take_over, true, unless, with_last, ℕ}
 use Rattle.cube_batches.proofs.Costs.{grows}
 
 -- ---- the commands that take one in at once
@@ -19,12 +19,6 @@ each_load P read numbered made (Generator start rows) = made start rows
 
 act_load_of : (world : World) (source : BatchSource) → act world (load_of source) ≡ load world source
 act_load_of world source = each_load (λ s c. act world c ≡ load world s) (act_load world) (act_load_numbered world) (act_generate world) source
-
-load_costs : (source : BatchSource) (world : World) (made : ℕ) (cost : Cost) → Costs world made (load_of source) cost → cost ≡ load_cost world (load_of source)
-load_costs source world made cost = each_load (λ s c. Costs world made c cost → cost ≡ load_cost world c) (λ b is. is) (λ n b is. is) (λ s r is. is) source
-
-load_batch : (source : BatchSource) (world : World) → batch_by world (load_of source) ≡ batch_sent world.kept source
-load_batch source world = each_load (λ s c. batch_by world c ≡ batch_sent world.kept s) (λ b. refl) (λ n b. refl) (λ s r. refl) source
 
 pub load_gives : (source : BatchSource) (state : State) (files : Files) (reply : List ℕ) → LoadGives state files source reply → Gives state files (load_of source) reply
 load_gives source state files reply = each_load (λ s c. LoadGives state files s reply → Gives state files c reply) (λ b is. is) (λ n b is. is) (λ s r is. is) source
@@ -77,9 +71,9 @@ module _ (world : World) (source : BatchSource) (warehouse : Warehouse) (batch :
   pub load_is : 0 < length batch → (made : ℕ) (cost : Cost) → Costs world made (load_of source) cost → cost ≡ load_cost_of (Some warehouse) (forest_moves warehouse.schema warehouse.facts batch)
   load_is some made cost costs =
       let sent : batch_by world (load_of source) ≡ batch_with (number_of source) batch
-      = load_batch source world ∙ (ap (λ (k : Kept). batch_sent k source) is.knows.kept ∙ ap (batch_given (number_of source)) is.read) in
+      = each_load (λ s c. batch_by world c ≡ batch_sent world.kept s) (λ b. refl) (λ n b. refl) (λ s r. refl) source ∙ (ap (λ (k : Kept). batch_sent k source) is.knows.kept ∙ ap (batch_given (number_of source)) is.read) in
       let stage : makes_stage world (load_of source) ≡ true = (λ i. nat_lt (size (is.knows.kept i)) (size (load_answer i).0.kept)) ∙ grows warehouse.facts batch some in
-      load_costs source world made cost costs
+      each_load (λ s c. Costs world made c cost → cost ≡ load_cost world c) (λ b is. is) (λ n b is. is) (λ s r is. is) source costs
       ∙ ((λ i. cond (stage i) (load_cost_of (is.knows.kept i) (moves_of (is.knows.kept i) (sent i))) free) ∙ ap (load_cost_of (Some warehouse)) (moves_with (number_of source) batch some))
 
   -- what is kept then is not what was kept
@@ -103,13 +97,13 @@ module _ (world : World) (block : Block) (warehouse : Warehouse) (batch : List F
 
 -- ---- a command that sends the batch of a source
 
--- a batch with a fact that is refused
-given_limit : (store : Store) (files : Files) (batch : List Fact) (reply : List ℕ) → 0 < length batch → IsRefused store reply → GivesBatch store files batch reply
-given_limit store files [] reply some is = absurd (omega (arith, some))
-given_limit store files (x ∷ xs) reply some is = inl is
+-- a batch with a fact is refused or taken in
+pub given_some : (store : Store) (files : Files) (batch : List Fact) (reply : List ℕ) → 0 < length batch → IsRefused store reply ⊎ IsTakenIn store files batch reply → GivesBatch store files batch reply
+given_some store files [] reply some is = absurd (omega (arith, some))
+given_some store files (x ∷ xs) reply some is = is
 
 given_refused : (store : Store) (files : Files) (given : Given) (reply : List ℕ) → RefusesGiven store given reply → GivesGiven store files given reply × GivesBegun store given reply
-given_refused store files (Ok given) reply is = (given_limit store files given.0 reply is.0 is.1, inl is.1)
+given_refused store files (Ok given) reply is = (given_some store files given.0 reply is.0 (inl is.1), inl is.1)
 given_refused store files (Err text) reply is = (is, is)
 
 source_refused : (state : State) (files : Files) (source : BatchSource) (reply : List ℕ) → RefusesBy state source reply → LoadGives state files source reply

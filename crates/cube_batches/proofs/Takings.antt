@@ -30,13 +30,10 @@ module _ (store : Store) (old new : Disk) (warehouse : Warehouse) (is : Belongs 
   -- at every moment the files keep what they kept
   pub begin_moments : (world next : World) → world.kept ≡ Some warehouse
       → LeavesOnly old new (λ told files. (told ≡ old.told) × KeepsFacts store.forest.schema warehouse.facts store.forest.body.last files) → Between old new world next
-  begin_moments world next kept run = wider old new _ _ (λ told files both. (
-    both.0,
-    inl (subst (Keeps files) (sym kept) (record {
-      lawful = is.lawful;
-      kept = subst (λ (k : Schema × ℕ). KeepsFacts k.0 warehouse.facts k.1 files) (λ i. (is.schema i, is.last i)) both.1;
-    })),
-  )) run
+  begin_moments world next kept run = wider old new _ _ (λ told files both. (both.0, inl (subst (Keeps files) (sym kept) (record {
+    lawful = is.lawful;
+    kept = subst (λ (k : Schema × ℕ). KeepsFacts k.0 warehouse.facts k.1 files) (λ i. (is.schema i, is.last i)) both.1;
+  })))) run
 
   -- it has begun
   pub begin_attends : (batch : List Fact) (number : Option ℕ) (r : Begun) → r.store.forest ≡ store.forest → r.next.last ≡ last_behind store.forest.body.last number

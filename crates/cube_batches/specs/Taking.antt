@@ -97,12 +97,8 @@ Answers T source state next old new result = (command : Command) → Sends comma
 -- ---- what is done with it
 
 -- it is empty, and nothing is done
-pub record HasNone {S : Type 0} (source : BatchSource) (state next : State) (old new : S) : Type 0 where
-  pub same : new ≡ old
-  pub stays : next ≡ state
-  pub store : Store
-  pub idle : state ≡ Idle store
-  pub given : given_to store source ≡ Ok ([], store.forest.body.last)
+abbrev pub HasNone : {S : Type 0} (source : BatchSource) (state next : State) (old new : S) → Type 0
+HasNone source state next old new = (store : Store) × (state ≡ Idle store) × (next ≡ state) × (new ≡ old) × (given_to store source ≡ Ok ([], store.forest.body.last))
 
 -- the refresh adds the batch to the store, and of all files the gate of the next generation alone was written
 pub record HasBegun {S : Type 0} (T : Ghosts S) (source : BatchSource) (store : Store) (old new : S) (refresh : Begun) : Type 0 where

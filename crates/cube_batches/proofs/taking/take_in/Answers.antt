@@ -22,16 +22,9 @@ returns-in-Refused g c = record {
 
 pub returns-then-is_empty : goal.returns-then-is_empty
 returns-then-is_empty g c =
-    let zero : length c.in-Batch.batch ≡ 0 = grind (arith, nat_tests) in
-    record {
-      takes = record {
-        same = refl;
-        stays = refl;
-        store = c.in-Idle.store;
-        idle = c.in-Idle.is;
-        given = empty_given c.args.source c.in-Idle.store c.in_ok-reply.field-0 c.in_ok-reply.ensures.read c.in-Batch.batch c.in-Batch.number c.in-Batch.is zero;
-      };
-    }
+    let none : length c.in-Batch.batch ≡ 0 = grind (arith, nat_tests) in
+    let given = empty_given c.args.source c.in-Idle.store c.in_ok-reply.field-0 c.in_ok-reply.ensures.read c.in-Batch.batch c.in-Batch.number c.in-Batch.is none in
+    record { takes = (c.in-Idle.store, c.in-Idle.is, refl, refl, given) }
 
 pub start-requires : goal.start-requires
 start-requires g c = record {
