@@ -60,14 +60,8 @@ module _ (warehouse : Warehouse) (batch : List Fact) (lawful : IsSchema warehous
   full_declared : All (Agrees warehouse.schema) all → (a : ℕ) → max_at warehouse.schema a < length (names_of all a) → a < length warehouse.schema.attrs
   full_declared each a full = elim (cases_Bool (nat_lt a (length warehouse.schema.attrs))) [
     | inl low ↦ grind (arith, nat_tests)
-    | inr past ↦ absurd (
-        let beyond : length warehouse.schema.attrs ≤ a = grind (arith, nat_tests) in
-        omega (
-          arith,
-          full,
-          ap length (names-past all (length warehouse.schema.attrs) a
-              (λ k d low. (all-agree warehouse.schema all each k d low).values ∙ length-map warehouse.schema.attrs (λ (attr : Attr). attr.kind)) beyond),
-        ))
+    | inr past ↦ absurd (let beyond : length warehouse.schema.attrs ≤ a = grind (arith, nat_tests) in omega (arith, full, ap length (names-past all (length warehouse.schema.attrs) a
+        (λ k d low. (all-agree warehouse.schema all each k d low).values ∙ length-map warehouse.schema.attrs (λ (attr : Attr). attr.kind)) beyond)))
   ]
 
   -- and so is a measure whose mass passes the limit
@@ -82,19 +76,19 @@ module _ (warehouse : Warehouse) (batch : List Fact) (lawful : IsSchema warehous
       → refusal_text warehouse.schema why ≡ Some text → refusal_of warehouse.schema (warehouse.facts ++ batch) ≡ Some text
   one_refused each begins.FactsFull text is same = let over : nat_le (length all) fact_limit ≡ false = grind (arith, nat_tests) in rw over same
   one_refused each (begins.NamesFull c) text is same =
-      past_few (let long = is.0 in grind (arith, nat_tests)) ∙ (ap (full_refusal schema all) (one_passes (λ k attrs. first_full k attrs all) (λ k attr. length (names_of all k)) (λ k attr. max_of attr.kind) (λ attr. attr.name) no_attr (λ k. refl) (λ k x xs. refl)
+      past_few (let long = is.0 in grind (arith, nat_tests)) ∙ (ap (full_refusal schema all)
+      (one_passes (λ k attrs. first_full k attrs all) (λ k attr. length (names_of all k)) (λ k attr. max_of attr.kind) (λ attr. attr.name) no_attr (λ k. refl) (λ k x xs. refl)
       0 c schema.attrs (full_declared each c is.1.passes)
       (λ k below. subst (λ (n : ℕ). length (names_of all n) ≤ max_at schema k) (omega arith) (is.1.first k below))
       (subst (λ (n : ℕ). max_at schema c < length (names_of all n)) (omega arith) is.1.passes)) ∙ same)
   one_refused each (begins.Mass m) text is same =
-      past_named (let long = is.0 in grind (arith, nat_tests)) is.1 ∙ (ap heavy_refusal (one_passes (λ k names. first_heavy k names all) (λ k name. mass k all) (λ k name. mass_limit) (λ name. name) [] (λ k. refl) (λ k x xs. refl)
-      0 m schema.measures (heavy_declared each m is.2.passes) (λ j below. subst (λ (n : ℕ). mass n all ≤ mass_limit) (omega arith) (is.2.first j below)) (subst (λ (n : ℕ). mass_limit < mass n all) (omega arith) is.2.passes)) ∙ same)
+      past_named (let long = is.0 in grind (arith, nat_tests)) is.1 ∙ (ap heavy_refusal
+      (one_passes (λ k names. first_heavy k names all) (λ k name. mass k all) (λ k name. mass_limit) (λ name. name) [] (λ k. refl) (λ k x xs. refl)
+      0 m schema.measures (heavy_declared each m is.2.passes) (λ j below. subst (λ (n : ℕ). mass n all ≤ mass_limit) (omega arith) (is.2.first j below))
+      (subst (λ (n : ℕ). mass_limit < mass n all) (omega arith) is.2.passes)) ∙ same)
   one_refused each begins.Memory text is same = absurd (cc)
   one_refused each begins.Disk text is same = absurd (cc)
 
 -- nor is an empty one, which changes no fact
-pub empty_fits : (warehouse : Warehouse) (batch : List Fact) → IsSchema warehouse.schema → AreAccepted warehouse.schema warehouse.facts → batch ≡ []
-    → refusal_of warehouse.schema (warehouse.facts ++ batch) ≡ None
-empty_fits warehouse batch lawful fine none =
-    let same : warehouse.facts ++ batch ≡ warehouse.facts = ap (λ (l : List Fact). warehouse.facts ++ l) none ∙ append-nil warehouse.facts in
-    none_refused warehouse batch lawful (subst (AreAccepted warehouse.schema) (sym same) fine)
+pub empty_fits : (warehouse : Warehouse) → IsSchema warehouse.schema → AreAccepted warehouse.schema warehouse.facts → refusal_of warehouse.schema (warehouse.facts ++ []) ≡ None
+empty_fits warehouse lawful fine = none_refused warehouse [] lawful (subst (AreAccepted warehouse.schema) (sym (append-nil warehouse.facts)) fine)

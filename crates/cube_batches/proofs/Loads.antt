@@ -1,12 +1,12 @@
 -- A batch is taken in at once or made pending: it is empty, or it begins.
 use Rattle.script_lang.specs.declared.command.Command.TheVariants as says
 use Rattle.cube_state.specs.declared.stop.Stop.TheVariants as stops
-use Rattle.cube_batches.proofs.Names.{◌++◌, ◌∙◌, ◌≡◌, Answer, AttendsAs, BatchSource, BeginGives, Begun, Belongs, Block, Cache, CarriesOut, CarriesOutAlone, Cost, Disk, Ends, EndsFor, Err, Fact}
-use Rattle.cube_batches.proofs.Names.{Files, ForEach, Forest, Ghosts, Given, Gives, GivesBegun, GivesGiven, Global, HasBegun, HasNone, Hollow, Idle, IsAnswer, IsFitting, IsReadyFor, IsTrue}
-use Rattle.cube_batches.proofs.Names.{LeavesLive, List, LoadTells, Ok, OnlyNow, Pending, RepliesAlone, Reply, Rows, RunsFor, SaysOnly, Some, SparesOthers, Spends, Stands, State, Store}
-use Rattle.cube_batches.proofs.Names.{TellsDamage, TellsGivenDamage, TellsNone, Vec, Warehouse, World, [], act, ap, append-nil, arith, begun, beside, both, codes, committed, committed_text}
-use Rattle.cube_batches.proofs.Names.{fact_count, given_to, hollow_of, inr, length, line, live_file, live_no_root, live_of, load_of, quiet, quiet_on, quiet_out, refl, replied, runs_out}
-use Rattle.cube_batches.proofs.Names.{spends_more, still, stopped, subst, sym, unharmed, ℕ}
+use Rattle.cube_batches.proofs.Names.{◌++◌, ◌∙◌, ◌≡◌, Answer, AttendsAs, BatchSource, BeginGives, Begun, Belongs, Block, Cache, CarriesOut, CarriesOutAlone, Cost, Disk, Ends, Err, Fact, Files}
+use Rattle.cube_batches.proofs.Names.{ForEach, Forest, Ghosts, Given, Gives, GivesBegun, GivesGiven, Global, HasBegun, HasNone, Hollow, Idle, IsAnswer, IsFitting, IsReadyFor, IsTrue, LeavesLive}
+use Rattle.cube_batches.proofs.Names.{List, LoadTells, Ok, OnlyNow, Pending, RepliesAlone, Reply, Rows, RunsFor, SaysOnly, Some, SparesOthers, Spends, Stands, State, Store, TellsDamage}
+use Rattle.cube_batches.proofs.Names.{TellsGivenDamage, TellsNone, Vec, Warehouse, World, [], act, ap, append-nil, arith, begun, beside, both, codes, committed, committed_text, fact_count}
+use Rattle.cube_batches.proofs.Names.{given_to, hollow_of, inr, length, line, live_file, live_no_root, live_of, load_of, quiet, quiet_on, quiet_out, refl, replied, runs_out, spends_more, still}
+use Rattle.cube_batches.proofs.Names.{stopped, subst, sym, unharmed, ℕ}
 use Rattle.cube_batches.proofs.{Limits.empty_fits, Calls.answered_by, Calls.batch_told, Calls.batch_whole, Calls.between_then, Calls.closed_spares, Calls.quiet_then, Calls.says_either}
 use Rattle.cube_batches.proofs.{Costs.committed_spends, Sources.begin_answer, Sources.begin_sends, Sources.begins_is, Sources.each_load, Sources.given_some, Sources.load_answer}
 use Rattle.cube_batches.proofs.{Sources.load_calls, Sources.load_gives, Sources.load_is, Sources.load_sends, Sources.rows_last, Takings.begun_fits, Takings.known}
@@ -33,7 +33,7 @@ pub empty_fitting : (source : BatchSource) (store : Store) (disk : Disk) → giv
 empty_fitting source store disk given world stands = record {
   knows = stands.1;
   read = known store disk stands.0 source (Ok ([], store.forest.body.last)) stands.2 given ∙ ap (λ (n : ℕ). Ok ([], n)) stands.2.last;
-  fits = empty_fits stands.0 [] stands.2.lawful.schema stands.2.lawful.accepted refl;
+  fits = empty_fits stands.0 stands.2.lawful.schema stands.2.lawful.accepted;
 }
 
 -- ---- an empty one is taken in
@@ -71,25 +71,6 @@ loads_none T source state next old new cache only is ready result = done_none so
 -- ---- one that has begun is committed
 
 module _ {S : Type 0} (T : Ghosts S) (source : BatchSource) (store : Store) (old mid : S) (r : Begun) (is : HasBegun T source store old mid r) where
-  load_ends_for : IsTrue T.tells → (world : World) → Stands (Idle store) (T.disk old) world → EndsFor T (load_of source) (Idle store) r old mid world
-  load_ends_for t world stands =
-      let fits = begun_fits T source store old mid r is t world stands in
-      let acts = load_answer world source stands.0 is.batch is.last fits in
-      record {
-        warehouse = stands.0;
-        batch = is.batch;
-        last = is.last;
-        attends = is.attends t stands.0 stands.2;
-        kept = stands.1.kept;
-        acts = acts;
-        any_moment = λ new run. between_then (T.disk old) (T.disk mid) (T.disk new) world (act world (load_of source)).0 (is.quiet.told t)
-            (is.any_moment t stands.0 stands.2 world (act world (load_of source)).0 stands.1.kept) run;
-        moves = (load_sends source).moves world 0;
-        calls = load_calls world source stands.0 is.batch is.last fits is.some;
-        costs = λ cost costs new ends pages. subst (λ (c : Cost). Spends T c old new) (sym (load_is world source stands.0 is.batch is.last fits is.some 0 cost costs))
-            (committed_spends T old mid new stands.0 is.batch is.spent r.progress.taken is.none_made ends pages);
-      }
-
   load_ends : Ends T (load_of source) (Idle store) r old mid
   load_ends = record {
     none_asked = (load_sends source).none_asked;
@@ -99,7 +80,23 @@ module _ {S : Type 0} (T : Ghosts S) (source : BatchSource) (store : Store) (old
     harms = each_load (λ s c. TellsNone c → ⊥) (λ b is. is) (λ n b is. is) (λ s r is. is) source;
     reads = each_load (λ s c. RepliesAlone c → ⊥) (λ b is. is) (λ n b is. is) (λ s r is. is) source;
     alone = (load_sends source).alone 0;
-    by_world = load_ends_for;
+    by_world = λ t world stands. (
+        let fits = begun_fits T source store old mid r is t world stands in
+        let acts = load_answer world source stands.0 is.batch is.last fits in
+        record {
+          warehouse = stands.0;
+          batch = is.batch;
+          last = is.last;
+          attends = is.attends t stands.0 stands.2;
+          kept = stands.1.kept;
+          acts = acts;
+          any_moment = λ new run. between_then (T.disk old) (T.disk mid) (T.disk new) world (act world (load_of source)).0 (is.quiet.told t)
+              (is.any_moment t stands.0 stands.2 world (act world (load_of source)).0 stands.1.kept) run;
+          moves = (load_sends source).moves world 0;
+          calls = load_calls world source stands.0 is.batch is.last fits is.some;
+          costs = λ cost costs new ends pages. subst (λ (c : Cost). Spends T c old new) (sym (load_is world source stands.0 is.batch is.last fits is.some 0 cost costs))
+              (committed_spends T old mid new stands.0 is.batch is.spent r.progress.taken is.none_made ends pages);
+        });
     quiet = λ new result then. quiet_then T old mid new is.quiet result then;
     damage = λ t stop told. each_load (λ s c. LoadTells (Idle store) (T.disk old).files s stop → TellsDamage (Idle store) (T.disk old).files c stop) (λ b is. is) (λ n b is. is) (λ s r is. is) source
         (subst (λ (g : Given). TellsGivenDamage store (T.disk old).files g stop) (sym is.given)

@@ -39,10 +39,6 @@ module _ (world : World) (source : BatchSource) (after : Warehouse → List Fact
       → refusal_of warehouse.schema (warehouse.facts ++ batch) ≡ refusal → answer_by world after source ≡ unless world (after warehouse batch last) refusal
   answer_batch batch last refusal read limits = answer_read (Ok (batch, last)) read ∙ ap (unless world (after warehouse batch last)) limits
 
-pub answer_fitting : (world : World) (source : BatchSource) (after : Warehouse → List Fact → ℕ → Answer) (warehouse : Warehouse) (batch : List Fact) (last : ℕ)
-    → IsFitting world source warehouse batch last → answer_by world after source ≡ after warehouse batch last
-answer_fitting world source after warehouse batch last is = answer_batch world source after warehouse is.knows batch last None is.read is.fits
-
 -- ---- the last number behind a batch
 
 last_in : ℕ → Given → ℕ
@@ -62,7 +58,7 @@ rows_last schema last n block batch is = same_last last n (block_read schema blo
 
 module _ (world : World) (source : BatchSource) (warehouse : Warehouse) (batch : List Fact) (last : ℕ) (is : IsFitting world source warehouse batch last) where
   pub load_answer : act world (load_of source) ≡ committed world warehouse batch last
-  load_answer = act_load_of world source ∙ answer_fitting world source (committed world) warehouse batch last is
+  load_answer = act_load_of world source ∙ answer_batch world source (committed world) warehouse is.knows batch last None is.read is.fits
 
   moves_with : (number : Option ℕ) (facts : List Fact) → 0 < length facts → moves_of (Some warehouse) (batch_with number facts) ≡ forest_moves warehouse.schema warehouse.facts facts
   moves_with number [] some = absurd (omega (arith, some))
@@ -90,7 +86,7 @@ begins_one (x ∷ xs) some = refl
 
 module _ (world : World) (block : Block) (warehouse : Warehouse) (batch : List Fact) (last : ℕ) (is : IsFitting world (Rows block) warehouse batch last) where
   pub begin_answer : act world (says.Begin block) ≡ begun world batch
-  begin_answer = act_begin world block ∙ answer_fitting world (Rows block) (λ w b n. begun world b) warehouse batch last is
+  begin_answer = act_begin world block ∙ answer_batch world (Rows block) (λ w b n. begun world b) warehouse is.knows batch last None is.read is.fits
 
   pub begins_is : 0 < length batch → begins world block ≡ 1
   begins_is some = (λ i. begins_over (is.knows.pending i) ((sym (act_begin world block) ∙ begin_answer) i).0.pending) ∙ begins_one batch some

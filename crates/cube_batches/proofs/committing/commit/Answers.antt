@@ -1,7 +1,5 @@
-use Rattle.cube_state.proofs.Writing.{at_error}
-use Rattle.cube_state.specs.Stops.{refresh_stop}
+use Rattle.cube_batches.proofs.Names.{Commits, at_error, refresh_stop}
 use Rattle.cube_batches.proofs.Committed.{commits, commits_not, forgotten}
-use Rattle.cube_batches.specs.Committing.{Commits}
 use Rattle.cube_batches.proofs.committing.commit.Goals as goal
 
 pub returns-in_err-store : goal.returns-in_err-store

@@ -1,5 +1,4 @@
-use Rattle.cube_state.proofs.Writing.{at_error}
-use Rattle.cube_state.specs.{Carried.CarriesOut, Commands.load_of}
+use Rattle.cube_batches.proofs.Names.{CarriesOut, at_error, load_of}
 use Rattle.cube_batches.proofs.{Loads.loads, Loads.loads_none, Sources.load_sends}
 use Rattle.cube_batches.proofs.loading.load.Goals as goal
 

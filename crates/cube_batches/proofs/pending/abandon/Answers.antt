@@ -1,5 +1,5 @@
 use Rattle.script_lang.specs.declared.command.Command.TheVariants as says
-use Rattle.cube_state.proofs.Carried.{runs_out_as}
+use Rattle.cube_batches.proofs.Names.{runs_out_as}
 use Rattle.cube_batches.proofs.Ends.{abandons, memory_as}
 use Rattle.cube_batches.proofs.pending.abandon.Goals as goal
 

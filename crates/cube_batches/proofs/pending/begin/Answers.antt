@@ -1,6 +1,5 @@
 use Rattle.script_lang.specs.declared.command.Command.TheVariants as says
-use Rattle.cube_state.proofs.Writing.{at_error}
-use Rattle.cube_state.specs.Carried.{CarriesOutAlone}
+use Rattle.cube_batches.proofs.Names.{CarriesOutAlone, at_error}
 use Rattle.cube_batches.proofs.{Loads.begins_none, Loads.begins_on, Sources.begin_sends}
 use Rattle.cube_batches.proofs.pending.begin.Goals as goal
 

@@ -1,6 +1,4 @@
-use Rattle.std.proofs.Common.{◌∙◌, subst, sym}
-use Rattle.cube_state.specs.declared.state.State.{State}
-use Rattle.cube_batches.specs.Dropping.{IsDropped}
+use Rattle.cube_batches.proofs.Names.{◌∙◌, IsDropped, State, subst, sym}
 use Rattle.cube_batches.proofs.pending.drop_batch.Goals as goal
 
 pub returns-in-Pending : goal.returns-in-Pending

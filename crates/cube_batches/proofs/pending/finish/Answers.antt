@@ -1,6 +1,5 @@
 use Rattle.script_lang.specs.declared.command.Command.TheVariants as says
-use Rattle.std.proofs.Common.{◌∙◌, subst, sym}
-use Rattle.cube_state.specs.{declared.state.State.State, declared.state.State.TheVariants.Pending, Carried.CarriesOut}
+use Rattle.cube_batches.proofs.Names.{◌∙◌, CarriesOut, Pending, State, subst, sym}
 use Rattle.cube_batches.proofs.Ends.{finish_ends, finishes_hollow, finishes_none}
 use Rattle.cube_batches.proofs.pending.finish.Goals as goal
 

@@ -1,9 +1,6 @@
 use Rattle.script_lang.specs.declared.command.Command.TheVariants as says
-use Rattle.std.proofs.Common.{◌≡◌, Ok, subst, sym}
-use Rattle.std.specs.Prelude.{codes}
-use Rattle.cube_state.proofs.{Carried.runs_out_as, Writing.at_error}
-use Rattle.cube_state.specs.{declared.state.State.State, declared.state.State.TheVariants.Pending, Batches.pending_line, Carried.CarriesOutAlone, Carried.Reply, Stops.refresh_stop}
-use Rattle.cube_batches.proofs.Ends.{moves_not, moves_on, memory_as, steps_none}
+use Rattle.cube_batches.proofs.Names.{◌≡◌, CarriesOutAlone, Ok, Pending, Reply, State, at_error, codes, pending_line, refresh_stop, runs_out_as, subst, sym}
+use Rattle.cube_batches.proofs.Ends.{memory_as, moves_not, moves_on, steps_none}
 use Rattle.cube_batches.proofs.pending.step.Goals as goal
 
 pub returns-in_err-reply : goal.returns-in_err-reply

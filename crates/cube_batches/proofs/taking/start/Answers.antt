@@ -1,8 +1,5 @@
-use Rattle.std.proofs.Common.{Ok, refl, subst, sym}
-use Rattle.cube_state.proofs.Writing.{at_error}
-use Rattle.cube_state.specs.{declared.state.State.State, declared.state.State.TheVariants.Idle}
+use Rattle.cube_batches.proofs.Names.{Answers, Idle, Ok, State, TakesIn, at_error, refl, subst, sym}
 use Rattle.cube_batches.proofs.Takings.{begin_attends, begin_between, limit_refuses, starts_not}
-use Rattle.cube_batches.specs.Taking.{Answers, TakesIn}
 use Rattle.cube_batches.proofs.taking.start.Goals as goal
 
 pub returns-in-Ok : goal.returns-in-Ok
