@@ -1,36 +1,21 @@
 -- Calls one after another, and what they leave of the files.
-use Rattle.std.proofs.Common.{◌≡◌, ◌∙◌, ◌+◌, ◌%◌, ◌==◌, ℕ, Bool, false, cond, List, length, Some, Result, Ok, Err, IfOk, IfErr, OnOk, refl, ap, subst, arith}
-use Rattle.std.specs.Prelude.{◌≢◌, slice_index}
-use Rattle.std.proofs.lemmas.Bool.Decides.{nat_tests}
-use Rattle.site_core.specs.Disk.{DiffersPast, Disk, Files, with_file}
-use Rattle.site_core.specs.declared.site.Site.{Ghosts}
-use Rattle.site_core.proofs.Run.{joined, wider}
-use Rattle.forest_refresh.specs.Begun.{next_side}
-use Rattle.forest_root.specs.Root.{ClosesGate, gate_at}
-use Rattle.forest_root.specs.declared.body.Body.{Body}
-use Rattle.plain_machine.specs.World.{World}
-use Rattle.cube_state.specs.declared.stop.Stop.{Stop}
 use Rattle.cube_state.specs.declared.stop.Stop.TheVariants as stops
-use Rattle.cube_state.specs.BatchDamage.{IsSpared}
-use Rattle.cube_state.specs.Carried.{Spares}
-use Rattle.cube_state.specs.Frames.{IsQuiet}
-use Rattle.cube_state.specs.Session.{Between, KeepsEither}
-use Rattle.cube_state.specs.Stops.{StopCause}
-use Rattle.cube_batches.specs.Committing.{SparesOthers}
+use Rattle.forest_refresh.specs.declared.stop.RefreshStop.TheVariants as ends
+use Rattle.cube_batches.proofs.Names.{◌%◌, ◌+◌, ◌∙◌, ◌≡◌, ◌≢◌, Answer, AreAllWhole, Begun, Between, Body, ClosesGate, Disk, Err, Fact, Files, Forest, Ghosts, Global, IsAnswer, IsQuiet}
+use Rattle.cube_batches.proofs.Names.{KeepsEither, List, Ok, Reply, Result, SaysOnly, Some, Spares, SparesOthers, Stands, State, Stop, StopCause, Store, TellsBatchDamage, TellsFirstDamage}
+use Rattle.cube_batches.proofs.Names.{TellsRefreshDamage, Vec, World, arith, both, deltas_by, joined, names_with, next_side, quiet, refl, same-first-damage, same-whole, subst, sym, wider}
+use Rattle.cube_batches.proofs.Names.{with_file, with_file-other, ℕ}
 
--- ---- what holds at Ok, and of a stop
+-- ---- a reply
 
-pub at_ok : {A : Type 0} {P Q : Type 0} (result : Result A Stop) → (P → Q) → OnOk result P → OnOk result Q
-at_ok (Ok x) to is = to is
-at_ok (Err stop) to is = tt
+-- it is this text, or memory runs out
+pub says_either : (P : Reply → Type 0) (text : List ℕ) → ((reply : Vec ℕ Global) → reply.items ≡ text → P (Ok reply)) → P (Err stops.Memory) → (result : Reply) → SaysOnly text result → P result
+says_either P text replies out (Ok reply) said = replies reply said
+says_either P text replies out (Err stop) said = subst (λ (s : Stop). P (Err s)) (sym said) out
 
-pub if_ok : {A : Type 0} {P Q : A → Type 0} (result : Result A Stop) → ((x : A) → P x → Q x) → IfOk result P → IfOk result Q
-if_ok (Ok x) to is = to x is
-if_ok (Err stop) to is = tt
-
-pub if_err : {A : Type 0} {P Q : Stop → Type 0} (result : Result A Stop) → ((stop : Stop) → P stop → Q stop) → IfErr result P → IfErr result Q
-if_err (Ok x) to is = tt
-if_err (Err stop) to is = to stop is
+-- the plain machine's, which is known to be this
+pub answered_by : (disk : Disk) (answer other : Answer) (state : State) (reply : List ℕ) → answer ≡ other → Stands state disk other.0 → reply ≡ other.1 → IsAnswer disk answer state reply
+answered_by disk answer other state reply same stands said = subst (λ (a : Answer). IsAnswer disk a state reply) (sym same) (record { stands = stands; said = said })
 
 -- ---- one run behind another
 
@@ -42,9 +27,7 @@ between_then old mid new world next quiet first second =
 module _ {S A : Type 0} (T : Ghosts S) (old mid new : S) {x : A} (first : IsQuiet T old mid (Ok x)) where
   cause_then : (stop : Stop) → StopCause (T.disk_faults mid) (T.disk_faults new) (T.told_faults mid) (T.told_faults new) stop
       → StopCause (T.disk_faults old) (T.disk_faults new) (T.told_faults old) (T.told_faults new) stop
-  cause_then stop is =
-      subst (λ n. StopCause n (T.disk_faults new) (T.told_faults old) (T.told_faults new) stop) first.disk_faults
-      (subst (λ n. StopCause (T.disk_faults mid) (T.disk_faults new) n (T.told_faults new) stop) first.told_faults is)
+  cause_then stop = subst (λ (n : ℕ × ℕ). StopCause n.0 (T.disk_faults new) n.1 (T.told_faults new) stop) (λ i. (first.disk_faults i, first.told_faults i))
 
   pub quiet_then : {B : Type 0} (result : Result B Stop) → IsQuiet T mid new result → IsQuiet T old new result
   quiet_then (Ok y) is = record { told = λ t. is.told t ∙ first.told t; cause = tt; disk_faults = is.disk_faults ∙ first.disk_faults; told_faults = is.told_faults ∙ first.told_faults }
@@ -56,61 +39,49 @@ module _ {S A : Type 0} (T : Ghosts S) (old mid new : S) {x : A} (first : IsQuie
 no_root : (live : Body) → 0 ≢ next_side live
 no_root live is = absurd (omega (arith, is))
 
-module _ (files : Files) (bytes : List ℕ) where
-  pub with_root : with_file files 0 bytes 0 ≡ bytes
-  with_root = refl
-
-  pub with_others : (file : ℕ) → file ≢ 0 → with_file files 0 bytes file ≡ files file
-  with_others file not = let test : (file == 0) ≡ false = grind (arith, nat_tests) in ap (λ (b : Bool). cond b bytes (files file)) test
-
--- where it stays
-root_stays : (slot : ℕ) (old : Files) (bytes : List ℕ) → bytes ≡ old 0 → ClosesGate slot old (with_file old 0 bytes)
-root_stays slot old bytes same = record {
+closed_root : (slot : ℕ) (old mid : Files) → ClosesGate slot old mid → ClosesGate slot old (with_file old 0 (mid 0))
+closed_root slot old mid closes = record {
   range = record {
-    others = with_others old bytes;
-    no_shorter = omega (arith, ap length same);
-    no_longer = omega (arith, ap length same);
-    before = λ i low front. ap (λ (b : List ℕ). slice_index b i) same;
-    after = λ i low behind. ap (λ (b : List ℕ). slice_index b i) same;
+    others = with_file-other old 0 (mid 0);
+    no_shorter = closes.range.no_shorter;
+    no_longer = closes.range.no_longer;
+    before = closes.range.before;
+    after = closes.range.after;
   };
-  rule = λ shut. ap (λ (b : List ℕ). slice_index b (gate_at slot)) same;
+  rule = closes.rule;
 }
 
-pub side_spared : (live : Body) (old new : Files) → DiffersPast (next_side live) 0 old new → IsSpared live old new
-side_spared live old new differs = record {
-  others = λ file no_root no_side. differs.others file no_side;
-  root = root_stays ((live.generation + 1) % 2) old (new 0) (differs.others 0 (no_root live));
+-- all files but the new side, behind a close of its gate
+pub closed_spares : (live : Body) (old mid new : Files) → ClosesGate ((live.generation + 1) % 2) old mid → (stop : Stop) → SparesOthers live mid new stop → Spares (Some live) old new stop
+closed_spares live old mid new closes (stops.Damaged file offset) is = record {
+  others = λ file no_root no_side. is.others file no_side ∙ closes.range.others file no_root;
+  root = subst (λ (bytes : List ℕ). ClosesGate ((live.generation + 1) % 2) old (with_file old 0 bytes)) (sym (is.others 0 (no_root live))) (closed_root ((live.generation + 1) % 2) old mid closes);
 }
-
--- the gate of the next generation is closed first
-closed_root : (slot : ℕ) (old mid : Files) (bytes : List ℕ) → ClosesGate slot old mid → bytes ≡ mid 0 → ClosesGate slot old (with_file old 0 bytes)
-closed_root slot old mid bytes closes same = record {
-  range = record {
-    others = with_others old bytes;
-    no_shorter = omega (arith, ap length same, closes.range.no_shorter);
-    no_longer = omega (arith, ap length same, closes.range.no_longer);
-    before = λ i low front. ap (λ (b : List ℕ). slice_index b i) same ∙ closes.range.before i low front;
-    after = λ i low behind. ap (λ (b : List ℕ). slice_index b i) same ∙ closes.range.after i low behind;
-  };
-  rule = λ shut. ap (λ (b : List ℕ). slice_index b (gate_at slot)) same ∙ closes.rule shut;
-}
-
-pub closed_spared : (live : Body) (old mid new : Files) → ClosesGate ((live.generation + 1) % 2) old mid → DiffersPast (next_side live) 0 mid new → IsSpared live old new
-closed_spared live old mid new closes differs = record {
-  others = λ file no_root no_side. differs.others file no_side ∙ closes.range.others file no_root;
-  root = closed_root ((live.generation + 1) % 2) old mid (new 0) closes (differs.others 0 (no_root live));
-}
-
--- the same of a stop
-pub side_spares : (live : Body) (old new : Files) (stop : Stop) → SparesOthers live old new stop → Spares (Some live) old new stop
-side_spares live old new (stops.Damaged file offset) is = side_spared live old new is
-side_spares live old new stops.Disk is = tt
-side_spares live old new stops.Output is = tt
-side_spares live old new stops.Memory is = tt
-
-pub closed_spares : (live : Body) (old mid new : Files) → ClosesGate ((live.generation + 1) % 2) old mid → (stop : Stop) → SparesOthers live mid new stop
-    → Spares (Some live) old new stop
-closed_spares live old mid new closes (stops.Damaged file offset) is = closed_spared live old mid new closes is
 closed_spares live old mid new closes stops.Disk is = tt
 closed_spares live old mid new closes stops.Output is = tt
 closed_spares live old mid new closes stops.Memory is = tt
+
+-- or without
+pub side_spares : (live : Body) (old new : Files) (stop : Stop) → SparesOthers live old new stop → Spares (Some live) old new stop
+side_spares live old new stop = closed_spares live old old new (record {
+  range = record { others = λ file other. refl; no_shorter = omega arith; no_longer = omega arith; before = λ i low front. refl; after = λ i low behind. refl };
+  rule = λ shut. refl;
+}) stop
+
+-- ---- damage, where the root file alone differs
+
+module _ (r : Begun) (store : Store) (batch : List Fact) (old new : Files) (others : (file : ℕ) → file ≢ 0 → new file ≡ old file) (forest : r.store.forest ≡ store.forest)
+    (points : r.deltas ≡ deltas_by (names_with store.dicts batch) store.forest.schema batch) where
+  -- of the batch that has begun over this store
+  pub batch_told : (stop : Stop) → TellsRefreshDamage r new stop → TellsBatchDamage store old batch stop
+  batch_told (stops.Damaged file offset) is =
+      subst (λ d. TellsFirstDamage store.forest old d (ends.Damaged file offset)) points
+      (subst (λ (f : Forest). TellsFirstDamage f old r.deltas (ends.Damaged file offset)) forest
+      (same-first-damage r.store.forest r.deltas old new others (ends.Damaged file offset) is))
+  batch_told stops.Disk is = tt
+  batch_told stops.Output is = tt
+  batch_told stops.Memory is = tt
+
+  pub batch_whole : AreAllWhole r.store.forest new r.deltas → AreAllWhole store.forest old (deltas_by (names_with store.dicts batch) store.forest.schema batch)
+  batch_whole whole = subst (λ d. AreAllWhole store.forest old d) points
+      (subst (λ (f : Forest). AreAllWhole f old r.deltas) forest (λ t low. same-whole r.store.forest r.deltas old new others t (whole t low)))

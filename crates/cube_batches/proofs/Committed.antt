@@ -1,44 +1,13 @@
 -- A batch that has begun is committed, at each end of it.
-use Rattle.std.proofs.Common.{◌≡◌, ◌∙◌, ◌+◌, ◌++◌, IsTrue, ℕ, inl, inr, List, [], length, Some, Result, Ok, Err, IfOk, IfErr, refl, sym, ap, arith, subst, length-append}
-use Rattle.std.specs.Prelude.{◌≢◌}
-use Rattle.std.specs.Result.{IsErrAnd}
-use Rattle.site_core.specs.Causes.{HasCauseWhere}
-use Rattle.site_core.specs.Disk.{Disk, Files}
-use Rattle.site_core.specs.Frames.{Calls}
-use Rattle.site_core.specs.Moments.{HoldsNow, IsStable, LeavesOnly}
-use Rattle.site_core.specs.declared.site.Site.{Ghosts}
-use Rattle.site_core.proofs.Run.{stable_holds, wider}
-use Rattle.cube_schema.specs.declared.schema.Schema.{Schema}
-use Rattle.fact_model.specs.declared.fact.Fact.{Fact}
-use Rattle.packing.specs.Moves.{KeepsTo}
-use Rattle.forest_moves.specs.Forest.{forest_moves}
-use Rattle.forest_refresh.specs.Begun.{Begun, IsNextStore, IsRefreshOf}
-use Rattle.forest_refresh.specs.Refreshed as refreshes
-use Rattle.forest_refresh.specs.Trees.{AreAllWhole, TellsFirstDamage}
-use Rattle.forest_refresh.specs.declared.stop.RefreshStop.{RefreshStop}
-use Rattle.forest_refresh.specs.declared.stop.RefreshStop.TheVariants as ends
-use Rattle.forest_root.specs.declared.forest.Store.{Store}
-use Rattle.forest_store.specs.Opened.{IsOpened}
-use Rattle.forest_store.specs.Sides.{page_total}
-use Rattle.forest_store.specs.Stored.{IsStoreOf}
-use Rattle.page_cache.specs.Giving.{Cache}
-use Rattle.reply_text.specs.Replies.{committed_text}
-use Rattle.plain_machine.specs.Keeps.{IsLawful}
-use Rattle.plain_machine.specs.Machine.{committed}
-use Rattle.plain_machine.specs.World.{Kept, Warehouse, World}
-use Rattle.cube_state.specs.declared.state.State.{State}
-use Rattle.cube_state.specs.declared.state.State.TheVariants.{Idle}
-use Rattle.cube_state.specs.declared.stop.Stop.{Stop}
 use Rattle.cube_state.specs.declared.stop.Stop.TheVariants as stops
-use Rattle.cube_state.specs.BatchDamage.{TellsRefreshDamage}
-use Rattle.cube_state.specs.Cached.{emptied}
-use Rattle.cube_state.specs.Carried.{Reply}
-use Rattle.cube_state.specs.Frames.{IsQuiet}
-use Rattle.cube_state.specs.Session.{AttendsAs, Belongs, Between, IsAnswer}
-use Rattle.cube_state.specs.Stops.{IsNoDamage, StopCause, refresh_stop}
-use Rattle.cube_batches.specs.Committing.{Commits, CommitsFor, SaysOnly, SparesOthers, fact_count}
-use Rattle.cube_batches.proofs.Begins.{KeepsEitherOf, all_fine}
-use Rattle.cube_batches.proofs.Costs.{commit_spends, pages_read}
+use Rattle.forest_refresh.specs.declared.stop.RefreshStop.TheVariants as ends
+use Rattle.forest_refresh.specs.Refreshed as refreshes
+use Rattle.cube_batches.proofs.Names.{◌++◌, ◌+◌, ◌∙◌, ◌≡◌, ◌≢◌, Answer, AreAllWhole, AttendsAs, Begun, Belongs, Between, Cache, Calls, Command, Commits, Disk, Ends, Err, Fact, Files, ForEach}
+use Rattle.cube_batches.proofs.Names.{Ghosts, Gives, Global, HasCauseWhere, HoldsNow, Idle, IsLawful, IsNextStore, IsNoDamage, IsOpened, IsQuiet, IsRefreshOf, IsStable, IsStoreOf, IsTrue, Keeps}
+use Rattle.cube_batches.proofs.Names.{KeepsEither, KeepsFacts, KeepsTo, LeavesOnly, List, Ok, RefreshStop, Reply, Result, RunsFor, SaysOnly, Schema, Some, SparesOthers, State, StopCause, Store}
+use Rattle.cube_batches.proofs.Names.{TellsFirstDamage, TellsRefreshDamage, Vec, Warehouse, World, [], act, ap, arith, both, committed, committed_text, emptied, fact_count, forest_moves, inl, inr}
+use Rattle.cube_batches.proofs.Names.{joined, length, length-append, onward, page_total, quiet_out, refl, refresh_stop, replied, stable_holds, stopped, subst, sym, unharmed, wider, ℕ}
+use Rattle.cube_batches.proofs.{Calls.answered_by, Calls.says_either, Costs.commit_spends, Costs.pages_read, Takings.all_fine}
 
 -- ---- stops of a refresh
 
@@ -63,9 +32,6 @@ module _ {S A : Type 0} (T : Ghosts S) (old new : S) (most : ℕ) (told : IsTrue
   pub refresh_quiet_on : {B : Type 0} (x : A) (y : B) → Calls T (HasCauseWhere ends.Disk) most old new (Ok x) → IsQuiet T old new (Ok y)
   refresh_quiet_on x y calls = record { told = told; cause = tt; disk_faults = calls.cause.ok; told_faults = calls.told_faults }
 
-  refresh_quiet_out : {B : Type 0} (x : A) → Calls T (HasCauseWhere ends.Disk) most old new (Ok x) → IsQuiet {A = B} T old new (Err stops.Memory)
-  refresh_quiet_out x calls = record { told = told; cause = (calls.cause.ok, calls.told_faults); disk_faults = tt; told_faults = calls.told_faults }
-
 -- ---- all facts are kept then
 
 module _ (last : ℕ) (r : Begun) (old new : Disk) (warehouse : Warehouse) (batch : List Fact) (is : AttendsAs last r old warehouse batch) where
@@ -79,38 +45,32 @@ module _ (last : ℕ) (r : Begun) (old new : Disk) (warehouse : Warehouse) (batc
     last = omega (arith, is.due, is.lawful.last, is.some, length-append warehouse.facts batch);
   }
 
-  -- the numbers that are kept are those of the warehouse and of the next one
-  same_numbers : (P : ℕ → ℕ → Type 0) → P r.store.forest.body.last r.next.last → P warehouse.last last
-  same_numbers P is_so = subst (λ n. P n last) is.last (subst (P r.store.forest.body.last) is.next is_so)
-
-  either : (files : Files) → refreshes.KeepsEither warehouse.schema warehouse.facts warehouse.last (warehouse.facts ++ batch) last files → KeepsEitherOf (Some warehouse) (Some all_kept) files
-  either files (inl kept) = inl (record { lawful = is.lawful; kept = kept })
-  either files (inr both) = inr (record { lawful = all_lawful; kept = both.1 })
+  either : (world : World) → world.kept ≡ Some warehouse → (files : Files)
+      → refreshes.KeepsEither r.store.forest.schema warehouse.facts r.store.forest.body.last (warehouse.facts ++ batch) r.next.last files
+      → KeepsEither world (committed world warehouse batch last).0 files
+  either world kept files (inl without) = inl (subst (Keeps files) (sym kept) (record {
+    lawful = is.lawful;
+    kept = subst (λ (k : Schema × ℕ). KeepsFacts k.0 warehouse.facts k.1 files) (λ i. (is.schema i, is.last i)) without;
+  }))
+  either world kept files (inr both) = inr (record {
+    lawful = all_lawful;
+    kept = subst (λ (k : Schema × ℕ). KeepsFacts k.0 (warehouse.facts ++ batch) k.1 files) (λ i. (is.schema i, is.next i)) both.1;
+  })
 
   -- the files keep the facts without the batch, or all of them
   commit_moments : (world : World) → world.kept ≡ Some warehouse
       → LeavesOnly old new (λ told files. (told ≡ old.told) × refreshes.KeepsEither r.store.forest.schema warehouse.facts r.store.forest.body.last (warehouse.facts ++ batch) r.next.last files)
       → Between old new world (committed world warehouse batch last).0
-  commit_moments world kept run = subst (λ (k : Kept). LeavesOnly old new (λ told files. (told ≡ old.told) × KeepsEitherOf k (Some all_kept) files)) (sym kept)
-      (wider old new _ _
-      (λ told files both. (
-        both.0,
-        either files (subst (λ (s : Schema). refreshes.KeepsEither s warehouse.facts warehouse.last (warehouse.facts ++ batch) last files) is.schema
-            (same_numbers (λ n m. refreshes.KeepsEither r.store.forest.schema warehouse.facts n (warehouse.facts ++ batch) m files) both.1)),
-      )) run)
+  commit_moments world kept run = wider old new _ _ (λ told files both. (both.0, either world kept files both.1)) run
 
-  module _ (store : Store) (after : IsNextStore r store) (stored : IsStoreOf store (warehouse.facts ++ batch) new.files) (stable : IsStable new) (opened : IsOpened store.forest.body new) where
-    commit_belongs : Belongs store new all_kept
-    commit_belongs = record {
-      lawful = all_lawful;
-      schema = after.schema ∙ is.schema;
-      last = after.last ∙ is.next;
-      stored = stable_holds (IsStoreOf store (warehouse.facts ++ batch)) new stable stored;
-      opened = opened;
-    }
-
-    commit_answer : (world : World) (reply : List ℕ) → reply ≡ committed_text store.forest.body.facts → IsAnswer new (committed world warehouse batch last) (Idle store) reply
-    commit_answer world reply said = record { stands = (all_kept, record { kept = refl; pending = refl }, commit_belongs); said = said ∙ ap committed_text stored.live.at.body_is.facts }
+  commit_belongs : (store : Store) → IsNextStore r store → IsStoreOf store (warehouse.facts ++ batch) new.files → IsStable new → IsOpened store.forest.body new → Belongs store new all_kept
+  commit_belongs store after stored stable opened = record {
+    lawful = all_lawful;
+    schema = after.schema ∙ is.schema;
+    last = after.last ∙ is.next;
+    stored = stable_holds (IsStoreOf store (warehouse.facts ++ batch)) new stable stored;
+    opened = opened;
+  }
 
 -- all kept pages are forgotten
 pub forgotten : (before after : Cache) → after.capacity ≡ before.capacity → after.kept ≡ [] → after ≡ emptied before
@@ -129,99 +89,74 @@ pub record Finishes {S : Type 0} (T : Ghosts S) (r : Begun) (old new : S) (resul
   pub told : IsTrue T.tells → (T.disk new).told ≡ (T.disk old).told
   pub calls : Calls T (HasCauseWhere ends.Disk) (page_total r.store.forest.body r.store.forest.schema) old new result
 
-module _ {S : Type 0} (T : Ghosts S) (r : Begun) (old new : S) (before : Cache) where
+module _ {S : Type 0} (T : Ghosts S) (r : Begun) (mid new : S) (before : Cache) where
   abbrev pages : ℕ
   pages = page_total r.store.forest.body r.store.forest.schema
 
+  runs_for : {result : Result Store RefreshStop} → Finishes T r mid new result → (command : Command) (state : State) (old : S) → Ends T command state r old mid
+      → ForEach T state old (RunsFor T command state old new)
+  runs_for is command state old to = λ t world stands.
+      let for = to.by_world t world stands in
+      let adds = for.attends.adds in
+      record {
+        any_moment = for.any_moment new (subst (λ (a : Answer). Between (T.disk mid) (T.disk new) world a.0) (sym for.acts)
+            (commit_moments for.last r (T.disk mid) (T.disk new) for.warehouse for.batch for.attends world for.kept (is.any_moment t for.warehouse.facts for.batch adds)));
+        cost = λ cost costs. for.costs cost costs new (commit_spends T mid new r for.warehouse for.batch for.attends (is.cost t for.warehouse.facts for.batch adds.read))
+            (pages_read T mid new r for.warehouse for.batch for.attends is.calls.reads);
+      }
+
   -- it stopped
-  module _ (why : RefreshStop) (is : Finishes T r old new (Err why))
-      (undamaged : IsTrue T.tells → (accepted batch : List Fact) → IsRefreshOf r accepted batch (T.disk old).files → refreshes.IsNoDamage why)
-      (spared : IsTrue T.tells → why ≢ ends.Disk → refreshes.SparesLive r.store.forest.body (T.disk old) (T.disk new))
-      (damaged : IsTrue T.tells → TellsFirstDamage r.store.forest (T.disk old).files r.deltas why) where
-    spares : (t : IsTrue T.tells) (stop : RefreshStop) → (stop ≢ ends.Disk → refreshes.SparesLive r.store.forest.body (T.disk old) (T.disk new))
-        → SparesOthers r.store.forest.body (T.disk old).files (T.disk new).files (refresh_stop stop)
+  module _ (why : RefreshStop) (is : Finishes T r mid new (Err why))
+      (undamaged : IsTrue T.tells → (accepted batch : List Fact) → IsRefreshOf r accepted batch (T.disk mid).files → refreshes.IsNoDamage why)
+      (spared : IsTrue T.tells → why ≢ ends.Disk → refreshes.SparesLive r.store.forest.body (T.disk mid) (T.disk new))
+      (damaged : IsTrue T.tells → TellsFirstDamage r.store.forest (T.disk mid).files r.deltas why) where
+    spares : (t : IsTrue T.tells) (stop : RefreshStop) → (stop ≢ ends.Disk → refreshes.SparesLive r.store.forest.body (T.disk mid) (T.disk new))
+        → SparesOthers r.store.forest.body (T.disk mid).files (T.disk new).files (refresh_stop stop)
     spares t ends.Disk is_so = tt
     spares t (ends.Damaged file offset) is_so = (is_so (λ e. cc)).files
 
-    commits_not : (next : State) → Commits T r next old new before before (Err (refresh_stop why))
-    commits_not next = record {
-      by_world = λ t warehouse batch last attends. record {
-        answer = λ world. tt;
-        any_moment = λ world kept. commit_moments last r (T.disk old) (T.disk new) warehouse batch attends world kept (is.any_moment t warehouse.facts batch attends.adds);
-        undamaged = same_damage why (undamaged t warehouse.facts batch attends.adds.read);
-        cost = commit_spends T old new r warehouse batch attends (is.cost t warehouse.facts batch attends.adds.read);
-        pages = pages_read T old new r warehouse batch attends is.calls.reads;
-      };
-      damage = λ t. refresh_tells r (T.disk old).files why (damaged t);
-      finished = λ t. tt;
-      spared = λ t. spares t why (spared t);
-      runs = tt;
-      moved = tt;
-      onward = tt;
-      cache = tt;
-      capacity = refl;
-      quiet = refresh_quiet T old new pages is.told why is.calls;
-    }
-
-    pub commits_not_as : (next : State) (result : Reply) → IsErrAnd result (λ stop. stop ≡ refresh_stop why) → Commits T r next old new before before result
-    commits_not_as next (Ok reply) same = absurd same
-    commits_not_as next (Err stop) same = subst (λ (s : Stop). Commits T r next old new before before (Err s)) (sym same) (commits_not next)
+    pub commits_not : (next : State) → Commits T r next mid new before before (Err (refresh_stop why))
+    commits_not next = λ command state old to. stopped T command to.none_asked state next old new to.writes before before refl (refresh_stop why) (runs_for is command state old to)
+        (record {
+          undamaged = λ t world stands. (let for = to.by_world t world stands in same_damage why (undamaged t for.warehouse.facts for.batch for.attends.adds.read));
+          damage = λ t. to.damage t (refresh_stop why) (refresh_tells r (T.disk mid).files why (damaged t));
+          spared = λ t. to.spares t new (refresh_stop why) (spares t why (spared t));
+          harmless = λ none. absurd (to.harms none);
+          step_side = λ t step. absurd (to.no_step step);
+        })
+        (to.quiet new (Err (refresh_stop why)) (refresh_quiet T mid new pages is.told why is.calls))
 
   -- it is committed, and acknowledged, or memory runs out
-  module _ (store : Store) (is : Finishes T r old new (Ok store))
-      (finished : IsTrue T.tells → (accepted batch : List Fact) → HoldsNow (IsRefreshOf r accepted batch) (T.disk old) → IsStoreOf store (accepted ++ batch) (T.disk new).files)
-      (joined : IsTrue T.tells → AreAllWhole r.store.forest (T.disk old).files r.deltas) (opened : IsTrue T.tells → IsOpened store.forest.body (T.disk new))
+  module _ (store : Store) (is : Finishes T r mid new (Ok store))
+      (finished : IsTrue T.tells → (accepted batch : List Fact) → HoldsNow (IsRefreshOf r accepted batch) (T.disk mid) → IsStoreOf store (accepted ++ batch) (T.disk new).files)
+      (joined : IsTrue T.tells → AreAllWhole r.store.forest (T.disk mid).files r.deltas) (opened : IsTrue T.tells → IsOpened store.forest.body (T.disk new))
       (stable : IsTrue T.tells → IsStable (T.disk new)) (next : IsNextStore r store) (after : Cache) (forgets : after ≡ emptied before) where
-    abbrev Ends : Reply → Type 0
-    Ends result = Commits T r (Idle store) old new before after result
+    acknowledges : (reply : Vec ℕ Global) → reply.items ≡ committed_text store.forest.body.facts → Commits T r (Idle store) mid new before after (Ok reply)
+    acknowledges reply said = λ command state old to.
+        let gives : IsTrue T.tells → Gives state (T.disk old).files command reply.items = λ t. to.gives t reply.items (record { whole = joined t; said = said ∙ ap committed_text next.facts }) in
+        replied T command to.none_asked state (Idle store) old new before after reply (runs_for is command state old to) (record {
+          answer = λ t world stands. (let for = to.by_world t world stands in let kept = finished t for.warehouse.facts for.batch for.attends.adds in
+              answered_by (T.disk new) (act world command) (committed world for.warehouse for.batch for.last) (Idle store) reply.items for.acts (
+                record { schema = for.warehouse.schema; facts = for.warehouse.facts ++ for.batch; last = for.last },
+                record { kept = refl; pending = refl },
+                commit_belongs for.last r (T.disk mid) (T.disk new) for.warehouse for.batch for.attends store next kept (stable t) (opened t),
+              ) (said ∙ ap committed_text kept.live.at.body_is.facts));
+          moved = λ t world stands. sym (to.by_world t world stands).moves;
+          uncalled = λ t world stands none. absurd ((to.by_world t world stands).calls none);
+          answered = gives;
+          runs = record { running = next.whole; fit = opened };
+          made = λ no. sym to.alone;
+          said = λ alone files. absurd (to.reads alone);
+        })
+        (onward T command to.none_asked state (Idle store) old new to.writes to.no_live to.no_step before after (next.generation ∙ ap (λ n. n + 1) (sym to.live)) forgets)
+        (to.quiet new (Ok reply) (refresh_quiet_on T mid new pages is.told store reply is.calls))
 
-    for_world : (result : Reply) → SaysOnly (committed_text store.forest.body.facts) result → IsTrue T.tells → (warehouse : Warehouse) (batch : List Fact) (last : ℕ)
-        → AttendsAs last r (T.disk old) warehouse batch → CommitsFor T r warehouse batch last (Idle store) old new result
-    for_world result says t warehouse batch last attends = record {
-      answer = λ world. by world result says;
-      any_moment = λ world kept. commit_moments last r (T.disk old) (T.disk new) warehouse batch attends world kept (is.any_moment t warehouse.facts batch attends.adds);
-      undamaged = none result says;
-      cost = commit_spends T old new r warehouse batch attends (is.cost t warehouse.facts batch attends.adds.read);
-      pages = pages_read T old new r warehouse batch attends is.calls.reads;
-    }
-      where
-        by : (world : World) (given : Reply) → SaysOnly (committed_text store.forest.body.facts) given → IfOk given (λ reply. IsAnswer (T.disk new) (committed world warehouse batch last) (Idle store) reply.items)
-        by world (Ok reply) said =
-            commit_answer last r (T.disk old) (T.disk new) warehouse batch attends store next (finished t warehouse.facts batch attends.adds) (stable t) (opened t) world reply.items said
-        by world (Err stop) said = tt
-
-        none : (given : Reply) → SaysOnly (committed_text store.forest.body.facts) given → IfErr given IsNoDamage
-        none (Ok reply) said = tt
-        none (Err stop) said = subst IsNoDamage (sym said) tt
-
-    commits : (result : Reply) → SaysOnly (committed_text store.forest.body.facts) result → Commits T r (Idle store) old new before after result
-    commits (Ok reply) said = record {
-      by_world = for_world (Ok reply) said;
-      damage = λ t. tt;
-      finished = λ t. record { whole = joined t; said = said ∙ ap committed_text next.facts };
-      spared = λ t. tt;
-      runs = record { running = next.whole; fit = opened };
-      moved = refl;
-      onward = next.generation;
-      cache = forgets;
-      capacity = ap (λ (c : Cache). c.capacity) forgets;
-      quiet = refresh_quiet_on T old new pages is.told store reply is.calls;
-    }
-    commits (Err stop) said = subst (λ (s : Stop). Ends (Err s)) (sym said) (record {
-      by_world = for_world (Err stops.Memory) refl;
-      damage = λ t. tt;
-      finished = λ t. tt;
-      spared = λ t. tt;
-      runs = tt;
-      moved = tt;
-      onward = tt;
-      cache = tt;
-      capacity = ap (λ (c : Cache). c.capacity) forgets;
-      quiet = refresh_quiet_out T old new pages is.told store is.calls;
-    })
+    wants_room : Commits T r (Idle store) mid new before after (Err stops.Memory)
+    wants_room = λ command state old to. stopped T command to.none_asked state (Idle store) old new to.writes before after (ap (λ (c : Cache). c.capacity) forgets) stops.Memory (runs_for is command state old to)
+        (unharmed T command to.none_asked state (Idle store) old new stops.Memory tt (λ t step. absurd (to.no_step step)))
+        (to.quiet new (Err stops.Memory) (quiet_out (refresh_quiet_on T mid new pages is.told {B = Unit {0}} store tt is.calls)))
 
     -- whatever the session has is said by the store
-    pub commits_as : (final : State) → final ≡ Idle store → (result : Reply) → SaysOnly (committed_text (fact_count final)) result → Commits T r final old new before after result
-    commits_as final idle result said =
-        subst (λ (s : State). Commits T r s old new before after result) (sym idle)
-        (commits result (subst (λ (s : State). SaysOnly (committed_text (fact_count s)) result) idle said))
+    pub commits : (final : State) → final ≡ Idle store → (result : Reply) → SaysOnly (committed_text (fact_count final)) result → Commits T r final mid new before after result
+    commits final idle result said = subst (λ (s : State). SaysOnly (committed_text (fact_count s)) result → Commits T r s mid new before after result) (sym idle)
+        (says_either (Commits T r (Idle store) mid new before after) (committed_text store.forest.body.facts) acknowledges wants_room result) said

@@ -1,60 +1,17 @@
 -- The pending batch moves on, is committed, or is dropped.
-use Rattle.std.proofs.Common.{◌≡◌, ◌∙◌, ◌<◌, ◌≤◌, ◌+◌, ◌-◌, IsTrue, Global, Vec, ℕ, List, [], ◌∷◌, length, min, Option, Some, None, Result, Ok, Err, IfOk, refl, sym, ap, arith, subst}
-use Rattle.std.specs.Prelude.{codes}
-use Rattle.std.specs.Result.{IsErrAnd}
-use Rattle.site_core.specs.Causes.{HasCauseWhere}
-use Rattle.site_core.specs.Disk.{Disk}
-use Rattle.site_core.specs.Frames.{Calls}
-use Rattle.site_core.specs.Moments.{HoldsNow, LeavesOnly}
-use Rattle.site_core.specs.declared.site.Site.{Ghosts}
-use Rattle.site_core.proofs.Run.{holds_to}
-use Rattle.fact_model.specs.declared.fact.Fact.{Fact}
-use Rattle.packing.specs.Moves.{KeepsTo}
-use Rattle.forest_moves.specs.Forest.{forest_moves}
-use Rattle.forest_refresh.specs.Begun.{Begun, IsGoing, IsReady, IsRefreshOf, StandsAt}
-use Rattle.forest_refresh.specs.Refreshed as refreshes
-use Rattle.forest_refresh.specs.Trees.{TellsFirstDamage}
-use Rattle.forest_refresh.specs.declared.stop.RefreshStop.{RefreshStop}
-use Rattle.forest_refresh.specs.declared.stop.RefreshStop.TheVariants as ends
-use Rattle.forest_root.specs.declared.body.Body.{Body}
-use Rattle.forest_root.specs.declared.forest.Forest.{Forest}
-use Rattle.forest_root.specs.declared.forest.Store.{Store}
-use Rattle.forest_store.specs.Held.{KeepsFacts}
-use Rattle.forest_store.specs.Opened.{IsOpened}
-use Rattle.forest_store.specs.Sides.{page_total}
-use Rattle.forest_store.specs.Stored.{IsStoreOf}
-use Rattle.merge_pack.specs.Standing.{moves_tried}
-use Rattle.page_cache.specs.Giving.{Cache}
-use Rattle.reply_text.specs.Replies.{line}
 use Rattle.script_lang.specs.declared.command.Command.TheVariants as says
-use Rattle.plain_machine.specs.Machine.{Answer, act, pending_over, replies_with}
-use Rattle.plain_machine.specs.World.{Kept, Knows, Warehouse, World}
-use Rattle.plain_machine.proofs.Acts.{act_abandon, act_step}
-use Rattle.cube_state.specs.declared.state.State.{State}
-use Rattle.cube_state.specs.declared.state.State.TheVariants.{Empty, Hollow, Idle, Pending}
-use Rattle.cube_state.specs.declared.stop.Stop.{Stop}
-use Rattle.cube_state.specs.Batches.{pending_line}
-use Rattle.cube_state.specs.Cached.{FitsLive, generation, live_of}
-use Rattle.cube_state.specs.Carried.{CarriesOut, CarriesOutAlone, Reply, Spares}
-use Rattle.cube_state.specs.Commands.{HasNoFact}
-use Rattle.cube_state.specs.Costs.{Cost, Spends}
-use Rattle.cube_state.specs.Frames.{RunsOn}
-use Rattle.cube_state.specs.Moves.{moves_made}
-use Rattle.cube_state.specs.Session.{Attends, Belongs, Between, IsAnswer, Stands}
-use Rattle.cube_state.specs.Stops.{refresh_stop}
-use Rattle.cube_state.proofs.Answering.{OnlyNow, quiet}
-use Rattle.cube_state.proofs.Cached.{emptied_fits, kept_same, side_fits, spared_stays}
-use Rattle.cube_state.proofs.Costs.{spends_none}
-use Rattle.cube_state.proofs.Looking.{quiet_here, rests_here}
-use Rattle.cube_state.proofs.Standing.{attends_belongs}
-use Rattle.cube_batches.specs.Committing.{Commits}
-use Rattle.cube_batches.specs.Dropping.{IsDropped, IsWithout}
-use Rattle.cube_batches.proofs.Begins.{begin_moments}
-use Rattle.cube_batches.proofs.Calls.{at_ok, if_err, side_spared, side_spares}
-use Rattle.cube_batches.proofs.Committed.{refresh_quiet, refresh_quiet_on, refresh_tells, same_damage}
-use Rattle.cube_batches.proofs.Costs.{finish_answer, finish_is, step_made, step_spends}
-use Rattle.cube_batches.proofs.Loads.{kept_onward}
-use Rattle.cube_batches.proofs.Sources.{goes_nowhere}
+use Rattle.cube_state.specs.declared.stop.Stop.TheVariants as stops
+use Rattle.forest_refresh.specs.declared.stop.RefreshStop.TheVariants as ends
+use Rattle.forest_refresh.specs.Refreshed as refreshes
+use Rattle.cube_batches.proofs.Names.{◌+◌, ◌-◌, ◌<◌, ◌∙◌, ◌∷◌, ◌≡◌, ◌≤◌, Answer, Attends, Begun, Belongs, Cache, Calls, CarriesOut, CarriesOutAlone, Cost, Disk, Empty, Ends, Err, Fact, Files}
+use Rattle.cube_batches.proofs.Names.{ForEach, Forest, Ghosts, Gives, Global, HasCauseWhere, HasNoFact, HoldsNow, Hollow, Idle, IsAnswer, IsDropped, IsErrAnd, IsGoing, IsOpened, IsReady}
+use Rattle.cube_batches.proofs.Names.{IsReadyFor, IsRefreshOf, IsStoreOf, IsTrue, IsWithout, KeepsFacts, KeepsTo, Kept, Knows, LeavesOnly, List, None, Ok, OnlyNow, OnlySays, Option, Pending}
+use Rattle.cube_batches.proofs.Names.{RefreshStop, Reply, Result, RunsFor, RunsOn, SaysOnly, SideStays, Some, Spares, Spends, Stands, StandsAt, State, Stop, Store, TellsFirstDamage, Vec}
+use Rattle.cube_batches.proofs.Names.{Warehouse, World, [], act, act_abandon, act_finish, act_step, ap, arith, attends_belongs, beside, codes, committed, committed_text, fact_count, forest_moves}
+use Rattle.cube_batches.proofs.Names.{goes_nowhere, holds_to, length, line, live_of, min, moves_made, moves_over, moves_tried, page_total, pending_line, pending_over, quiet, refl, refresh_stop}
+use Rattle.cube_batches.proofs.Names.{replied, replies_with, runs_out, says, spared_stays, still, stopped, subst, sym, ℕ}
+use Rattle.cube_batches.proofs.{Calls.answered_by, Calls.says_either, Calls.side_spares, Costs.finish_answer, Costs.finish_is, Costs.step_made, Costs.step_spends, Takings.begin_moments}
+use Rattle.cube_batches.proofs.{Loads.empty_answer, Committed.refresh_quiet, Committed.refresh_quiet_on, Committed.refresh_tells, Committed.same_damage}
 
 -- a batch that has a fact is not one without
 no_fact : (batch : List Fact) (pending : Option (List Fact)) → pending ≡ Some batch → 0 < length batch → HasNoFact pending → ⊥
@@ -77,15 +34,15 @@ pub record Moves {S : Type 0} (T : Ghosts S) (n : ℕ) (r now : Begun) (old new 
   pub calls : Calls T (HasCauseWhere ends.Disk) (page_total r.store.forest.body r.store.forest.schema) old new result
 
 module _ {S : Type 0} (T : Ghosts S) (n : ℕ) (r now : Begun) (old new : S) where
-  -- the plain machine only answers
-  step_answer : (world : World) (warehouse : Warehouse) (batch : List Fact) → Knows (Some warehouse) (Some batch) world → act world (says.Step n) ≡ (world, line (codes "stepped"))
-  step_answer world warehouse batch knows = act_step world n ∙ (λ i. pending_over world (λ w b. replies_with world (codes "stepped")) (knows.kept i) (knows.pending i))
+  moves_run : {result : Result ℕ RefreshStop} → Moves T n r now old new result → moves_tried n result ≤ n → ForEach T (Pending r) old (RunsFor T (says.Step n) (Pending r) old new)
+  moves_run {result} is few t world it = record {
+    any_moment = begin_moments r.store (T.disk old) (T.disk new) it.0 (attends_belongs r (T.disk old) it.0 it.1 it.3) world (act world (says.Step n)).0 it.2.kept (is.any_moment t it.0.facts it.1 it.3.adds);
+    cost = λ cost costs. subst (λ (c : Cost). Spends T c old new) (sym costs)
+        (step_spends T old new r it.0 it.1 it.3 world it.2 n (moves_tried n result) few (is.cost t it.0.facts it.1 it.3.adds.read));
+  }
 
-  moments : {result : Result ℕ RefreshStop} → Moves T n r now old new result → (t : IsTrue T.tells) (world next : World) → (stands : Stands (Pending r) (T.disk old) world)
-      → Between (T.disk old) (T.disk new) world next
-  moments is t world next stands =
-      begin_moments r.store (T.disk old) (T.disk new) stands.0 stands.1 (attends_belongs r (T.disk old) stands.0 stands.1 stands.3) world next stands.2.kept
-      (is.any_moment t stands.0.facts stands.1 stands.3.adds)
+  side_stays : {result : Result ℕ RefreshStop} → Moves T n r now old new result → IsTrue T.tells → SideStays (live_of (Pending r)) (T.disk old).files (T.disk new).files
+  side_stays is t = spared_stays r.store.forest.body (T.disk old).files (T.disk new).files (is.side t).files
 
   -- it moved on
   module _ (made : ℕ) (is : Moves T n r now old new (Ok made)) (same : now ≡ record r { progress = now.progress }) (taken : now.progress.taken ≡ r.progress.taken + made) (few : made ≤ n)
@@ -93,17 +50,11 @@ module _ {S : Type 0} (T : Ghosts S) (n : ℕ) (r now : Begun) (old new : S) whe
       × (made ≡ min n (length (forest_moves r.store.forest.schema accepted batch) - r.progress.taken)))
       (adds : IsTrue T.tells → (accepted batch : List Fact) → HoldsNow (IsRefreshOf r accepted batch) (T.disk old) → HoldsNow (IsRefreshOf now accepted batch) (T.disk new))
       (goes : IsGoing now) (ready_now : IsTrue T.tells → IsReady now (T.disk new)) where
-    same_store : now.store ≡ r.store
-    same_store = ap (λ (b : Begun). b.store) same
-
-    same_live : live_of (Pending now) ≡ live_of (Pending r)
-    same_live = ap (λ (s : Store). Some s.forest.body) same_store
-
     attends_on : IsTrue T.tells → (warehouse : Warehouse) (batch : List Fact) → Attends r (T.disk old) warehouse batch → Attends now (T.disk new) warehouse batch
     attends_on t warehouse batch attends = record {
       lawful = attends.lawful;
-      schema = ap (λ (s : Store). s.forest.schema) same_store ∙ attends.schema;
-      last = ap (λ (s : Store). s.forest.body.last) same_store ∙ attends.last;
+      schema = ap (λ (b : Begun). b.store.forest.schema) same ∙ attends.schema;
+      last = ap (λ (b : Begun). b.store.forest.body.last) same ∙ attends.last;
       next = ap (λ (b : Begun). b.next.last) same ∙ attends.next;
       due = attends.due;
       adds = adds t warehouse.facts batch attends.adds;
@@ -112,52 +63,19 @@ module _ {S : Type 0} (T : Ghosts S) (n : ℕ) (r now : Begun) (old new : S) whe
       moved = (stands t warehouse.facts batch attends.adds.read).0;
     }
 
-    moves_on : (reply : Vec ℕ Global) → reply.items ≡ line (codes "stepped") → CarriesOutAlone T (says.Step n) (Pending r) (Pending now) old new (Ok reply)
-    moves_on reply said = λ cache ready. record {
-      by_world = λ t world it. (let warehouse = it.0 in let batch = it.1 in record {
-        answer = subst (λ (a : Answer). IsAnswer (T.disk new) a (Pending now) reply.items) (sym (step_answer world warehouse batch it.2))
-            (record { stands = (warehouse, batch, it.2, attends_on t warehouse batch it.3); said = said });
-        any_moment = moments is t world (act world (says.Step n)).0 it;
-        undamaged = tt;
-        moved = step_made r (T.disk old) world warehouse batch it.2 it.3 n made now.progress.taken taken (stands t warehouse.facts batch it.3.adds.read).1;
-        cost = λ cost costs. subst (λ (c : Cost). Spends T c old new) (sym costs)
-            (step_spends T old new r warehouse batch it.3 world it.2 n made few (is.cost t warehouse.facts batch it.3.adds.read));
-        uncalled = λ none. absurd (no_fact batch world.pending it.2.pending it.3.some none);
-        saves = λ numbers to. absurd (goes_nowhere (says.Step n) (λ schema. refl) world numbers to);
-        keeps = λ numbers to. absurd (goes_nowhere (says.Step n) (λ schema. refl) world numbers to);
-      });
-      any_files = λ t. record {
-        damage = tt;
-        answered = said;
-        spared = tt;
-        looks = λ none. absurd (none tt);
-        fits = subst (λ (l : Option Body). FitsLive l (T.disk new).files cache) (sym same_live)
-            (side_fits (live_of (Pending r)) (T.disk old).files (T.disk new).files cache (spared_stays r.store.forest.body (T.disk old).files (T.disk new).files (is.side t).files) (ready.fits t));
-      };
-      goes_on = record {
+    pub moves_on : (reply : Vec ℕ Global) → reply.items ≡ line (codes "stepped") → CarriesOutAlone T (says.Step n) (Pending r) (Pending now) old new (Ok reply)
+    moves_on reply said = λ cache ready. replied T (says.Step n) (λ schema. refl) (Pending r) (Pending now) old new cache cache reply (moves_run is few) (record {
+        answer = λ t world it. answered_by (T.disk new) (act world (says.Step n)) (world, line (codes "stepped")) (Pending now) reply.items
+            (act_step world n ∙ (λ i. pending_over world (λ w b. replies_with world (codes "stepped")) (it.2.kept i) (it.2.pending i))) (it.0, it.1, it.2, attends_on t it.0 it.1 it.3) said;
+        moved = λ t world it. step_made T old new r it.0 it.1 it.3 world it.2 n made now.progress.taken taken (stands t it.0.facts it.1 it.3.adds.read).1;
+        uncalled = λ t world it none. absurd (no_fact it.1 world.pending it.2.pending it.3.some none);
+        answered = λ t. said;
         runs = record { running = goes; fit = ready_now };
-        cache = λ none. sym (kept_same (live_of (Pending r)) (live_of (Pending now)) cache (ap generation same_live));
-        capacity = refl;
-        unwritten = λ none. absurd (none tt);
-        quiet = refresh_quiet_on T old new (page_total r.store.forest.body r.store.forest.schema) is.told made reply is.calls;
-      };
-      leaves = record {
         made = λ no. absurd (no tt);
-        live = λ same. same_live;
-        harmless = λ none. absurd none;
         said = λ alone files. said;
-        unasked = λ none nothing. absurd (none tt);
-        fits = λ t none. absurd (none tt);
-        side = λ t same. spared_stays r.store.forest.body (T.disk old).files (T.disk new).files (is.side t).files;
-        step_side = λ t step. spared_stays r.store.forest.body (T.disk old).files (T.disk new).files (is.side t).files;
-      };
-    }
-
-    pub moves_on_as : (state : State) → state ≡ Pending r → (reply : Vec ℕ Global) → reply.items ≡ pending_line state (codes "stepped")
-        → CarriesOutAlone T (says.Step n) state (Pending now) old new (Ok reply)
-    moves_on_as state pending reply said =
-        subst (λ (s : State). CarriesOutAlone T (says.Step n) s (Pending now) old new (Ok reply)) (sym pending)
-        (moves_on reply (subst (λ (s : State). reply.items ≡ pending_line s (codes "stepped")) pending said))
+      })
+      (beside T (says.Step n) (λ schema. refl) (Pending r) (Pending now) old new cache ready (ap (λ (b : Begun). Some b.store.forest.body) same) (side_stays is) (λ no. absurd (no tt)))
+      (refresh_quiet_on T old new (page_total r.store.forest.body r.store.forest.schema) is.told made reply is.calls)
 
   -- it stopped
   module _ (why : RefreshStop) (is : Moves T n r now old new (Err why))
@@ -165,219 +83,172 @@ module _ {S : Type 0} (T : Ghosts S) (n : ℕ) (r now : Begun) (old new : S) whe
       (damaged : IsTrue T.tells → TellsFirstDamage r.store.forest (T.disk old).files r.deltas why) where
     spares : (t : IsTrue T.tells) (stop : RefreshStop) → Spares (Some r.store.forest.body) (T.disk old).files (T.disk new).files (refresh_stop stop)
     spares t ends.Disk = tt
-    spares t (ends.Damaged file offset) = side_spared r.store.forest.body (T.disk old).files (T.disk new).files (is.side t).files
+    spares t (ends.Damaged file offset) = side_spares r.store.forest.body (T.disk old).files (T.disk new).files (stops.Damaged file offset) (is.side t).files
 
-    moves_not : (final : State) → CarriesOutAlone T (says.Step n) (Pending r) final old new (Err (refresh_stop why))
-    moves_not final = λ cache ready. record {
-      by_world = λ t world it. record {
-        answer = tt;
-        any_moment = moments is t world (act world (says.Step n)).0 it;
-        undamaged = same_damage why (undamaged t it.0.facts it.1 it.3.adds.read);
-        moved = tt;
-        cost = λ cost costs. subst (λ (c : Cost). Spends T c old new) (sym costs)
-            (step_spends T old new r it.0 it.1 it.3 world it.2 n n (omega arith) (is.cost t it.0.facts it.1 it.3.adds.read));
-        uncalled = λ none. tt;
-        saves = λ numbers to. absurd (goes_nowhere (says.Step n) (λ schema. refl) world numbers to);
-        keeps = λ numbers to. absurd (goes_nowhere (says.Step n) (λ schema. refl) world numbers to);
-      };
-      any_files = λ t. record {
-        damage = refresh_tells r (T.disk old).files why (damaged t);
-        answered = tt;
-        spared = spares t why;
-        looks = λ none. absurd (none tt);
-        fits = tt;
-      };
-      goes_on = record {
-        runs = tt;
-        cache = λ none. tt;
-        capacity = refl;
-        unwritten = λ none. absurd (none tt);
-        quiet = refresh_quiet T old new (page_total r.store.forest.body r.store.forest.schema) is.told why is.calls;
-      };
-      leaves = record {
-        made = λ no. tt;
-        live = λ same. tt;
+    pub moves_not : (final : State) → CarriesOutAlone T (says.Step n) (Pending r) final old new (Err (refresh_stop why))
+    moves_not final = λ cache ready. stopped T (says.Step n) (λ schema. refl) (Pending r) final old new tt cache cache refl (refresh_stop why) (moves_run is (omega arith)) (record {
+        undamaged = λ t world it. same_damage why (undamaged t it.0.facts it.1 it.3.adds.read);
+        damage = λ t. refresh_tells r (T.disk old).files why (damaged t);
+        spared = λ t. spares t why;
         harmless = λ none. absurd none;
-        said = λ alone files. tt;
-        unasked = λ none nothing. absurd (none tt);
-        fits = λ t none. absurd (none tt);
-        side = λ t same. tt;
-        step_side = λ t step. spared_stays r.store.forest.body (T.disk old).files (T.disk new).files (is.side t).files;
-      };
-    }
-
-    moves_not_at : (final : State) (result : Reply) → IsErrAnd result (λ stop. stop ≡ refresh_stop why) → CarriesOutAlone T (says.Step n) (Pending r) final old new result
-    moves_not_at final (Ok reply) same = absurd same
-    moves_not_at final (Err stop) same = subst (λ (s : Stop). CarriesOutAlone T (says.Step n) (Pending r) final old new (Err s)) (sym same) (moves_not final)
-
-    pub moves_not_as : (state final : State) → state ≡ Pending r → (result : Reply) → IsErrAnd result (λ stop. stop ≡ refresh_stop why) → CarriesOutAlone T (says.Step n) state final old new result
-    moves_not_as state final pending result same =
-        subst (λ (s : State). CarriesOutAlone T (says.Step n) s final old new result) (sym pending) (moves_not_at final result same)
+        step_side = λ t step. side_stays is t;
+      })
+      (refresh_quiet T old new (page_total r.store.forest.body r.store.forest.schema) is.told why is.calls)
 
 -- ---- it is committed
 
-module _ {S : Type 0} (T : Ghosts S) (r : Begun) (final : State) (old new : S) (cache after : Cache) (result : Reply) (commits : Commits T r final old new cache after result) where
-  ends_pending : CarriesOut T says.Finish (Pending r) final old new cache after result
-  ends_pending = record {
-    by_world = λ t world it. (let warehouse = it.0 in let batch = it.1 in let for = commits.by_world t warehouse batch warehouse.last it.3 in let acts = finish_answer world warehouse batch it.2 in record {
-      answer = subst (λ (a : Answer). IfOk result (λ reply. IsAnswer (T.disk new) a final reply.items)) (sym acts) (for.answer world);
-      any_moment = subst (λ (a : Answer). Between (T.disk old) (T.disk new) world a.0) (sym acts) (for.any_moment world it.2.kept);
-      undamaged = for.undamaged;
-      moved = commits.moved;
-      cost = λ cost costs. subst (λ (c : Cost). Spends T c old new) (sym (costs ∙ finish_is world warehouse batch it.2 it.3.some r.progress.taken)) for.cost;
-      uncalled = λ none. absurd (no_fact batch world.pending it.2.pending it.3.some none);
-      saves = λ numbers to. absurd (goes_nowhere says.Finish (λ schema. refl) world numbers to);
-      keeps = λ numbers to. absurd (goes_nowhere says.Finish (λ schema. refl) world numbers to);
-    });
-    any_files = λ t. record {
-      damage = commits.damage t;
-      answered = commits.finished t;
-      spared = if_err result (side_spares r.store.forest.body (T.disk old).files (T.disk new).files) (commits.spared t);
-      looks = λ none. absurd (none tt);
-      fits = at_ok result (emptied_fits (live_of final) (T.disk new).files cache after) commits.cache;
-    };
-    goes_on = record {
-      runs = commits.runs;
-      cache = λ none. kept_onward (live_of (Pending r)) (live_of final) cache after result commits.onward commits.cache;
-      capacity = commits.capacity;
-      unwritten = λ none. absurd (none tt);
-      quiet = commits.quiet;
-    };
-    leaves = record {
-      made = λ no. commits.moved;
-      live = λ same. absurd same;
-      harmless = λ none. absurd none;
-      said = λ alone files. absurd alone;
-      unasked = λ none nothing. absurd (none tt);
-      fits = λ t none. absurd (none tt);
-      side = λ t same. absurd same;
-      step_side = λ t step. absurd step;
-    };
-  }
-
-  pub finishes_pending : (state : State) → state ≡ Pending r → CarriesOut T says.Finish state final old new cache after result
-  finishes_pending state pending = subst (λ (s : State). CarriesOut T says.Finish s final old new cache after result) (sym pending) ends_pending
+pub finish_ends : {S : Type 0} (T : Ghosts S) (r : Begun) (site : S) → Ends T says.Finish (Pending r) r site site
+finish_ends T r site = record {
+  none_asked = λ schema. refl;
+  writes = tt;
+  no_step = λ is. is;
+  no_live = λ is. is;
+  harms = λ is. is;
+  reads = λ is. is;
+  alone = refl;
+  by_world = λ t world it. record {
+    warehouse = it.0;
+    batch = it.1;
+    last = it.0.last;
+    attends = it.3;
+    kept = it.2.kept;
+    acts = finish_answer world it.0 it.1 it.2;
+    any_moment = λ new run. run;
+    moves = refl;
+    calls = no_fact it.1 world.pending it.2.pending it.3.some;
+    costs = λ cost costs new ends pages. subst (λ (c : Cost). Spends T c site new) (sym (costs ∙ finish_is world it.0 it.1 it.2 it.3.some r.progress.taken)) ends;
+  };
+  quiet = λ new result quiet. quiet;
+  damage = λ t stop told. told;
+  gives = λ t reply ends. ends;
+  spares = λ t new stop spares. side_spares r.store.forest.body (T.disk site).files (T.disk new).files stop spares;
+  live = refl;
+}
 
 -- ---- it is dropped
 
-pub drop_pending : (state final : State) (r : Begun) (store : Store) → state ≡ Pending r → final ≡ Idle store → IsWithout r store → IsDropped state final
-drop_pending state final r store pending idle without = subst (λ (s : State). IsDropped s final) (sym pending) (store, idle, without)
+without_belongs : (r : Begun) (store : Store) (disk : Disk) (warehouse : Warehouse) (batch : List Fact) → IsWithout r store → Attends r disk warehouse batch → Belongs store disk warehouse
+without_belongs r store disk warehouse batch without is = record {
+  lawful = is.lawful;
+  schema = ap (λ (f : Forest). f.schema) without.forest ∙ is.schema;
+  last = ap (λ (f : Forest). f.body.last) without.forest ∙ is.last;
+  stored = holds_to (IsRefreshOf r warehouse.facts batch) (IsStoreOf store warehouse.facts) disk (without.stored warehouse.facts batch) is.adds;
+  opened = subst (λ (f : Forest). IsOpened f.body disk) (sym without.forest) is.ready.opened;
+}
 
--- what a session has without its pending batch
-record Drops {S : Type 0} (T : Ghosts S) (state final : State) (site : S) : Type 0 where
-  pub stands : IsTrue T.tells → (world : World) → Stands state (T.disk site) world → Stands final (T.disk site) (act world says.Abandon).0
-  pub said : IsTrue T.tells → (world : World) → Stands state (T.disk site) world → (act world says.Abandon).1 ≡ pending_line state (codes "abandoned")
-  pub live : live_of final ≡ live_of state
-  pub none_made : moves_made final ≡ 0
-  pub runs : RunsOn T site state → RunsOn T site final
-
-abandon_over : World → Kept → Option (List Fact) → Answer
+abbrev abandon_over : World → Kept → Option (List Fact) → Answer
 abandon_over world kept pending = pending_over world (λ warehouse batch. (record world { pending = None }, line (codes "abandoned"))) kept pending
 
+abandon_answers : (world : World) (kept : Kept) (pending : Option (List Fact)) → Knows kept pending world → act world says.Abandon ≡ abandon_over world kept pending
+abandon_answers world kept pending knows = act_abandon world ∙ (λ i. abandon_over world (knows.kept i) (knows.pending i))
+
+module _ {S : Type 0} (T : Ghosts S) (site : S) (only : IsTrue T.tells → OnlyNow (T.disk site)) (reply : Vec ℕ Global) where
+  -- whatever it stood for
+  drops : (state final : State) → reply.items ≡ pending_line state (codes "abandoned") → ForEach T state site (λ world. IsAnswer (T.disk site) (act world says.Abandon) final reply.items)
+      → (RunsOn T site state → RunsOn T site final) → moves_made final ≡ 0 → live_of final ≡ live_of state → CarriesOutAlone T says.Abandon state final site site (Ok reply)
+  drops state final said answer runs none live = λ cache ready. still T says.Abandon (λ schema. refl) state final site only cache ready reply (record {
+    answer = answer;
+    moved = λ t world stands. none;
+    uncalled = λ t world stands none. refl;
+    answered = λ t. said;
+    runs = runs ready.runs;
+    made = λ no. none;
+    said = λ alone files. said;
+  }) live
+
+  pub abandons : (state : State) → reply.items ≡ pending_line state (codes "abandoned") → (final : State) → IsDropped state final → CarriesOutAlone T says.Abandon state final site site (Ok reply)
+  abandons Empty said final is = subst (λ (s : State). CarriesOutAlone T says.Abandon Empty s site site (Ok reply)) (sym is) (drops Empty Empty said
+      (λ t world it. answered_by (T.disk site) (act world says.Abandon) (abandon_over world None None) Empty reply.items (abandon_answers world None None it.0) it said)
+      (λ runs. runs) refl refl)
+  abandons (Idle store) said final is = subst (λ (s : State). CarriesOutAlone T says.Abandon (Idle store) s site site (Ok reply)) (sym is) (drops (Idle store) (Idle store) said
+      (λ t world it. answered_by (T.disk site) (act world says.Abandon) (abandon_over world (Some it.0) None) (Idle store) reply.items (abandon_answers world (Some it.0) None it.1) it said)
+      (λ runs. runs) refl refl)
+  abandons (Hollow store) said final is = subst (λ (s : State). CarriesOutAlone T says.Abandon (Hollow store) s site site (Ok reply)) (sym is) (drops (Hollow store) (Idle store) said
+      (λ t world it. answered_by (T.disk site) (act world says.Abandon) (abandon_over world (Some it.0) (Some [])) (Idle store) reply.items (abandon_answers world (Some it.0) (Some []) it.1)
+      (it.0, record { kept = it.1.kept; pending = refl }, it.2) said)
+      (λ runs. record { running = runs.running; fit = runs.fit }) refl refl)
+  abandons (Pending r) said final is = subst (λ (s : State). CarriesOutAlone T says.Abandon (Pending r) s site site (Ok reply)) (sym is.1) (drops (Pending r) (Idle is.0) said
+      (λ t world it. answered_by (T.disk site) (act world says.Abandon) (abandon_over world (Some it.0) (Some it.1)) (Idle is.0) reply.items (abandon_answers world (Some it.0) (Some it.1) it.2)
+      (it.0, record { kept = it.2.kept; pending = refl }, without_belongs r is.0 (T.disk site) it.0 it.1 is.2 it.3) said)
+      (λ runs. record { running = is.2.whole; fit = λ t. subst (λ (f : Forest). IsOpened f.body (T.disk site)) (sym is.2.forest) (runs.fit t).opened })
+      refl (ap (λ (f : Forest). Some f.body) is.2.forest))
+
+-- want of memory for what only refuses
+pub memory_as : {A : Type 0} (result : Result A Stop) (stop : Stop) → stop ≡ stops.Memory → IsErrAnd result (λ s. s ≡ stop) → IsErrAnd result (λ s. s ≡ stops.Memory)
+memory_as result stop memory is = subst (λ (m : Stop). IsErrAnd result (λ s. s ≡ m)) memory is
+
+-- ---- nothing is pending: a step
+
+module _ {S : Type 0} (T : Ghosts S) (n : ℕ) (site : S) where
+  -- by what is kept and pending
+  step_over : (state : State) → moves_made state ≡ 0 → ((world : World) → Stands state (T.disk site) world → (kept : Kept) × (pending : Option (List Fact)) × Knows kept pending world
+      × (pending_over world (λ w b. replies_with world (codes "stepped")) kept pending ≡ (world, pending_line state (codes "stepped"))) × (length (moves_over kept pending) ≡ 0))
+      → OnlySays T (says.Step n) state site (pending_line state (codes "stepped"))
+  step_over state zero by = record {
+    acts = λ t world it. (let is = by world it in act_step world n ∙ (λ i. pending_over world (λ w b. replies_with world (codes "stepped")) (is.2.kept i) (is.2.pending i)) ∙ is.3);
+    moves = λ t world it. (let is = by world it in let none : length (moves_over world.kept world.pending) ≡ 0 = (λ i. length (moves_over (is.2.kept i) (is.2.pending i))) ∙ is.4 in omega (arith, none, zero));
+    goes = λ t world it numbers goes. goes_nowhere (says.Step n) (λ schema. refl) world numbers goes;
+    gives = λ files. refl;
+    alone = λ no. refl;
+  }
+
+  step_says : (state : State) → ((r : Begun) → state ≡ Pending r → ⊥) → OnlySays T (says.Step n) state site (pending_line state (codes "stepped"))
+  step_says Empty not = step_over Empty refl (λ world it. (None, None, it.0, refl, refl))
+  step_says (Idle store) not = step_over (Idle store) refl (λ world it. (Some it.0, None, it.1, refl, refl))
+  step_says (Hollow store) not = step_over (Hollow store) refl (λ world it. (Some it.0, Some [], it.1, refl, refl))
+  step_says (Pending r) not = absurd (not r refl)
+
+  pub steps_none : (state : State) → (IsTrue T.tells → OnlyNow (T.disk site)) → ((r : Begun) → state ≡ Pending r → ⊥) → (reply : Vec ℕ Global) → reply.items ≡ pending_line state (codes "stepped")
+      → CarriesOutAlone T (says.Step n) state state site site (Ok reply)
+  steps_none state only not reply said = λ cache ready. says T (says.Step n) state site cache only (pending_line state (codes "stepped")) reply ready (step_says state not) said
+
+-- ---- nothing is pending, or an empty batch: a finish
+
 module _ {S : Type 0} (T : Ghosts S) (site : S) where
-  abandons_over : (world : World) (kept : Kept) (pending : Option (List Fact)) → Knows kept pending world → act world says.Abandon ≡ abandon_over world kept pending
-  unfolding abandon_over
-  abandons_over world kept pending knows = act_abandon world ∙ (λ i. abandon_over world (knows.kept i) (knows.pending i))
+  abbrev text : List ℕ
+  text = line (codes "refused nothing pending")
 
-  without_belongs : (r : Begun) (store : Store) (disk : Disk) (warehouse : Warehouse) (batch : List Fact) → IsWithout r store → Attends r disk warehouse batch → Belongs store disk warehouse
-  without_belongs r store disk warehouse batch without is = record {
-    lawful = is.lawful;
-    schema = ap (λ (f : Forest). f.schema) without.forest ∙ is.schema;
-    last = ap (λ (f : Forest). f.body.last) without.forest ∙ is.last;
-    stored = holds_to (IsRefreshOf r warehouse.facts batch) (IsStoreOf store warehouse.facts) disk (without.stored warehouse.facts batch) is.adds;
-    opened = subst (λ (f : Forest). IsOpened f.body disk) (sym without.forest) is.ready.opened;
+  finish_over : (state : State) → moves_made state ≡ 0 → ((world : World) → Stands state (T.disk site) world → act world says.Finish ≡ (world, text))
+      → ((files : Files) → Gives state files says.Finish text) → OnlySays T says.Finish state site text
+  finish_over state zero acts gives = record {
+    acts = λ t world it. acts world it;
+    moves = λ t world it. sym zero;
+    goes = λ t world it numbers goes. goes_nowhere says.Finish (λ schema. refl) world numbers goes;
+    gives = gives;
+    alone = λ no. sym zero;
   }
 
-  -- the answer where nothing is pending, and where a batch is
-  nothing_answers : (world : World) (kept : Kept) → Knows kept None world → act world says.Abandon ≡ (world, line (codes "refused nothing pending"))
-  unfolding abandon_over
-  nothing_answers world None knows = abandons_over world None None knows
-  nothing_answers world (Some warehouse) knows = abandons_over world (Some warehouse) None knows
+  finish_says : (state : State) → ((r : Begun) → state ≡ Pending r → ⊥) → ((store : Store) → state ≡ Hollow store → ⊥) → OnlySays T says.Finish state site text
+  finish_says Empty not full = finish_over Empty refl (λ world it. act_finish world ∙ (λ i. pending_over world (λ w b. committed world w b w.last) (it.0.kept i) (it.0.pending i))) (λ files. refl)
+  finish_says (Idle store) not full =
+      finish_over (Idle store) refl (λ world it. act_finish world ∙ (λ i. pending_over world (λ w b. committed world w b w.last) (it.1.kept i) (it.1.pending i))) (λ files. refl)
+  finish_says (Hollow store) not full = absurd (full store refl)
+  finish_says (Pending r) not full = absurd (not r refl)
 
-  batch_answers : (world : World) (warehouse : Warehouse) (batch : List Fact) → Knows (Some warehouse) (Some batch) world → act world says.Abandon ≡ (record world { pending = None }, line (codes "abandoned"))
-  unfolding abandon_over
-  batch_answers world warehouse batch knows = abandons_over world (Some warehouse) (Some batch) knows
+  module _ (cache : Cache) (only : IsTrue T.tells → OnlyNow (T.disk site)) where
+    pub finishes_none : (state : State) → IsReadyFor T site cache state → ((r : Begun) → state ≡ Pending r → ⊥) → ((store : Store) → state ≡ Hollow store → ⊥) → (final : State) → final ≡ state
+        → (result : Reply) → SaysOnly text result → CarriesOut T says.Finish state final site site cache cache result
+    finishes_none state ready not full final same result is = subst (λ (s : State). CarriesOut T says.Finish state s site site cache cache result) (sym same)
+        (says_either (CarriesOut T says.Finish state state site site cache cache) text (λ reply said. says T says.Finish state site cache only text reply ready (finish_says state not full) said)
+        (runs_out T says.Finish state site cache only ready state) result is)
 
-  idle_drops : (store : Store) → Drops T (Idle store) (Idle store) site
-  idle_drops store = record {
-    stands = λ t world is. subst (λ (a : Answer). Stands (Idle store) (T.disk site) a.0) (sym (nothing_answers world (Some is.0) is.1)) is;
-    said = λ t world is. ap (λ (a : Answer). a.1) (nothing_answers world (Some is.0) is.1);
-    live = refl;
-    none_made = refl;
-    runs = λ runs. runs;
-  }
+    -- an empty batch is acknowledged
+    ends_hollow : (store : Store) → IsReadyFor T site cache (Hollow store) → (reply : Vec ℕ Global) → reply.items ≡ committed_text store.forest.body.facts
+        → CarriesOut T says.Finish (Hollow store) (Idle store) site site cache cache (Ok reply)
+    ends_hollow store ready reply said = still T says.Finish (λ schema. refl) (Hollow store) (Idle store) site only cache ready reply (record {
+      answer = λ t world it. empty_answer world it.0 store (T.disk site) it.2 (act world says.Finish) (finish_answer world it.0 [] it.1) reply.items said;
+      moved = λ t world it. refl;
+      uncalled = λ t world it none. refl;
+      answered = λ t. said;
+      runs = record { running = ready.runs.running; fit = ready.runs.fit };
+      made = λ no. refl;
+      said = λ alone files. absurd alone;
+    }) refl
 
-  empty_drops : Drops T Empty Empty site
-  empty_drops = record {
-    stands = λ t world is. subst (λ (a : Answer). Stands Empty (T.disk site) a.0) (sym (nothing_answers world None is.0)) is;
-    said = λ t world is. ap (λ (a : Answer). a.1) (nothing_answers world None is.0);
-    live = refl;
-    none_made = refl;
-    runs = λ runs. runs;
-  }
-
-  hollow_drops : (store : Store) → Drops T (Hollow store) (Idle store) site
-  hollow_drops store = record {
-    stands = λ t world is. subst (λ (a : Answer). Stands (Idle store) (T.disk site) a.0) (sym (batch_answers world is.0 [] is.1)) (is.0, record { kept = is.1.kept; pending = refl }, is.2);
-    said = λ t world is. ap (λ (a : Answer). a.1) (batch_answers world is.0 [] is.1);
-    live = refl;
-    none_made = refl;
-    runs = λ runs. record { running = runs.running; fit = runs.fit };
-  }
-
-  pending_drops : (r : Begun) (store : Store) → IsWithout r store → Drops T (Pending r) (Idle store) site
-  pending_drops r store without = record {
-    stands = λ t world is. subst (λ (a : Answer). Stands (Idle store) (T.disk site) a.0) (sym (batch_answers world is.0 is.1 is.2))
-        (is.0, record { kept = is.2.kept; pending = refl }, without_belongs r store (T.disk site) is.0 is.1 without is.3);
-    said = λ t world is. ap (λ (a : Answer). a.1) (batch_answers world is.0 is.1 is.2);
-    live = ap (λ (f : Forest). Some f.body) without.forest;
-    none_made = refl;
-    runs = λ runs. record { running = without.whole; fit = λ t. subst (λ (f : Forest). IsOpened f.body (T.disk site)) (sym without.forest) (runs.fit t).opened };
-  }
-
-  drops : (state final : State) → IsDropped state final → Drops T state final site
-  drops Empty final is = subst (λ (s : State). Drops T Empty s site) (sym is) empty_drops
-  drops (Idle store) final is = subst (λ (s : State). Drops T (Idle store) s site) (sym is) (idle_drops store)
-  drops (Hollow store) final is = subst (λ (s : State). Drops T (Hollow store) s site) (sym is) (hollow_drops store)
-  drops (Pending r) final is = subst (λ (s : State). Drops T (Pending r) s site) (sym is.1) (pending_drops r is.0 is.2)
-
-  pub abandons : (IsTrue T.tells → OnlyNow (T.disk site)) → (state final : State) → IsDropped state final → (reply : Vec ℕ Global) → reply.items ≡ pending_line state (codes "abandoned")
-      → CarriesOutAlone T says.Abandon state final site site (Ok reply)
-  abandons only state final dropped reply said = λ cache ready.
-      let is = drops state final dropped in
-      record {
-        by_world = λ t world stands. record {
-          answer = record { stands = is.stands t world stands; said = said ∙ sym (is.said t world stands) };
-          any_moment = quiet state (T.disk site) world (act world says.Abandon).0 stands (only t);
-          undamaged = tt;
-          moved = is.none_made;
-          cost = λ cost costs. spends_none T cost site site refl;
-          uncalled = λ none. refl;
-          saves = λ numbers to. absurd (goes_nowhere says.Abandon (λ schema. refl) world numbers to);
-          keeps = λ numbers to. absurd (goes_nowhere says.Abandon (λ schema. refl) world numbers to);
-        };
-        any_files = λ t. record {
-          damage = tt;
-          answered = said;
-          spared = tt;
-          looks = λ none. rests_here (T.disk site);
-          fits = subst (λ (l : Option Body). FitsLive l (T.disk site).files cache) (sym is.live) (ready.fits t);
-        };
-        goes_on = record {
-          runs = is.runs ready.runs;
-          cache = λ none. sym (kept_same (live_of state) (live_of final) cache (ap generation is.live));
-          capacity = refl;
-          unwritten = λ none. refl;
-          quiet = quiet_here T site;
-        };
-        leaves = record {
-          made = λ no. is.none_made;
-          live = λ same. is.live;
-          harmless = λ none. tt;
-          said = λ alone files. said;
-          unasked = λ none nothing. refl;
-          fits = λ t none. ready.fits t;
-          side = λ t same. refl;
-          step_side = λ t step. absurd step;
-        };
-      }
+    pub finishes_hollow : (state : State) → IsReadyFor T site cache state → (store : Store) → state ≡ Hollow store → (final : State) → final ≡ Idle store → (result : Reply)
+        → SaysOnly (committed_text (fact_count final)) result → CarriesOut T says.Finish state final site site cache cache result
+    finishes_hollow state ready store hollow final idle result said =
+        subst (λ (s : State × State). IsReadyFor T site cache s.0 → SaysOnly (committed_text (fact_count s.1)) result → CarriesOut T says.Finish s.0 s.1 site site cache cache result)
+        (λ i. (sym hollow i, sym idle i))
+        (λ here is. says_either (CarriesOut T says.Finish (Hollow store) (Idle store) site site cache cache) (committed_text store.forest.body.facts) (ends_hollow store here)
+        (runs_out T says.Finish (Hollow store) site cache only here (Idle store)) result is) ready said

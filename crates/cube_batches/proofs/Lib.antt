@@ -1,14 +1,10 @@
-pub mod Answers
-pub mod Begins
-pub mod Begun
 pub mod Calls
 pub mod Committed
 pub mod Costs
 pub mod Ends
 pub mod Limits
 pub mod Loads
+pub mod Names
 pub mod Nexts
-pub mod Rooted
-pub mod Sent
 pub mod Sources
 pub mod Takings

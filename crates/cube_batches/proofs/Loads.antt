@@ -1,229 +1,191 @@
--- A batch is taken in at once: it is empty, or it begins and is committed.
-use Rattle.std.proofs.Common.{◌≡◌, ◌∙◌, ◌<◌, ◌+◌, ◌++◌, IsTrue, Global, Vec, ℕ, inl, inr, List, [], ◌∷◌, length, Option, Some, Ok, Err, IfOk, IfErr, OnOk, refl, sym, ap, arith, subst, append-nil}
-use Rattle.site_core.specs.Disk.{Disk}
-use Rattle.site_core.specs.declared.site.Site.{Ghosts}
-use Rattle.fact_model.specs.declared.fact.Fact.{Fact}
-use Rattle.attr_dict.specs.Admitting.{names_with}
-use Rattle.forest_refresh.specs.Begun.{Begun}
-use Rattle.forest_refresh.specs.Trees.{AreAllWhole, deltas_by}
-use Rattle.forest_root.specs.declared.body.Body.{Body}
-use Rattle.forest_root.specs.declared.forest.Forest.{Forest}
-use Rattle.forest_root.specs.declared.forest.Store.{Store}
-use Rattle.page_cache.specs.Giving.{Cache}
-use Rattle.reply_text.specs.Replies.{committed_text}
-use Rattle.script_lang.specs.declared.command.Command.{Command}
-use Rattle.plain_machine.specs.declared.batch_source.BatchSource.{BatchSource}
-use Rattle.plain_machine.specs.Machine.{Answer, Given, act, committed}
-use Rattle.plain_machine.specs.World.{Warehouse, World}
-use Rattle.cube_state.specs.declared.state.State.{State}
-use Rattle.cube_state.specs.declared.state.State.TheVariants.{Idle}
-use Rattle.cube_state.specs.declared.stop.Stop.{Stop}
-use Rattle.cube_state.specs.BatchDamage.{LoadTells, TellsGivenDamage, TellsRefreshDamage}
-use Rattle.cube_state.specs.Batches.{GivesBatch, GivesGiven, IsFinished, LoadGives}
-use Rattle.cube_state.specs.Cached.{Fits, emptied, generation, kept_over, live_of}
-use Rattle.cube_state.specs.Carried.{ByWorld, CarriesOut, IsReadyFor, Reply, Spares}
-use Rattle.cube_state.specs.Commands.{Gives, TellsDamage, load_of}
-use Rattle.cube_state.specs.Costs.{Cost, Spends}
-use Rattle.cube_state.specs.Frames.{RunsOn}
-use Rattle.cube_state.specs.Moves.{moves_made}
-use Rattle.cube_state.specs.Session.{Belongs, Between, IsAnswer, Stands}
-use Rattle.cube_state.proofs.Cached.{emptied_fits, kept_none, kept_same}
-use Rattle.cube_state.proofs.Costs.{spends_none}
-use Rattle.cube_state.proofs.Looking.{quiet_on}
-use Rattle.cube_batches.specs.Committing.{Commits, SaysOnly, SparesOthers, fact_count}
-use Rattle.cube_batches.specs.Taking.{AsksFor, TakesIn}
-use Rattle.cube_batches.specs.declared.taking.Taken.TheVariants.{Empty as Nothing, Begun as Began}
-use Rattle.cube_batches.proofs.Calls.{at_ok, between_then, closed_spares, if_err, if_ok, quiet_then}
-use Rattle.cube_batches.proofs.Costs.{committed_spends}
-use Rattle.cube_batches.proofs.Rooted.{batch_told, batch_whole}
-use Rattle.cube_batches.proofs.Sent.{runs_out}
-use Rattle.cube_batches.proofs.Sources.{Sends, goes_nowhere, load_answer, load_changes, load_costs, load_gives, load_harms, load_is, load_live, load_reads, load_sends, load_still, load_tells}
+-- A batch is taken in at once or made pending: it is empty, or it begins.
+use Rattle.script_lang.specs.declared.command.Command.TheVariants as says
+use Rattle.cube_state.specs.declared.stop.Stop.TheVariants as stops
+use Rattle.cube_batches.proofs.Names.{◌++◌, ◌∙◌, ◌≡◌, Answer, AttendsAs, BatchSource, BeginGives, Begun, Belongs, Block, Cache, CarriesOut, CarriesOutAlone, Cost, Disk, Ends, Err, Fact, Files}
+use Rattle.cube_batches.proofs.Names.{ForEach, Forest, Ghosts, Given, Gives, GivesBegun, GivesGiven, Global, HasBegun, HasNone, Hollow, Idle, IsAnswer, IsFitting, IsReadyFor, IsTrue, LeavesLive}
+use Rattle.cube_batches.proofs.Names.{List, LoadTells, Ok, OnlyNow, Pending, RepliesAlone, Reply, Rows, RunsFor, SaysOnly, Some, SparesOthers, Spends, Stands, State, Store, TellsDamage}
+use Rattle.cube_batches.proofs.Names.{TellsGivenDamage, TellsNone, Vec, Warehouse, World, [], act, ap, append-nil, arith, begun, beside, both, codes, committed, committed_text, fact_count}
+use Rattle.cube_batches.proofs.Names.{given_to, hollow_of, inr, length, line, live_file, live_no_root, live_of, load_of, quiet, quiet_on, quiet_out, refl, replied, runs_out, spends_more, still}
+use Rattle.cube_batches.proofs.Names.{stopped, subst, sym, unharmed, ℕ}
+use Rattle.cube_batches.proofs.{Limits.empty_fits, Calls.answered_by, Calls.batch_told, Calls.batch_whole, Calls.between_then, Calls.closed_spares, Calls.quiet_then, Calls.says_either}
+use Rattle.cube_batches.proofs.{Costs.committed_spends, Sources.begin_answer, Sources.begin_sends, Sources.begins_is, Sources.each_load, Sources.given_some, Sources.load_answer}
+use Rattle.cube_batches.proofs.{Sources.load_calls, Sources.load_gives, Sources.load_is, Sources.load_sends, Sources.rows_last, Takings.begun_fits, Takings.known}
 
--- none is kept over a new generation
-pub kept_onward : (live next : Option Body) (before after : Cache) (result : Reply) → OnOk result (generation next ≡ generation live + 1) → OnOk result (after ≡ emptied before)
-    → OnOk result (after ≡ kept_over live next before)
-kept_onward live next before after (Ok reply) onward is = is ∙ sym (kept_none live next before onward)
-kept_onward live next before after (Err stop) onward is = tt
+-- nothing was done with an empty batch
+pub done_none : {S : Type 0} (source : BatchSource) (state next : State) (old new : S) (is : HasNone source state next old new) (P : State → State → S → Type 0)
+    → P (Idle is.0) (Idle is.0) old → P state next new
+done_none source state next old new is P here = subst (P state next) (sym is.3) (subst (λ (s : State). P state s old) (sym is.2) (subst (λ (s : State). P s s old) (sym is.1) here))
 
 -- no fact is added
 same_facts : (warehouse : Warehouse) → record warehouse { facts = warehouse.facts ++ []; last = warehouse.last } ≡ warehouse
 same_facts warehouse = ap (λ (l : List Fact). record { schema = warehouse.schema; facts = l; last = warehouse.last }) (append-nil warehouse.facts)
 
 -- an empty batch is acknowledged
-pub empty_answer : (world : World) (warehouse : Warehouse) (store : Store) (disk : Disk) → Belongs store disk warehouse → (reply : List ℕ)
-    → reply ≡ committed_text store.forest.body.facts → IsAnswer disk (committed world warehouse [] warehouse.last) (Idle store) reply
-empty_answer world warehouse store disk belongs reply said = record {
-  stands = (record warehouse { facts = warehouse.facts ++ []; last = warehouse.last }, record { kept = refl; pending = refl }, subst (Belongs store disk) (sym (same_facts warehouse)) belongs);
-  said = said ∙ (ap committed_text belongs.stored.read.live.at.body_is.facts ∙ ap (λ (w : Warehouse). committed_text (length w.facts)) (sym (same_facts warehouse)));
+pub empty_answer : (world : World) (warehouse : Warehouse) (store : Store) (disk : Disk) → Belongs store disk warehouse → (answer : Answer) → answer ≡ committed world warehouse [] warehouse.last
+    → (reply : List ℕ) → reply ≡ committed_text store.forest.body.facts → IsAnswer disk answer (Idle store) reply
+empty_answer world warehouse store disk belongs answer same reply said = answered_by disk answer (committed world warehouse [] warehouse.last) (Idle store) reply same
+    (record warehouse { facts = warehouse.facts ++ []; last = warehouse.last }, record { kept = refl; pending = refl }, subst (Belongs store disk) (sym (same_facts warehouse)) belongs)
+    (said ∙ (ap committed_text belongs.stored.read.live.at.body_is.facts ∙ ap (λ (w : Warehouse). committed_text (length w.facts)) (sym (same_facts warehouse))))
+
+-- it keeps the limits
+pub empty_fitting : (source : BatchSource) (store : Store) (disk : Disk) → given_to store source ≡ Ok ([], store.forest.body.last) → (world : World) (stands : Stands (Idle store) disk world)
+    → IsFitting world source stands.0 [] stands.0.last
+empty_fitting source store disk given world stands = record {
+  knows = stands.1;
+  read = known store disk stands.0 source (Ok ([], store.forest.body.last)) stands.2 given ∙ ap (λ (n : ℕ). Ok ([], n)) stands.2.last;
+  fits = empty_fits stands.0 stands.2.lawful.schema stands.2.lawful.accepted;
 }
 
-module _ {S : Type 0} (T : Ghosts S) (source : BatchSource) (state next : State) (old : S) (cache : Cache) (ready : IsReadyFor T old cache state) where
-  abbrev command : Command
-  command = load_of source
+-- ---- an empty one is taken in
 
-  abbrev sends : Sends (load_of source) source
-  sends = load_sends source
+module _ {S : Type 0} (T : Ghosts S) (source : BatchSource) (site : S) (cache : Cache) (only : IsTrue T.tells → OnlyNow (T.disk site)) (store : Store)
+    (given : given_to store source ≡ Ok ([], store.forest.body.last)) where
+  acknowledged : IsReadyFor T site cache (Idle store) → (reply : Vec ℕ Global) → reply.items ≡ committed_text store.forest.body.facts
+      → CarriesOut T (load_of source) (Idle store) (Idle store) site site cache cache (Ok reply)
+  acknowledged ready reply said =
+      let sends = load_sends source in
+      let gives : (files : Files) → Gives (Idle store) files (load_of source) reply.items
+      = λ files. load_gives source (Idle store) files reply.items (subst (λ (g : Given). GivesGiven store files g reply.items) (sym given) said) in
+      still T (load_of source) sends.none_asked (Idle store) (Idle store) site only cache ready reply (record {
+        answer = λ t world stands. (let fits = empty_fitting source store (T.disk site) given world stands in
+            empty_answer world stands.0 store (T.disk site) stands.2 (act world (load_of source)) (load_answer world source stands.0 [] stands.0.last fits) reply.items said);
+        moved = λ t world stands. sym (sends.moves world 0);
+        uncalled = λ t world stands none. refl;
+        answered = λ t. gives (T.disk site).files;
+        runs = ready.runs;
+        made = λ no. sym (sends.alone 0);
+        said = λ alone files. gives files;
+      }) refl
 
-  -- ---- it is empty
+  loads_empty : IsReadyFor T site cache (Idle store) → (result : Reply) → SaysOnly (committed_text store.forest.body.facts) result
+      → CarriesOut T (load_of source) (Idle store) (Idle store) site site cache cache result
+  loads_empty ready result said = says_either (CarriesOut T (load_of source) (Idle store) (Idle store) site site cache cache) (committed_text store.forest.body.facts) (acknowledged ready)
+      (runs_out T (load_of source) (Idle store) site cache only ready (Idle store)) result said
 
-  module _ (new : S) (takes : TakesIn T source state next old new (Ok Nothing)) where
-    none_gives : (reply : List ℕ) → reply ≡ committed_text (fact_count next) → LoadGives state (T.disk old).files source reply
-    none_gives reply said =
-        let is = takes.taken in
-        let files = (T.disk old).files in
-        subst (λ (s : State). LoadGives s files source reply) (sym is.idle)
-        (subst (λ (g : Given). GivesGiven is.store files g reply) (sym is.given) (said ∙ ap (λ (s : State). committed_text (fact_count s)) (is.stays ∙ is.idle)))
+pub loads_none : {S : Type 0} (T : Ghosts S) (source : BatchSource) (state next : State) (old new : S) (cache : Cache) → (IsTrue T.tells → OnlyNow (T.disk old)) → HasNone source state next old new
+    → IsReadyFor T old cache state → (result : Reply) → SaysOnly (committed_text (fact_count next)) result → CarriesOut T (load_of source) state next old new cache cache result
+loads_none T source state next old new cache only is ready result = done_none source state next old new is
+    (λ s n site. IsReadyFor T old cache s → SaysOnly (committed_text (fact_count n)) result → CarriesOut T (load_of source) s n old site cache cache result)
+    (λ here. loads_empty T source old cache only is.0 is.4 here result) ready
 
-    acknowledged : (reply : Vec ℕ Global) → reply.items ≡ committed_text (fact_count next) → CarriesOut T (load_of source) state next old new cache cache (Ok reply)
-    acknowledged reply said =
-        let is = takes.taken in
+-- ---- one that has begun is committed
+
+module _ {S : Type 0} (T : Ghosts S) (source : BatchSource) (store : Store) (old mid : S) (r : Begun) (is : HasBegun T source store old mid r) where
+  load_ends : Ends T (load_of source) (Idle store) r old mid
+  load_ends = record {
+    none_asked = (load_sends source).none_asked;
+    writes = (load_sends source).writes;
+    no_step = (load_sends source).no_step;
+    no_live = each_load (λ s c. LeavesLive c → ⊥) (λ b is. is) (λ n b is. is) (λ s r is. is) source;
+    harms = each_load (λ s c. TellsNone c → ⊥) (λ b is. is) (λ n b is. is) (λ s r is. is) source;
+    reads = each_load (λ s c. RepliesAlone c → ⊥) (λ b is. is) (λ n b is. is) (λ s r is. is) source;
+    alone = (load_sends source).alone 0;
+    by_world = λ t world stands. (
+        let fits = begun_fits T source store old mid r is t world stands in
+        let acts = load_answer world source stands.0 is.batch is.last fits in
         record {
-          by_world = λ t world stands. (let for = takes.by_world t world stands in record {
-            answer = subst (λ (a : Answer). IsAnswer (T.disk new) a next reply.items) (sym (load_answer world source for.taken.warehouse [] for.taken.warehouse.last for.taken.fitting))
-                (subst (λ (s : State). IsAnswer (T.disk new) (committed world for.taken.warehouse [] for.taken.warehouse.last) s reply.items) (sym for.taken.is)
-                (empty_answer world for.taken.warehouse for.taken.store (T.disk new) for.taken.belongs reply.items (said ∙ ap (λ (s : State). committed_text (fact_count s)) for.taken.is)));
-            any_moment = for.any_moment (act world command).0;
-            undamaged = tt;
-            moved = ap moves_made is.stays ∙ sym (sends.moves world (moves_made state));
-            cost = λ cost costs. spends_none T cost old new is.same;
-            uncalled = λ none. is.same;
-            saves = λ numbers goes. absurd (goes_nowhere command sends.none_asked world numbers goes);
-            keeps = λ numbers goes. absurd (goes_nowhere command sends.none_asked world numbers goes);
-          });
-          any_files = λ t. record {
-            damage = tt;
-            answered = load_gives source state (T.disk old).files reply.items (none_gives reply.items said);
-            spared = tt;
-            looks = λ none. absurd (none sends.writes);
-            fits = subst (λ (s : S). Fits next (T.disk s).files cache) (sym is.same) (subst (λ (s : State). Fits s (T.disk old).files cache) (sym is.stays) (ready.fits t));
-          };
-          goes_on = record {
-            runs = subst (λ (s : S). RunsOn T s next) (sym is.same) (subst (RunsOn T old) (sym is.stays) ready.runs);
-            cache = λ none. sym (kept_same (live_of state) (live_of next) cache (ap (λ (s : State). generation (live_of s)) is.stays));
-            capacity = refl;
-            unwritten = λ none. absurd (none sends.writes);
-            quiet = quiet_on takes.quiet;
-          };
-          leaves = record {
-            made = λ no. ap moves_made is.stays ∙ sym (sends.alone (moves_made state));
-            live = λ same. ap live_of is.stays;
-            harmless = λ none. tt;
-            said = λ alone files. absurd (load_reads source alone);
-            unasked = λ none nothing. refl;
-            fits = λ t none. absurd (none sends.writes);
-            side = λ t same. absurd (load_live source same);
-            step_side = λ t step. absurd (sends.no_step step);
-          };
-        }
-
-    pub loads_none : (result : Reply) → SaysOnly (committed_text (fact_count next)) result → CarriesOut T (load_of source) state next old new cache cache result
-    loads_none (Ok reply) said = acknowledged reply said
-    loads_none (Err stop) said =
-        subst (λ (s : Stop). CarriesOut T (load_of source) state next old new cache cache (Err s)) (sym said) (runs_out T (load_of source) source (load_sends source) state next old new cache next Nothing takes)
-
-  -- ---- it begins, and is committed
-
-  module _ (r : Begun) (mid new : S) (final : State) (after : Cache) (result : Reply) (takes : TakesIn T source state next old mid (Ok (Began r)))
-      (commits : Commits T r final mid new cache after result) where
-    -- the tree that is live
-    live_is : live_of state ≡ Some takes.taken.store.forest.body
-    live_is = ap live_of takes.taken.idle
-
-    same_live : r.store.forest.body ≡ takes.taken.store.forest.body
-    same_live = ap (λ (f : Forest). f.body) takes.taken.forest
-
-    loads_for : IsTrue T.tells → (world : World) → Stands state (T.disk old) world → ByWorld T (load_of source) world state final old new cache after result
-    loads_for t world stands =
-        let for = takes.by_world t world stands in
-        let warehouse = for.taken.0 in
-        let batch = for.taken.1 in
-        let last = for.taken.2 in
-        let fitting = for.taken.3 in
-        let ends = commits.by_world t warehouse batch last for.taken.4 in
-        let acts = load_answer world source warehouse batch last fitting in
-        record {
-          answer = subst (λ (a : Answer). IfOk result (λ reply. IsAnswer (T.disk new) a final reply.items)) (sym acts) (ends.answer world);
-          any_moment = between_then (T.disk old) (T.disk mid) (T.disk new) world (act world command).0 (takes.quiet.told t) (for.any_moment (act world command).0)
-              (subst (λ (a : Answer). Between (T.disk mid) (T.disk new) world a.0) (sym acts) (ends.any_moment world fitting.knows.kept));
-          undamaged = ends.undamaged;
-          moved = at_ok result (λ none. none ∙ (sym (ap moves_made takes.taken.idle) ∙ sym (sends.moves world (moves_made state)))) commits.moved;
-          cost = λ cost costs. subst (λ (c : Cost). Spends T c old new) (sym (load_costs source world (moves_made state) cost costs ∙ load_is world source warehouse batch last fitting for.taken.4.some))
-              (committed_spends T old mid new warehouse batch (begun_asks world for.asks) r.progress.taken takes.taken.none_made ends.cost ends.pages);
-          uncalled = λ none. absurd (load_changes world source warehouse batch last fitting for.taken.4.some (load_still source world none));
-          saves = λ numbers goes. absurd (goes_nowhere command sends.none_asked world numbers goes);
-          keeps = λ numbers goes. absurd (goes_nowhere command sends.none_asked world numbers goes);
-        }
-      where
-        begun_asks : (w : World) → AsksFor T old mid w source → Spends T (record { reads = 1; writes = 1 }) old mid
-        begun_asks w (inl same) = spends_none T (record { reads = 1; writes = 1 }) old mid same
-        begun_asks w (inr asked) = asked.spent
-
-    -- damage is that of the batch
-    load_damage : IsTrue T.tells → (stop : Stop) → TellsRefreshDamage r (T.disk mid).files stop → TellsDamage state (T.disk old).files (load_of source) stop
-    load_damage t stop told =
-        let is = takes.taken in
-        let files = (T.disk old).files in
-        load_tells source state files stop
-        (subst (λ (s : State). LoadTells s files source stop) (sym is.idle)
-        (subst (λ (g : Given). TellsGivenDamage is.store files g stop) (sym is.given)
-        (batch_told r is.store is.batch files (T.disk mid).files (is.closes t).range.others is.forest is.points stop told)))
-
-    batch_gives : (t : IsTrue T.tells) (batch : List Fact) → 0 < length batch → batch ≡ takes.taken.batch → (reply : List ℕ) → IsFinished r (T.disk mid).files reply
-        → GivesBatch takes.taken.store (T.disk old).files batch reply
-    batch_gives t [] some same reply ends = absurd (omega (arith, some))
-    batch_gives t (x ∷ xs) some same reply ends =
-        let is = takes.taken in
-        inr (record {
-          whole = subst (λ (b : List Fact). AreAllWhole is.store.forest (T.disk old).files (deltas_by (names_with is.store.dicts b) is.store.forest.schema b)) (sym same)
-              (batch_whole r is.store is.batch (T.disk old).files (T.disk mid).files (is.closes t).range.others is.forest is.points ends.whole);
+          warehouse = stands.0;
+          batch = is.batch;
+          last = is.last;
+          attends = is.attends t stands.0 stands.2;
+          kept = stands.1.kept;
+          acts = acts;
+          any_moment = λ new run. between_then (T.disk old) (T.disk mid) (T.disk new) world (act world (load_of source)).0 (is.quiet.told t)
+              (is.any_moment t stands.0 stands.2 world (act world (load_of source)).0 stands.1.kept) run;
+          moves = (load_sends source).moves world 0;
+          calls = load_calls world source stands.0 is.batch is.last fits is.some;
+          costs = λ cost costs new ends pages. subst (λ (c : Cost). Spends T c old new) (sym (load_is world source stands.0 is.batch is.last fits is.some 0 cost costs))
+              (committed_spends T old mid new stands.0 is.batch is.spent r.progress.taken is.none_made ends pages);
+        });
+    quiet = λ new result then. quiet_then T old mid new is.quiet result then;
+    damage = λ t stop told. each_load (λ s c. LoadTells (Idle store) (T.disk old).files s stop → TellsDamage (Idle store) (T.disk old).files c stop) (λ b is. is) (λ n b is. is) (λ s r is. is) source
+        (subst (λ (g : Given). TellsGivenDamage store (T.disk old).files g stop) (sym is.given)
+        (batch_told r store is.batch (T.disk old).files (T.disk mid).files (is.closes t).range.others is.forest is.points stop told));
+    gives = λ t reply ends. load_gives source (Idle store) (T.disk old).files reply (subst (λ (g : Given). GivesGiven store (T.disk old).files g reply) (sym is.given)
+        (given_some store (T.disk old).files is.batch reply is.some (inr (record {
+          whole = batch_whole r store is.batch (T.disk old).files (T.disk mid).files (is.closes t).range.others is.forest is.points ends.whole;
           count = r.next.facts;
           said = ends.said;
+        }))));
+    spares = λ t new stop spares. closed_spares store.forest.body (T.disk old).files (T.disk mid).files (T.disk new).files (is.closes t) stop
+        (subst (λ (f : Forest). SparesOthers f.body (T.disk mid).files (T.disk new).files stop) is.forest spares);
+    live = ap (λ (f : Forest). f.body.generation) (sym is.forest);
+  }
+
+pub loads : {S : Type 0} (T : Ghosts S) (source : BatchSource) (state : State) (old mid : S) (r : Begun) → (store : Store) × (state ≡ Idle store) × HasBegun T source store old mid r
+    → Ends T (load_of source) state r old mid
+loads T source state old mid r is = subst (λ (s : State). Ends T (load_of source) s r old mid) (sym is.1) (load_ends T source is.0 old mid r is.2)
+
+-- ---- an empty one is made pending
+
+module _ {S : Type 0} (T : Ghosts S) (block : Block) (site : S) (cache : Cache) (only : IsTrue T.tells → OnlyNow (T.disk site)) (store : Store)
+    (given : given_to store (Rows block) ≡ Ok ([], store.forest.body.last)) where
+  hollows : IsReadyFor T site cache (Idle store) → (reply : Vec ℕ Global) → reply.items ≡ line (codes "begun") → CarriesOut T (says.Begin block) (Idle store) (Hollow store) site site cache cache (Ok reply)
+  hollows ready reply said =
+      let gives : BeginGives (Idle store) block reply.items = subst (λ (g : Given). GivesBegun store g reply.items) (sym given) (inr said) in
+      still T (says.Begin block) (λ schema. refl) (Idle store) (Hollow store) site only cache ready reply (record {
+        answer = λ t world stands. (let fits = empty_fitting (Rows block) store (T.disk site) given world stands in
+            answered_by (T.disk site) (act world (says.Begin block)) (begun world []) (Hollow store) reply.items (begin_answer world block stands.0 [] stands.0.last fits)
+            (stands.0, record { kept = stands.1.kept; pending = refl }, stands.2) said);
+        moved = λ t world stands. refl;
+        uncalled = λ t world stands none. refl;
+        answered = λ t. gives;
+        runs = record { running = ready.runs.running; fit = ready.runs.fit };
+        made = λ no. refl;
+        said = λ alone files. gives;
+      }) refl
+
+  hollows_or_out : IsReadyFor T site cache (Idle store) → (result : Reply) → SaysOnly (line (codes "begun")) result → CarriesOut T (says.Begin block) (Idle store) (Hollow store) site site cache cache result
+  hollows_or_out ready = says_either (CarriesOut T (says.Begin block) (Idle store) (Hollow store) site site cache cache) (line (codes "begun")) (hollows ready)
+      (runs_out T (says.Begin block) (Idle store) site cache only ready (Hollow store))
+
+pub begins_none : {S : Type 0} (T : Ghosts S) (block : Block) (state next final : State) (old new : S) → (IsTrue T.tells → OnlyNow (T.disk old)) → HasNone (Rows block) state next old new
+    → final ≡ hollow_of next → (result : Reply) → SaysOnly (line (codes "begun")) result → CarriesOutAlone T (says.Begin block) state final old new result
+begins_none T block state next final old new only is hollow result said = λ cache ready.
+    subst (λ (f : State). CarriesOut T (says.Begin block) state f old new cache cache result) (sym hollow)
+    (done_none (Rows block) state next old new is (λ s n site. IsReadyFor T old cache s → CarriesOut T (says.Begin block) s (hollow_of n) old site cache cache result)
+    (λ here. hollows_or_out T block old cache only is.0 is.4 here result said) ready)
+
+-- ---- one that has begun is made pending
+
+module _ {S : Type 0} (T : Ghosts S) (block : Block) (store : Store) (old new : S) (r : Begun) (is : HasBegun T (Rows block) store old new r) where
+  begin_runs : ForEach T (Idle store) old (RunsFor T (says.Begin block) (Idle store) old new)
+  begin_runs t world stands = record {
+    any_moment = is.any_moment t stands.0 stands.2 world (act world (says.Begin block)).0 stands.1.kept;
+    cost = λ cost costs. (let least = (begin_sends block).costs world 0 cost costs stands.0 is.batch is.last (begun_fits T (Rows block) store old new r is t world stands) is.some in
+        spends_more T (record { reads = 1; writes = 1 }) cost old new least.0 least.1 is.spent);
+  }
+
+  begins_some : CarriesOutAlone T (says.Begin block) (Idle store) (Pending r) old new (Err stops.Memory)
+      × ((reply : Vec ℕ Global) → reply.items ≡ line (codes "begun") → CarriesOutAlone T (says.Begin block) (Idle store) (Pending r) old new (Ok reply))
+  begins_some = (
+    λ cache ready. stopped T (says.Begin block) (λ schema. refl) (Idle store) (Pending r) old new tt cache cache refl stops.Memory begin_runs
+        (unharmed T (says.Begin block) (λ schema. refl) (Idle store) (Pending r) old new stops.Memory tt (λ t step. absurd step)) (quiet_out is.quiet),
+    λ reply said cache ready.
+        let gives : BeginGives (Idle store) block reply.items = subst (λ (g : Given). GivesBegun store g reply.items) (sym is.given) (inr said) in
+        replied T (says.Begin block) (λ schema. refl) (Idle store) (Pending r) old new cache cache reply begin_runs (record {
+          answer = λ t world stands. (let fits = begun_fits T (Rows block) store old new r is t world stands in
+              answered_by (T.disk new) (act world (says.Begin block)) (begun world is.batch) (Pending r) reply.items (begin_answer world block stands.0 is.batch is.last fits) (
+                stands.0,
+                is.batch,
+                record { kept = stands.1.kept; pending = refl },
+                subst (λ n. AttendsAs n r (T.disk new) stands.0 is.batch) (rows_last stands.0.schema stands.0.last is.last block is.batch fits.read) (is.attends t stands.0 stands.2),
+              ) said);
+          moved = λ t world stands. is.none_made;
+          uncalled = λ t world stands none. absurd (omega (arith, none, begins_is world block stands.0 is.batch is.last (begun_fits T (Rows block) store old new r is t world stands) is.some));
+          answered = λ t. gives;
+          runs = record { running = is.goes; fit = is.ready };
+          made = λ no. is.none_made;
+          said = λ alone files. gives;
         })
+        (beside T (says.Begin block) (λ schema. refl) (Idle store) (Pending r) old new cache ready (ap (λ (f : Forest). Some f.body) is.forest)
+        (λ t. (is.closes t).range.others (live_file (live_of (Idle store))) (live_no_root (live_of (Idle store)))) (λ no. absurd (no tt)))
+        (quiet_on is.quiet),
+  )
 
-    load_reply : IsTrue T.tells → (reply : Vec ℕ Global) → IsFinished r (T.disk mid).files reply.items → Gives state (T.disk old).files (load_of source) reply.items
-    load_reply t reply ends =
-        let is = takes.taken in
-        let files = (T.disk old).files in
-        load_gives source state files reply.items
-        (subst (λ (s : State). LoadGives s files source reply.items) (sym is.idle)
-        (subst (λ (g : Given). GivesGiven is.store files g reply.items) (sym is.given) (batch_gives t is.batch is.some refl reply.items ends)))
-
-    load_spares : (t : IsTrue T.tells) → IfErr result (Spares (live_of state) (T.disk old).files (T.disk new).files)
-    load_spares t =
-        let is = takes.taken in
-        subst (λ (l : Option Body). IfErr result (Spares l (T.disk old).files (T.disk new).files)) (sym live_is)
-        (if_err result (λ stop spares. closed_spares is.store.forest.body (T.disk old).files (T.disk mid).files (T.disk new).files (is.closes t) stop spares)
-        (subst (λ (b : Body). IfErr result (SparesOthers b (T.disk mid).files (T.disk new).files)) same_live (commits.spared t)))
-
-    -- the generation is the next one
-    load_onward : OnOk result (generation (live_of final) ≡ generation (live_of state) + 1)
-    load_onward = at_ok result (λ next_one. next_one ∙ (ap (λ (b : Body). b.generation + 1) same_live ∙ sym (ap (λ (l : Option Body). generation l + 1) live_is))) commits.onward
-
-    pub loads : CarriesOut T (load_of source) state final old new cache after result
-    loads = record {
-      by_world = loads_for;
-      any_files = λ t. record {
-        damage = if_err result (load_damage t) (commits.damage t);
-        answered = if_ok result (load_reply t) (commits.finished t);
-        spared = load_spares t;
-        looks = λ none. absurd (none sends.writes);
-        fits = at_ok result (emptied_fits (live_of final) (T.disk new).files cache after) commits.cache;
-      };
-      goes_on = record {
-        runs = commits.runs;
-        cache = λ none. kept_onward (live_of state) (live_of final) cache after result load_onward commits.cache;
-        capacity = commits.capacity;
-        unwritten = λ none. absurd (none sends.writes);
-        quiet = quiet_then T old mid new takes.quiet result commits.quiet;
-      };
-      leaves = record {
-        made = λ no. at_ok result (λ none. none ∙ (sym (ap moves_made takes.taken.idle) ∙ sym (sends.alone (moves_made state)))) commits.moved;
-        live = λ same. absurd (load_live source same);
-        harmless = λ none. absurd (load_harms source none);
-        said = λ alone files. absurd (load_reads source alone);
-        unasked = λ none nothing. absurd (none sends.writes);
-        fits = λ t none. absurd (none sends.writes);
-        side = λ t same. absurd (load_live source same);
-        step_side = λ t step. absurd (sends.no_step step);
-      };
-    }
+pub begins_on : {S : Type 0} (T : Ghosts S) (block : Block) (state final : State) (old new : S) (r : Begun) → (store : Store) × (state ≡ Idle store) × HasBegun T (Rows block) store old new r
+    → final ≡ Pending r → (result : Reply) → SaysOnly (line (codes "begun")) result → CarriesOutAlone T (says.Begin block) state final old new result
+begins_on T block state final old new r is pending result said =
+    let both = begins_some T block is.0 old new r is.2 in
+    subst (λ (s : State × State). CarriesOutAlone T (says.Begin block) s.0 s.1 old new result) (λ i. (sym is.1 i, sym pending i))
+    (says_either (CarriesOutAlone T (says.Begin block) (Idle is.0) (Pending r) old new) (line (codes "begun")) both.1 both.0 result said)

@@ -1,14 +1,16 @@
 -- That a batch which has begun is committed, and a reply alone.
-use Rattle.std.specs.Prelude.{◌≡◌, ◌≤◌, ◌+◌, ℕ, List, IfOk, IfErr, IsTrue, OnOk, Some, Ok, Err}
+use Rattle.std.specs.Prelude.{◌≡◌, ◌≤◌, ◌+◌, ℕ, List, IsTrue, None, Some, Ok, Err}
 use Rattle.site_core.specs.Disk.{DiffersPast, Files}
 use Rattle.site_core.specs.declared.site.Site.{Ghosts}
+use Rattle.cube_schema.specs.declared.schema.Schema.{Schema}
 use Rattle.fact_model.specs.declared.fact.Fact.{Fact}
 use Rattle.forest_moves.specs.Forest.{forest_moves}
 use Rattle.forest_refresh.specs.Begun.{Begun, next_side}
 use Rattle.forest_root.specs.declared.body.Body.{Body}
 use Rattle.forest_store.specs.Sides.{page_count}
 use Rattle.page_cache.specs.Giving.{Cache}
-use Rattle.plain_machine.specs.Machine.{committed}
+use Rattle.script_lang.specs.declared.command.Command.{Command}
+use Rattle.plain_machine.specs.Machine.{act, asked_by, committed}
 use Rattle.plain_machine.specs.World.{Warehouse, World}
 use Rattle.cube_state.specs.declared.state.State.{State}
 use Rattle.cube_state.specs.declared.state.State.TheVariants.{Empty, Idle, Hollow, Pending}
@@ -17,13 +19,13 @@ use Rattle.cube_state.specs.declared.stop.Stop.TheVariants as stops
 use Rattle.cube_state.specs.BatchCosts.{commit_cost}
 use Rattle.cube_state.specs.BatchDamage.{TellsRefreshDamage}
 use Rattle.cube_state.specs.Batches.{IsFinished}
-use Rattle.cube_state.specs.Cached.{emptied, generation, live_of}
-use Rattle.cube_state.specs.Carried.{Reply}
-use Rattle.cube_state.specs.Costs.{Spends}
-use Rattle.cube_state.specs.Frames.{IsQuiet, RunsOn}
-use Rattle.cube_state.specs.Moves.{moves_made}
-use Rattle.cube_state.specs.Session.{AttendsAs, Between, IsAnswer}
-use Rattle.cube_state.specs.Stops.{IsNoDamage}
+use Rattle.cube_state.specs.Cached.{generation, live_of}
+use Rattle.cube_state.specs.Carried.{CarriesOut, IsStep, LeavesLive, MayWrite, Reply, RepliesAlone, Spares, TellsNone, made_alone}
+use Rattle.cube_state.specs.Commands.{Costs, Gives, MakesNoCall, TellsDamage}
+use Rattle.cube_state.specs.Costs.{Cost, Spends}
+use Rattle.cube_state.specs.Frames.{IsQuiet}
+use Rattle.cube_state.specs.Moves.{made_behind, moves_made}
+use Rattle.cube_state.specs.Session.{AttendsAs, Between, Stands}
 
 -- ---- a reply
 
@@ -48,25 +50,38 @@ SparesOthers live old new stops.Disk = Unit {0}
 SparesOthers live old new stops.Output = Unit {0}
 SparesOthers live old new stops.Memory = Unit {0}
 
--- the refresh adds a batch to the accepted facts, behind which this is the last number
-pub record CommitsFor {S : Type 0} (T : Ghosts S) (refresh : Begun) (warehouse : Warehouse) (batch : List Fact) (last : ℕ) (next : State) (old new : S) (result : Reply) : Type 0 where
-  pub answer : (world : World) → IfOk result (λ reply. IsAnswer (T.disk new) (committed world warehouse batch last) next reply.items)
-  pub any_moment : (world : World) → world.kept ≡ Some warehouse → Between (T.disk old) (T.disk new) world (committed world warehouse batch last).0
-  pub undamaged : IfErr result IsNoDamage
-  pub cost : Spends T (commit_cost (forest_moves warehouse.schema warehouse.facts batch) refresh.progress.taken) old new
-  pub pages : T.reads new ≤ T.reads old + page_count warehouse.schema warehouse.facts
+-- of a world the command accepts the batch of the refresh
+pub record EndsFor {S : Type 0} (T : Ghosts S) (command : Command) (state : State) (refresh : Begun) (old mid : S) (world : World) : Type 0 where
+  pub warehouse : Warehouse
+  pub batch : List Fact
+  pub last : ℕ
+  pub attends : AttendsAs last refresh (T.disk mid) warehouse batch
+  pub kept : world.kept ≡ Some warehouse
+  pub acts : act world command ≡ committed world warehouse batch last
+  pub any_moment : (new : S) → Between (T.disk mid) (T.disk new) world (act world command).0 → Between (T.disk old) (T.disk new) world (act world command).0
+  pub moves : made_behind world (moves_made state) command ≡ 0
+  pub calls : MakesNoCall world command → ⊥
+  pub costs : (cost : Cost) → Costs world (moves_made state) command cost → (new : S) → Spends T (commit_cost (forest_moves warehouse.schema warehouse.facts batch) refresh.progress.taken) mid new
+      → T.reads new ≤ T.reads mid + page_count warehouse.schema warehouse.facts → Spends T cost old new
 
--- the session has this then
-pub record Commits {S : Type 0} (T : Ghosts S) (refresh : Begun) (next : State) (old new : S) (before after : Cache) (result : Reply) : Type 0 where
-  pub by_world : IsTrue T.tells → (warehouse : Warehouse) (batch : List Fact) (last : ℕ) → AttendsAs last refresh (T.disk old) warehouse batch
-      → CommitsFor T refresh warehouse batch last next old new result
-  pub damage : IsTrue T.tells → IfErr result (TellsRefreshDamage refresh (T.disk old).files)
-  pub finished : IsTrue T.tells → IfOk result (λ reply. IsFinished refresh (T.disk old).files reply.items)
-  pub spared : IsTrue T.tells → IfErr result (SparesOthers refresh.store.forest.body (T.disk old).files (T.disk new).files)
-  pub runs : OnOk result (RunsOn T new next)
-  pub moved : OnOk result (moves_made next ≡ 0)
-  -- none of the kept pages is of the side that is live then
-  pub onward : OnOk result (generation (live_of next) ≡ refresh.store.forest.body.generation + 1)
-  pub cache : OnOk result (after ≡ emptied before)
-  pub capacity : after.capacity ≡ before.capacity
-  pub quiet : IsQuiet T old new result
+-- the command ends with the commit of a refresh, which stands from mid on
+pub record Ends {S : Type 0} (T : Ghosts S) (command : Command) (state : State) (refresh : Begun) (old mid : S) : Type 0 where
+  pub none_asked : (schema : Schema) → asked_by schema command ≡ None
+  pub writes : MayWrite command
+  pub no_step : IsStep command → ⊥
+  pub no_live : LeavesLive command → ⊥
+  pub harms : TellsNone command → ⊥
+  pub reads : RepliesAlone command → ⊥
+  pub alone : made_alone command (moves_made state) ≡ 0
+  pub by_world : IsTrue T.tells → (world : World) → Stands state (T.disk old) world → EndsFor T command state refresh old mid world
+  pub quiet : (new : S) (result : Reply) → IsQuiet T mid new result → IsQuiet T old new result
+  pub damage : IsTrue T.tells → (stop : Stop) → TellsRefreshDamage refresh (T.disk mid).files stop → TellsDamage state (T.disk old).files command stop
+  pub gives : IsTrue T.tells → (reply : List ℕ) → IsFinished refresh (T.disk mid).files reply → Gives state (T.disk old).files command reply
+  pub spares : IsTrue T.tells → (new : S) (stop : Stop) → SparesOthers refresh.store.forest.body (T.disk mid).files (T.disk new).files stop
+      → Spares (live_of state) (T.disk old).files (T.disk new).files stop
+  pub live : generation (live_of state) ≡ refresh.store.forest.body.generation
+
+-- each command that ends so is carried out
+abbrev pub Commits : {S : Type 0} (T : Ghosts S) (refresh : Begun) (next : State) (mid new : S) (before after : Cache) (result : Reply) → Type 0
+Commits {S} T refresh next mid new before after result =
+    (command : Command) (state : State) (old : S) → Ends T command state refresh old mid → CarriesOut T command state next old new before after result

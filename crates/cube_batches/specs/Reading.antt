@@ -1,5 +1,5 @@
 -- What a source gives, as it was read or made.
-use Rattle.std.specs.Prelude.{◌≡◌, ◌≤◌, ◌+◌, ℕ, List, IfSome, length, Option, Ok, Err}
+use Rattle.std.specs.Prelude.{◌≡◌, ◌<◌, ◌≤◌, ◌+◌, ℕ, List, IfSome, length, Option, Ok, Err}
 use Rattle.std.specs.List.{All}
 use Rattle.cube_schema.specs.Agreeing.{Agrees}
 use Rattle.cube_schema.specs.declared.schema.Schema.{Schema}
@@ -9,11 +9,12 @@ use Rattle.plain_machine.specs.Machine.{Given}
 use Rattle.cube_batches.specs.declared.batch.Read.{Read}
 use Rattle.cube_batches.specs.declared.batch.Read.TheVariants.{Batch, Refused}
 
--- the facts are of the schema, not too many for a batch, and have the number behind the last one, or none
+-- the facts are of the schema, not too many for a batch, and have the number behind the last one, or none; a numbered batch has a fact
 pub record IsBatchFor (schema : Schema) (last : ℕ) (batch : List Fact) (number : Option ℕ) : Type 0 where
   pub few : length batch ≤ 262144
   pub agree : All (Agrees schema) batch
   pub due : IfSome number (λ n. n ≡ last + 1)
+  pub some : IfSome number (λ n. 0 < length batch)
 
 -- it is the batch that was given, with the last number behind it
 pub record IsGiven (schema : Schema) (last : ℕ) (given : List Fact × ℕ) (batch : List Fact) (number : Option ℕ) : Type 0 where

@@ -1,9 +1,11 @@
 //! A batch is taken in: it is refused, or it begins.
-ghost use Rattle.std.specs.Prelude.{◌≡◌, IfOk, IfErr, Some};
-ghost use Rattle.cube_state.specs.Batches.{refusal_text};
+ghost use Rattle.std.specs.Prelude.{◌≡◌, ◌<◌, IfOk, IfErr, Ok, Some, length};
+ghost use Rattle.cube_state.specs.Batches.{given_to, refusal_text};
 ghost use Rattle.cube_state.specs.Frames.{RunsOn};
+ghost use Rattle.forest_refresh.specs.Next.{last_behind};
 ghost use Rattle.plain_machine.specs.declared.batch_source.BatchSource as sources;
-ghost use Rattle.cube_batches.specs.Taking.{IsIdle, IsSentBy, MaySend, OnlyRefuses, TakesIn, begin_stop};
+ghost use Rattle.cube_batches.specs.Reading.{IsBatchFor};
+ghost use Rattle.cube_batches.specs.Taking.{IsIdle, OnlyRefuses, TakesIn, begin_stop};
 
 use crate::batch::{Read, read_source};
 use cube_schema::Schema;
@@ -47,7 +49,13 @@ pub fn take_in<T: Site>(
     let last = store.forest.body.last;
     match read_source(alloc, &store.forest.schema, last, source)? {
         Read::Refused(reply) => Ok(Taken::Refused(reply)),
-        Read::Batch(batch, number) => take_batch(alloc, state, batch, number, site),
+        Read::Batch(batch, number) => {
+            if batch.is_empty() {
+                return Ok(Taken::Empty);
+            }
+            let store = take_store(state);
+            start(alloc, state, store, batch, number, site)
+        }
     }
 }
 
@@ -59,32 +67,6 @@ fn refused(alloc: Global, text: &'static str) -> Result<Taken, Stop>
     Ok(Taken::Refused(reply))
 }
 
-/// The same where a schema is declared, nothing is pending and the batch was read. An empty one takes no call on a file.
-fn take_batch<T: Site>(
-    alloc: Global,
-    state: &mut State,
-    batch: Batch,
-    number: Option<u64>,
-    site: &mut T,
-) -> Result<Taken, Stop>
-    requires runs { RunsOn T.Site site.old state.old }
-    requires sent { MaySend state.old batch number }
-    ensures takes { (source : sources.BatchSource) → IsSentBy state.old source batch number → TakesIn T.Site source state.old state.new site.old site.new result }
-{
-    if batch.is_empty() {
-        return Ok(Taken::Empty);
-    }
-    let store = take_store(state);
-    match Refresh::begin(alloc, site, store, batch, number) {
-        Ok(refresh) => Ok(Taken::Begun(refresh)),
-        Err(fault) => {
-            let reply = refuse(alloc, &fault.store.forest.schema, fault.why);
-            state.set(State::Idle(fault.store));
-            Ok(Taken::Refused(reply?))
-        }
-    }
-}
-
 /// The store, out of a state in which nothing is pending.
 fn take_store(state: &mut State) -> Store
     requires idle { IsIdle state.old }
@@ -93,6 +75,31 @@ fn take_store(state: &mut State) -> Store
     match replace(state, State::Empty) {
         State::Idle(store) => store,
         State::Empty | State::Hollow(_) | State::Pending(_) => unreachable!(),
+    }
+}
+
+/// Begins with a batch that has a fact, for a store that is out of its state.
+fn start<T: Site>(
+    alloc: Global,
+    state: &mut State,
+    store: Store,
+    batch: Batch,
+    number: Option<u64>,
+    site: &mut T,
+) -> Result<Taken, Stop>
+    requires runs { RunsOn T.Site site.old (State.Idle store) }
+    requires some { 0 < length batch }
+    requires fits { IsBatchFor store.forest.schema store.forest.body.last batch number }
+    ensures takes { (source : sources.BatchSource) → given_to store source ≡ Ok (batch, last_behind store.forest.body.last number)
+        → TakesIn T.Site source (State.Idle store) state.new site.old site.new result }
+{
+    match Refresh::begin(alloc, site, store, batch, number) {
+        Ok(refresh) => Ok(Taken::Begun(refresh)),
+        Err(fault) => {
+            let reply = refuse(alloc, &fault.store.forest.schema, fault.why);
+            state.set(State::Idle(fault.store));
+            Ok(Taken::Refused(reply?))
+        }
     }
 }
 

@@ -6,3 +6,4 @@ pub mod Looking
 pub mod Moves
 pub mod Standing
 pub mod Told
+pub mod Writing

@@ -1,6 +1,4 @@
-use Rattle.std.proofs.Common.{◌≡◌, ◌<◌, ◌+◌, length, arith}
-use Rattle.std.proofs.lemmas.Bool.Decides.{nat_tests}
-use Rattle.plain_machine.specs.Machine.{block_read}
+use Rattle.cube_batches.proofs.Names.{◌+◌, ◌<◌, ◌≡◌, arith, block_read, length, nat_tests}
 use Rattle.cube_batches.proofs.Nexts.{next_batch, next_empty, next_refused}
 use Rattle.cube_batches.proofs.batch.read_next.Goals as goal
 

@@ -1,7 +1,6 @@
 use Rattle.script_lang.specs.declared.command.Command.TheVariants as says
-use Rattle.cube_state.proofs.Carried.{runs_out_as}
-use Rattle.cube_batches.proofs.Answers.{memory_as}
-use Rattle.cube_batches.proofs.Ends.{abandons}
+use Rattle.cube_batches.proofs.Names.{runs_out_as}
+use Rattle.cube_batches.proofs.Ends.{abandons, memory_as}
 use Rattle.cube_batches.proofs.pending.abandon.Goals as goal
 
 pub returns-in_err-reply : goal.returns-in_err-reply
@@ -12,6 +11,6 @@ returns-in_err-reply g c = record {
 
 pub returns : goal.returns
 returns g c = record {
-  carried = abandons g.T.Site c.args.site.now (λ t told files. g.met.T.Site.only_now c.args.site.now told files t) c.args.state.now c.drop_batch.new.state c.drop_batch.ensures c.in_ok-reply.reply
-      c.in_ok-reply.ensures;
+  carried = abandons g.T.Site c.args.site.now (λ t told files. g.met.T.Site.only_now c.args.site.now told files t) c.in_ok-reply.reply c.args.state.now c.in_ok-reply.ensures c.drop_batch.new.state
+      c.drop_batch.ensures;
 }

@@ -1,8 +1,6 @@
 use Rattle.script_lang.specs.declared.command.Command.TheVariants as says
-use Rattle.cube_state.specs.declared.state.State.TheVariants.{Pending}
-use Rattle.cube_state.proofs.Carried.{runs_out_as}
-use Rattle.cube_batches.proofs.Answers.{memory_as, steps_none}
-use Rattle.cube_batches.proofs.Ends.{moves_not_as, moves_on_as}
+use Rattle.cube_batches.proofs.Names.{◌≡◌, CarriesOutAlone, Ok, Pending, Reply, State, at_error, codes, pending_line, refresh_stop, runs_out_as, subst, sym}
+use Rattle.cube_batches.proofs.Ends.{memory_as, moves_not, moves_on, steps_none}
 use Rattle.cube_batches.proofs.pending.step.Goals as goal
 
 pub returns-in_err-reply : goal.returns-in_err-reply
@@ -13,24 +11,28 @@ returns-in_err-reply g c = record {
 
 pub returns-in_default : goal.returns-in_default
 returns-in_default g c = record {
-  carried = steps_none g.T.Site c.args.moves c.args.state.now c.args.site.now (λ t told files. g.met.T.Site.only_now c.args.site.now told files t) c.in_default.not-Pending c.in_ok-reply.reply
+  carried = steps_none g.T.Site c.args.moves c.args.site.now c.args.state.now (λ t told files. g.met.T.Site.only_now c.args.site.now told files t) c.in_default.not-Pending c.in_ok-reply.reply
       c.in_ok-reply.ensures;
 }
 
 pub returns-in_err-step : goal.returns-in_err-step
 returns-in_err-step g c =
     let is = c.in_err-step.ensures in
+    let ends = λ (s : State) (result : Reply). CarriesOutAlone g.T.Site (says.Step c.args.moves) s (Pending c.step.new.self) c.args.site.now c.step.new.site result in
     record {
-      carried = moves_not_as g.T.Site c.args.moves c.in-Pending.refresh c.step.new.self c.args.site.now c.step.new.site c.in_err-step.field-0.0
-          (record { any_moment = is.any_moment; cost = is.cost; side = is.disk; told = is.told; calls = is.calls }) is.undamaged is.damaged c.args.state.now (Pending c.step.new.self) c.in-Pending.is
-          c.from_residual-in_err-step.result c.from_residual-in_err-step.ensures.1;
+      carried = subst (λ (s : State). ends s c.from_residual-in_err-step.result) (sym c.in-Pending.is)
+          (at_error (ends (Pending c.in-Pending.refresh)) (refresh_stop c.in_err-step.field-0.0) c.from_residual-in_err-step.result c.from_residual-in_err-step.ensures.1
+          (moves_not g.T.Site c.args.moves c.in-Pending.refresh c.step.new.self c.args.site.now c.step.new.site c.in_err-step.field-0.0
+          (record { any_moment = is.any_moment; cost = is.cost; side = is.disk; told = is.told; calls = is.calls }) is.undamaged is.damaged (Pending c.step.new.self)));
     }
 
 pub returns : goal.returns
 returns g c =
     let is = c.in_ok-step.ensures in
     record {
-      carried = moves_on_as g.T.Site c.args.moves c.in-Pending.refresh c.step.new.self c.args.site.now c.step.new.site c.in_ok-step.field-0
-          (record { any_moment = is.any_moment; cost = is.cost; side = is.disk; told = is.told; calls = is.calls }) is.same is.taken is.limit.0 is.stands is.live is.goes is.ready c.args.state.now c.in-Pending.is
-          c.in_ok-reply.reply c.in_ok-reply.ensures;
+      carried = subst (λ (s : State). c.in_ok-reply.reply.items ≡ pending_line s (codes "stepped")
+          → CarriesOutAlone g.T.Site (says.Step c.args.moves) s (Pending c.step.new.self) c.args.site.now c.step.new.site (Ok c.in_ok-reply.reply)) (sym c.in-Pending.is)
+          (moves_on g.T.Site c.args.moves c.in-Pending.refresh c.step.new.self c.args.site.now c.step.new.site c.in_ok-step.field-0
+          (record { any_moment = is.any_moment; cost = is.cost; side = is.disk; told = is.told; calls = is.calls }) is.same is.taken is.limit.0 is.stands is.live is.goes is.ready c.in_ok-reply.reply)
+          c.in_ok-reply.ensures;
     }
