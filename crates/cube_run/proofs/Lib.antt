@@ -2,8 +2,8 @@ pub mod Carrying
 pub mod Costs
 pub mod Gives
 pub mod Going
-pub mod Histories
-pub mod Pieces
+pub mod Moments
+pub mod Names
 pub mod Replied
 pub mod Running
 pub mod Serving

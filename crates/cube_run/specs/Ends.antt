@@ -1,9 +1,10 @@
 -- How a run may end, and why.
-use Rattle.std.specs.Prelude.{◌≡◌, ℕ, Result, Ok, Err, IfErr, OnOk}
+use Rattle.std.specs.Prelude.{◌≡◌, ℕ, Option, Some, None, IfSome, Result, Ok, Err}
 use Rattle.site_core.specs.Causes.{RoseOnce}
 use Rattle.site_core.specs.declared.site.Site.{Ghosts}
 use Rattle.cube_words.specs.declared.words.WordsStop.{WordsStop}
 use Rattle.cube_words.specs.declared.words.WordsStop.TheVariants as words
+use Rattle.cube_state.specs.Stops.{IsNoDamage}
 use Rattle.cube_state.specs.declared.stop.Stop.{Stop}
 use Rattle.cube_state.specs.declared.stop.Stop.TheVariants as stops
 use Rattle.cube_run.specs.declared.exit.Status.{Status}
@@ -49,30 +50,17 @@ StatusCause before now (Damaged file offset) = Stayed before now
 StatusCause before now TooLong = Stayed before now
 StatusCause before now Memory = Stayed before now
 
--- the same of what ends a run early, which is not `Done`
-abbrev pub EndCause : Faults → Faults → Status → Type 0
-EndCause before now Done = ⊥
-EndCause before now Input = StatusCause before now Input
-EndCause before now Disk = StatusCause before now Disk
-EndCause before now Output = StatusCause before now Output
-EndCause before now Usage = StatusCause before now Usage
-EndCause before now (Damaged file offset) = StatusCause before now (Damaged file offset)
-EndCause before now TooLong = StatusCause before now TooLong
-EndCause before now Memory = StatusCause before now Memory
+-- the stop of a session that ends a run so, if one does
+abbrev pub stop_of : Status → Option Stop
+stop_of Disk = Some stops.Disk
+stop_of Output = Some stops.Output
+stop_of (Damaged file offset) = Some (stops.Damaged file offset)
+stop_of Memory = Some stops.Memory
+stop_of _ = None
 
--- why it ends early; where it goes on nothing failed
-abbrev pub EndsFor : {A : Type 0} → Faults → Faults → Result A Status → Type 0
-EndsFor before now result = IfErr result (EndCause before now) × OnOk result (Stayed before now)
-
+-- no damage is told
 abbrev pub IsUndamaged : Status → Type 0
-IsUndamaged (Damaged file offset) = ⊥
-IsUndamaged Done = Unit {0}
-IsUndamaged Usage = Unit {0}
-IsUndamaged Input = Unit {0}
-IsUndamaged Disk = Unit {0}
-IsUndamaged Output = Unit {0}
-IsUndamaged Memory = Unit {0}
-IsUndamaged TooLong = Unit {0}
+IsUndamaged status = IfSome (stop_of status) IsNoDamage
 
 -- this comes only where the files were opened
 abbrev pub IsPastOpening : Status → Type 0

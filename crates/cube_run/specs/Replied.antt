@@ -20,9 +20,3 @@ pub record HasReplied (commands : List Command) (before now : List ℕ) : Type 0
   pub replies : List ℕ
   pub told : now ≡ before ++ replies
   pub each : Replied commands replies
-
--- of these commands the first were replied to, and the others are left
-pub record AreLeft (commands : List Command) (before : List ℕ) (rest : List Command) (now : List ℕ) : Type 0 where
-  pub front : List Command
-  pub cut : commands ≡ front ++ rest
-  pub replied : HasReplied front before now

@@ -1,31 +1,42 @@
 -- How a session serves a script.
-use Rattle.std.specs.Prelude.{◌≡◌, ◌≤◌, ◌+◌, ℕ, IsTrue, List, [], Option, Result, IfErr, OnOk}
+use Rattle.std.specs.Prelude.{◌≡◌, ◌⊎◌, ◌≤◌, ◌+◌, ℕ, IsTrue, List, [], Option}
+use Rattle.site_core.specs.Disk.{Disk}
 use Rattle.site_core.specs.declared.site.Site.{Ghosts as Sites}
 use Rattle.site_core.specs.declared.source.Source.{Ghosts as Sources}
 use Rattle.script_lang.specs.Script.{commands}
 use Rattle.plain_machine.specs.World.{World}
 use Rattle.cube_state.specs.declared.state.State.{State}
 use Rattle.cube_session.specs.Session.{StandsFor, moves_for}
-use Rattle.cube_run.specs.Carrying.{Finishes}
-use Rattle.cube_run.specs.Ends.{EndsFor, IsUndamaged, ended, faults}
-use Rattle.cube_run.specs.Headline.{StopsShort}
-use Rattle.cube_run.specs.Pulls.{Gave, KeepsLimit}
+use Rattle.cube_run.specs.Ends.{IsUndamaged, StatusCause, faults}
+use Rattle.cube_run.specs.Headline.{CutOff, Finished, LeftOff}
+use Rattle.cube_run.specs.Onward.{IsWithin}
+use Rattle.cube_run.specs.Pulls.{Gave, GaveAtMost}
+use Rattle.cube_run.specs.Replied.{HasReplied}
 use Rattle.cube_run.specs.declared.exit.Status.{Status}
-use Rattle.cube_run.specs.declared.exit.Status.TheVariants.{Usage}
+use Rattle.cube_run.specs.declared.exit.Status.TheVariants.{Done, Input, TooLong, Usage}
 
--- how much of a script was pulled
-pub record Pulls (most : ℕ) (script left : List ℕ) (result : Result (Unit {0}) Status) : Type 0 where
-  pub unpulled : Gave script left 0 → IfErr result IsUndamaged
-  pub read : OnOk result (left ≡ [])
-  pub limit : KeepsLimit (λ end. ended result ≡ end) most script left
+-- what holds at the end of the script, past its limit and where the source failed; the words were taken
+abbrev pub ByEnd : (done too_long input : Type 0) → Status → Type 0
+ByEnd done too_long input Done = done
+ByEnd done too_long input TooLong = too_long
+ByEnd done too_long input Input = input
+ByEnd done too_long input Usage = ⊥
+ByEnd done too_long input _ = Unit {0}
+
+-- which commands were carried out then
+abbrev pub Outcome : Disk → World → ℕ → List ℕ → List ℕ → ℕ → List ℕ → Status → Type 0
+Outcome now world made script left most before status =
+    ByEnd (Finished now world made (commands script) before) (LeftOff now world made script most before) (CutOff now world made script left before) status
 
 -- a session that had this served a script of at most so many bytes, or something ended it
-pub record Serves {A B : Type 0} (S : Sources A) (T : Sites B) (had : Option State) (most : ℕ) (source source_now : A) (site site_now : B) (result : Result (Unit {0}) Status) : Type 0 where
-  pub finishes : IsTrue S.tells → Finishes T had (commands (S.left source)) site site_now result
-  pub undamaged : IsTrue T.tells → (world : World) → StandsFor had (T.disk site) world → IfErr result IsUndamaged
-  pub short : IsTrue S.tells → IsTrue T.tells → (world : World) → StandsFor had (T.disk site) world
-      → StopsShort (λ end. ended result ≡ end) (T.disk site_now) world (moves_for had) (S.left source) (S.left source_now) most (T.disk site).told
-  pub pulls : IsTrue S.tells → Pulls most (S.left source) (S.left source_now) result
+pub record Serves {A B : Type 0} (S : Sources A) (T : Sites B) (had : Option State) (most : ℕ) (source source_now : A) (site site_now : B) (status : Status) : Type 0 where
+  pub within : IsTrue S.tells → IsTrue T.tells → (world : World) → StandsFor had (T.disk site) world → IsWithin T had world (commands (S.left source)) site site_now
+  pub outcome : IsTrue S.tells → IsTrue T.tells → (world : World) → StandsFor had (T.disk site) world
+      → Outcome (T.disk site_now) world (moves_for had) (S.left source) (S.left source_now) most (T.disk site).told status
+  pub undamaged : IsTrue T.tells → (world : World) → StandsFor had (T.disk site) world → IsUndamaged status
+  pub unpulled : IsTrue S.tells → Gave (S.left source) (S.left source_now) 0 → IsUndamaged status
+  pub few : IsTrue S.tells → GaveAtMost (S.left source) (S.left source_now) most ⊎ (status ≡ TooLong)
+  pub past : ByEnd (Unit {0}) (IsTrue S.tells → Gave (S.left source) (S.left source_now) (most + 1)) (Unit {0}) status
+  pub done : IsTrue S.tells → ByEnd ((S.left source_now ≡ []) × (IsTrue T.tells → HasReplied (commands (S.left source)) (T.disk site).told (T.disk site_now).told)) (Unit {0}) (Unit {0}) status
   pub asked : S.ends source_now ≤ S.ends source + 1
-  pub no_usage : ended result ≡ Usage → ⊥
-  pub cause : EndsFor (faults (S.faults source) (T.disk_faults site) (T.told_faults site)) (faults (S.faults source_now) (T.disk_faults site_now) (T.told_faults site_now)) result
+  pub cause : StatusCause (faults (S.faults source) (T.disk_faults site) (T.told_faults site)) (faults (S.faults source_now) (T.disk_faults site_now) (T.told_faults site_now)) status

@@ -1,6 +1,6 @@
 //! How a run ends.
 ghost use Rattle.std.specs.Prelude.{◌≡◌};
-ghost use Rattle.cube_run.specs.Ends.{code_of};
+ghost use Rattle.cube_run.specs.Ends.{code_of, status_of, words_status};
 
 use cube_state::Stop;
 use cube_words::WordsStop;
@@ -67,8 +67,6 @@ impl From<AllocError> for Status {
 }
 
 impl From<WordsStop> for Status {
-    ghost use Rattle.cube_run.specs.Ends.{words_status};
-
     ghost from_gives = { λ stop status. status ≡ words_status stop };
 
     fn from(stop: WordsStop) -> Status {
@@ -80,8 +78,6 @@ impl From<WordsStop> for Status {
 }
 
 impl From<Stop> for Status {
-    ghost use Rattle.cube_run.specs.Ends.{status_of};
-
     ghost from_gives = { λ stop status. status ≡ status_of stop };
 
     fn from(stop: Stop) -> Status {

@@ -1,7 +1,6 @@
 //! The script, as a source gives it in pieces.
-ghost use Rattle.std.specs.Prelude.{◌≡◌, ◌≤◌, ◌<◌, ◌+◌, IsTrue, OnErr, IfOk, IfErr, vec_len};
-ghost use Rattle.site_core.specs.Causes.{HasCause};
-ghost use Rattle.site_core.specs.Pull.{Gives, MeetsEnd};
+ghost use Rattle.std.specs.Prelude.{◌≤◌, ◌<◌, IfOk, vec_len};
+ghost use Rattle.cube_run.specs.Pulls.{PullsInto};
 
 use crate::exit::Status;
 use site_core::Source;
@@ -30,14 +29,7 @@ pub fn room(alloc: Global, mut buffer: Vec<u8>, most: usize) -> Result<Vec<u8>, 
 pub fn pull<S: Source>(source: &mut S, into: &mut Vec<u8>) -> Result<usize, Status>
     requires some { 0 < vec_len into.old }
     requires few { vec_len into.old ≤ 65536 }
-    ensures bytes { IsTrue S.tells → IfOk result (λ count. Gives (S.left source.old) (S.left source.new) count into.new.items) }
-    ensures bound { IfOk result (λ count. count ≤ vec_len into.new) }
-    ensures room { vec_len into.new ≡ vec_len into.old }
-    ensures failed { IsTrue S.tells → OnErr result (S.left source.new ≡ S.left source.old) }
-    ensures input { IfErr result (λ status. status ≡ Status.Input) }
-    ensures cause { HasCause (S.faults source.old) (S.faults source.new) result }
-    ensures one { S.pulls source.new ≤ S.pulls source.old + 1 }
-    ensures end { MeetsEnd (S.ends source.old) (S.ends source.new) result }
+    ensures pulls { PullsInto S.Source source.old source.new into.old.items into.new.items result }
 {
     match source.pull(into.as_mut_slice()) {
         Ok(count) => Ok(count),

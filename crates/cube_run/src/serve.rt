@@ -1,9 +1,8 @@
 //! The commands of a script, carried out one after the other while its pieces come.
-ghost use Rattle.std.specs.Prelude.{◌≡◌, ◌≤◌, ◌^◌, [], false, IfErr, take, vec_len};
-ghost use Rattle.script_lang.specs.Reading.{nothing_read, ready, to_come};
-ghost use Rattle.cube_state.specs.Stops.{IsNoDamage};
+ghost use Rattle.std.specs.Prelude.{◌≤◌, ◌^◌};
 ghost use Rattle.cube_session.specs.Session.{Runs};
-ghost use Rattle.cube_run.specs.Carrying.{CarriesOn, TakesEnd, coming, fed_with};
+ghost use Rattle.cube_run.specs.Carrying.{CarriesOn};
+ghost use Rattle.cube_run.specs.Ends.{ended};
 ghost use Rattle.cube_run.specs.Serving.{Serves};
 
 use crate::exit::Status;
@@ -25,7 +24,7 @@ pub fn serve<S: Source, T: Site>(
 ) -> Result<(), Status>
     requires limit { limit ≤ 2 ^ 30 }
     requires runs { Runs T.Site site.old session.old.state session.old.pages }
-    ensures serves { Serves S.Source T.Site session.old.state limit source.old source.new site.old site.new result }
+    ensures serves { Serves S.Source T.Site session.old.state limit source.old source.new site.old site.new (ended result) }
 {
     let mut lines = Lines::new(alloc);
     let mut taken = 0;
@@ -33,51 +32,22 @@ pub fn serve<S: Source, T: Site>(
         let mut buffer = room(alloc, lines.give_back(), (limit + 1 - taken) as usize)?;
         let count = pull(source, &mut buffer)?;
         if count == 0 {
-            return Ok(take_end(session, &mut lines, site)?);
+            lines.end();
+            return Ok(carry_out(session, &mut lines, site)?);
         }
         taken += count as u64;
         if taken > limit {
             return Err(Status::TooLong);
         }
-        take_piece(session, &mut lines, site, buffer, count)?;
+        lines.take_over(buffer, count);
+        carry_out(session, &mut lines, site)?;
     }
-}
-
-/// Takes in a piece of the script, the first bytes of a buffer, and carries out the commands that are whole then.
-fn take_piece<T: Site>(
-    session: &mut Session,
-    lines: &mut Lines,
-    site: &mut T,
-    buffer: Vec<u8>,
-    count: usize,
-) -> Result<(), Stop>
-    requires runs { Runs T.Site site.old session.old.state session.old.pages }
-    requires goes_on { lines.old.over ≡ false }
-    requires read { lines.old.rest ≡ [] }
-    requires within { count ≤ vec_len buffer }
-    ensures carries { CarriesOn T.Site session.old.state session.new.state (fed_with (coming lines.old) (take count buffer.items)) lines.new
-        site.old site.new session.new.pages result }
-{
-    lines.take_over(buffer, count);
-    carry_out(session, lines, site)
-}
-
-/// Carries out the commands that are left at the end of the script.
-fn take_end<T: Site>(session: &mut Session, lines: &mut Lines, site: &mut T) -> Result<(), Stop>
-    requires runs { Runs T.Site site.old session.old.state session.old.pages }
-    requires goes_on { lines.old.over ≡ false }
-    ensures takes { TakesEnd T.Site session.old.state (to_come lines.old []) site.old site.new result }
-    ensures nothing { lines.old ≡ nothing_read → IfErr result IsNoDamage }
-{
-    lines.end();
-    carry_out(session, lines, site)
 }
 
 /// Carries out the commands that are whole by now, and emits the reply to each.
 fn carry_out<T: Site>(session: &mut Session, lines: &mut Lines, site: &mut T) -> Result<(), Stop>
-    requires runs { Runs T.Site site.old session.old.state session.old.pages }
-    ensures carries { CarriesOn T.Site session.old.state session.new.state (coming lines.old) lines.new site.old site.new session.new.pages result }
-    ensures nothing { ready lines.old ≡ [] → IfErr result IsNoDamage }
+    requires { Runs T.Site site.old session.old.state session.old.pages }
+    ensures { CarriesOn T.Site session.old.state session.new.state lines.old lines.new site.old site.new session.new.pages result }
 {
     while let Some(command) = lines.next_command()? {
         session.command(site, command)?;

@@ -2,11 +2,8 @@ use Rattle.std.proofs.Common.{◌+◌, ◌-◌}
 use Rattle.cube_run.proofs.Serving.{HasServed}
 use Rattle.cube_run.proofs.serve.serve.Given as goal
 
--- so many bytes were taken, and with those that are left in the source the other commands are still to come
 abbrev pub invariant-loop-lines : goal.invariant-loop-lines
-invariant-loop-lines g l = record {
-  served : HasServed g.S.Source g.T.Site l.fn.session.state l.session.state l.session.pages l.lines l.taken l.limit l.fn.source l.source l.fn.site l.site;
-}
+invariant-loop-lines g l = HasServed g.S.Source g.T.Site l.fn.session.state l.session.state l.session.pages l.lines l.taken l.limit l.fn.source l.source l.fn.site l.site
 
 abbrev pub decreases-loop-lines : goal.decreases-loop-lines
 decreases-loop-lines g l = l.limit + 1 - l.taken
