@@ -1,62 +1,19 @@
 -- Commands that only answer: what they reply, by what the session has.
-use Rattle.std.proofs.Common.{◌≡◌, ◌∙◌, ℕ, List, codes, length, Option, Some, None, Result, Ok, Err, IfErr, refl, sym, ap, subst, arith, length-append}
-use Rattle.site_core.specs.Disk.{Disk, Files}
-use Rattle.site_core.specs.declared.site.Site.{Ghosts}
-use Rattle.cube_schema.specs.declared.schema.Schema.{Schema}
-use Rattle.fact_model.specs.declared.fact.Fact.{Fact}
-use Rattle.fact_model.specs.declared.slice.Slice.{Slice}
-use Rattle.forest_refresh.specs.Begun.{batch_size}
-use Rattle.forest_root.specs.declared.forest.Store.{Store}
-use Rattle.script_lang.specs.declared.command.Block.{Block}
-use Rattle.script_lang.specs.declared.command.Command.{Command}
-use Rattle.script_lang.specs.declared.command.Command.TheVariants as says
-use Rattle.reply_text.specs.Replies.{facts_text, line, pending_text}
-use Rattle.plain_machine.specs.Machine.{Answer, act, asked_by, asked_over, declare, declare_over, status_over, status_text}
-use Rattle.plain_machine.specs.World.{Kept, Knows, Warehouse, World, bare}
-use Rattle.plain_machine.proofs.Acts.{act_long_line, act_open_block, act_schema, act_status, act_unknown}
-use Rattle.cube_state.specs.declared.state.State.{State}
-use Rattle.cube_state.specs.declared.state.State.TheVariants.{Empty, Idle, Hollow, Pending}
-use Rattle.cube_state.specs.declared.stop.Stop.{Stop}
-use Rattle.cube_state.specs.declared.stop.Stop.TheVariants as stops
-use Rattle.cube_state.specs.Commands.{SchemaGives}
-use Rattle.cube_state.specs.Session.{Stands, state_text}
-use Rattle.cube_state.specs.Visits.{GoesFrom, GoesOver, GoesTo, store_of}
-use Rattle.cube_state.proofs.Carried.{OnlySays}
-
--- want of memory, as an exit names it
-pub out_of : {A : Type 0} (result : Result A Stop) → IfErr result (λ stop. stop ≡ stops.Memory) → (stop : Stop) → result ≡ Err stop → stop ≡ stops.Memory
-out_of result is stop err = subst (λ (r : Result _ Stop). IfErr r (λ s. s ≡ stops.Memory)) err is
-
-pub none_some : {A : Type 0} {x : A} → None ≡ Some x → ⊥
-none_some same = absurd (cc)
+use Rattle.cube_session.proofs.Names.{is_declared, long_line, open_block, is_unknown, Option, List, sym, subst, ap, Some, ◌∙◌, None, ◌≡◌, ℕ, length, refl, arith, Bool, true, false, true≢false, IsTrue}
+use Rattle.cube_session.proofs.Names.{IfErr, length-append, IfOk, option_copied, Disk, Ghosts, Fact, Slice, Schema, Cache, batch_size, Block, Command, line, facts_text, pending_text, act_long_line}
+use Rattle.cube_session.proofs.Names.{act_open_block, act_schema, act_status, act_unknown, Answer, asked_by, asked_over, declare_over, status_over, status_text, Kept, Knows, World, bare, OnlyNow}
+use Rattle.cube_session.proofs.Names.{OnlySays, says_or_out, CarriesOut, IsReadyFor, Reply, SchemaGives, Stands, state_text, GoesFrom, GoesOver, store_of, State, Empty, Idle, Hollow, Pending, is_some}
+use Rattle.cube_session.proofs.Names.{Bor}
+use Rattle.cube_session.proofs.Names.says
+use Rattle.cube_session.proofs.Names.stops
 
 pub some_none : {A : Type 0} {x : A} → Some x ≡ None → ⊥
 some_none same = absurd (cc)
 
--- ---- no page is gone to
-
-asked_nowhere : (schema : Schema) (facts : List Fact) (asked : Option Slice) (numbers : List ℕ) → asked ≡ None → GoesOver schema facts asked numbers → ⊥
-asked_nowhere schema facts asked numbers none goes = subst (λ (a : Option Slice). GoesOver schema facts a numbers) none goes
-
--- by a command that has no slice answered
+-- a command that has no slice answered goes to no page
 pub goes_nowhere : (kept : Kept) (command : Command) → ((schema : Schema) → asked_by schema command ≡ None) → (numbers : List ℕ) → GoesFrom kept (asked_over kept command) numbers → ⊥
 goes_nowhere None command none numbers goes = goes
-goes_nowhere (Some warehouse) command none numbers goes = asked_nowhere warehouse.schema warehouse.facts (asked_by warehouse.schema command) numbers (none warehouse.schema) goes
-
--- ---- what is declared
-
--- where it has a store, a schema is declared
-stands_kept : (state : State) (store : Store) (disk : Disk) (world : World) → store_of state ≡ Some store → Stands state disk world → (warehouse : Warehouse) × (world.kept ≡ Some warehouse)
-stands_kept Empty store disk world has is = absurd (none_some has)
-stands_kept (Idle kept) store disk world has is = (is.0, is.1.kept)
-stands_kept (Hollow kept) store disk world has is = (is.0, is.1.kept)
-stands_kept (Pending r) store disk world has is = (is.0, is.2.kept)
-
-gives_declared : (state : State) (store : Store) (block : Block) → store_of state ≡ Some store → SchemaGives state block (line (codes "refused declared"))
-gives_declared Empty store block has = absurd (none_some has)
-gives_declared (Idle kept) store block has = refl
-gives_declared (Hollow kept) store block has = refl
-gives_declared (Pending r) store block has = refl
+goes_nowhere (Some warehouse) command none numbers goes = subst (λ (a : Option Slice). GoesOver warehouse.schema warehouse.facts a numbers) (none warehouse.schema) goes
 
 -- ---- how many facts
 
@@ -80,66 +37,61 @@ module _ {S : Type 0} (T : Ghosts S) (state : State) (site : S) where
   status_says = record {
     acts = λ t world stands. act_status world ∙ ap (λ text. (world, text)) (sym (status_known state (T.disk site) world stands));
     moves = λ t world stands. refl;
-    goes = λ t world stands numbers. goes_nowhere world.kept says.Status (λ schema. refl) numbers;
+    goes = λ t world stands. goes_nowhere world.kept says.Status (λ schema. refl);
     gives = λ files. refl;
-    alone = λ no. refl;
+    alone = λ none. refl;
   }
 
-  pub long_line_says : OnlySays T says.LongLine state site (line (codes "refused long line"))
-  long_line_says = record {
-    acts = λ t world stands. act_long_line world;
+  pub long_line_says : OnlySays T says.LongLine state site (line long_line)
+  long_line_says = search (act_long_line, goes_nowhere)
+
+  pub open_block_says : OnlySays T says.OpenBlock state site (line open_block)
+  open_block_says = search (act_open_block, goes_nowhere)
+
+  pub unknown_says : OnlySays T says.Unknown state site (line is_unknown)
+  unknown_says = search (act_unknown, goes_nowhere)
+
+  -- a schema is declared only where there is none
+  schema_says : (block : Block) (text : List ℕ) → ((world : World) → Stands state (T.disk site) world → declare_over world world.kept block ≡ (world, text)) → SchemaGives state block text
+      → OnlySays T (says.Schema block) state site text
+  schema_says block text declares gives = record {
+    acts = λ t world stands. act_schema world block ∙ declares world stands;
     moves = λ t world stands. refl;
-    goes = λ t world stands numbers. goes_nowhere world.kept says.LongLine (λ schema. refl) numbers;
-    gives = λ files. refl;
-    alone = λ no. refl;
+    goes = λ t world stands. goes_nowhere world.kept (says.Schema block) (λ schema. refl);
+    gives = λ files. gives;
+    alone = λ none. refl;
   }
 
-  pub open_block_says : OnlySays T says.OpenBlock state site (line (codes "refused open block"))
-  open_block_says = record {
-    acts = λ t world stands. act_open_block world;
-    moves = λ t world stands. refl;
-    goes = λ t world stands numbers. goes_nowhere world.kept says.OpenBlock (λ schema. refl) numbers;
-    gives = λ files. refl;
-    alone = λ no. refl;
-  }
+-- there is one
+pub declared_says : {S : Type 0} (T : Ghosts S) (state : State) (site : S) (block : Block) → is_some (store_of state) ≡ true → OnlySays T (says.Schema block) state site (line is_declared)
+declared_says T Empty site block has = absurd (true≢false (sym has))
+declared_says T (Idle store) site block has = schema_says T (Idle store) site block (line is_declared) (λ world stands. ap (λ (kept : Kept). declare_over world kept block) stands.1.kept) refl
+declared_says T (Hollow store) site block has = schema_says T (Hollow store) site block (line is_declared) (λ world stands. ap (λ (kept : Kept). declare_over world kept block) stands.1.kept) refl
+declared_says T (Pending r) site block has = schema_says T (Pending r) site block (line is_declared) (λ world stands. ap (λ (kept : Kept). declare_over world kept block) stands.2.kept) refl
 
-  pub unknown_says : OnlySays T says.Unknown state site (line (codes "refused unknown"))
-  unknown_says = record {
-    acts = λ t world stands. act_unknown world;
-    moves = λ t world stands. refl;
-    goes = λ t world stands numbers. goes_nowhere world.kept says.Unknown (λ schema. refl) numbers;
-    gives = λ files. refl;
-    alone = λ no. refl;
-  }
+-- or the block gives none
+pub refused_says : {S : Type 0} (T : Ghosts S) (state : State) (site : S) (block : Block) (text : List ℕ) → is_some (store_of state) ≡ false
+    → ((world : World) → declare_over world None block ≡ (world, text)) → OnlySays T (says.Schema block) state site text
+refused_says T Empty site block text none refuses = schema_says T Empty site block text
+    (λ world stands. ap (λ (kept : Kept). declare_over world kept block) stands.0.kept ∙ refuses world) (sym (ap (λ (a : Answer). a.1) (refuses (bare None))))
+refused_says T (Idle store) site block text none refuses = absurd (true≢false none)
+refused_says T (Hollow store) site block text none refuses = absurd (true≢false none)
+refused_says T (Pending r) site block text none refuses = absurd (true≢false none)
 
-  -- a schema is declared already
-  pub declared_says : (store : Store) (block : Block) → store_of state ≡ Some store → OnlySays T (says.Schema block) state site (line (codes "refused declared"))
-  declared_says store block has = record {
-    acts = λ t world stands. act_schema world block ∙ ap (λ (kept : Kept). declare_over world kept block) (stands_kept state store (T.disk site) world has stands).1;
-    moves = λ t world stands. refl;
-    goes = λ t world stands numbers. goes_nowhere world.kept (says.Schema block) (λ schema. refl) numbers;
-    gives = λ files. gives_declared state store block has;
-    alone = λ no. refl;
-  }
+-- whether there is a store, as the code tests it
+pub stored : {A : Type 0} {kept : Option A} {test is : Bool} (lent : Option (Bor A)) → option_copied lent ≡ kept → test ≡ is_some lent → test ≡ is → is_some kept ≡ is
+stored None same tests is = ap is_some (sym same) ∙ (sym tests ∙ is)
+stored (Some x) same tests is = ap is_some (sym same) ∙ (sym tests ∙ is)
 
--- ---- where it has no store, it has nothing
-
-pub none_empty : (state : State) → store_of state ≡ None → state ≡ Empty
+pub none_empty : (state : State) → is_some (store_of state) ≡ false → state ≡ Empty
 none_empty Empty none = refl
-none_empty (Idle store) none = absurd (some_none none)
-none_empty (Hollow store) none = absurd (some_none none)
-none_empty (Pending r) none = absurd (some_none none)
+none_empty (Idle store) none = absurd (true≢false none)
+none_empty (Hollow store) none = absurd (true≢false none)
+none_empty (Pending r) none = absurd (true≢false none)
 
--- and the block may give no schema
-module _ {S : Type 0} (T : Ghosts S) (site : S) (block : Block) (text : List ℕ) (refuses : (world : World) → declare_over world None block ≡ (world, text)) where
-  empty_refuses : OnlySays T (says.Schema block) Empty site text
-  empty_refuses = record {
-    acts = λ t world stands. act_schema world block ∙ ap (λ (kept : Kept). declare_over world kept block) stands.0.kept ∙ refuses world;
-    moves = λ t world stands. refl;
-    goes = λ t world stands numbers. goes_nowhere world.kept (says.Schema block) (λ schema. refl) numbers;
-    gives = λ files. sym (ap (λ (a : Answer). a.1) (refuses (bare None)));
-    alone = λ no. refl;
-  }
-
-  pub refused_says : (state : State) → store_of state ≡ None → OnlySays T (says.Schema block) state site text
-  refused_says state none = subst (λ (s : State). OnlySays T (says.Schema block) s site text) (sym (none_empty state none)) empty_refuses
+-- and memory may run out for the reply
+pub only_answers : {S : Type 0} (T : Ghosts S) (site : S) (state : State) (cache : Cache) (command its : Command) (text : List ℕ) (result : Reply) → (IsTrue T.tells → OnlyNow (T.disk site))
+    → IsReadyFor T site cache state → command ≡ its → OnlySays T its state site text → IfOk result (λ reply. reply.items ≡ text) → IfErr result (λ stop. stop ≡ stops.Memory)
+    → CarriesOut T command state state site site cache cache result
+only_answers T site state cache command its text result now ready is only said memory = subst (λ (k : Command). CarriesOut T k state state site site cache cache result) (sym is)
+    (says_or_out T its state site cache now text result ready only said (λ stop err. subst (λ (r : Reply). IfErr r (λ s. s ≡ stops.Memory)) err memory))

@@ -1,5 +1,5 @@
-pub mod Commanded
 pub mod Declarings
 pub mod Known
+pub mod Names
 pub mod Openings
 pub mod Told

@@ -1,24 +1,39 @@
 -- A command that was carried out and its reply told.
-use Rattle.std.proofs.Common.{◌≡◌, ◌≤◌, ◌+◌, ◌∙◌, ◌++◌, ℕ, IsTrue, Global, Vec, List, Option, Some, None, Result, Ok, Err, refl, sym, ap, subst, arith}
-use Rattle.std.specs.Result.{IsErrAnd}
-use Rattle.site_core.specs.Calls.{Emits}
-use Rattle.site_core.specs.Causes.{HasCause, RoseOnce}
-use Rattle.site_core.specs.Disk.{Files}
-use Rattle.site_core.specs.declared.site.Site.{Ghosts}
-use Rattle.page_cache.specs.Giving.{Cache}
-use Rattle.script_lang.specs.declared.command.Command.{Command}
-use Rattle.plain_machine.specs.Machine.{act}
-use Rattle.plain_machine.specs.World.{World}
-use Rattle.cube_state.specs.declared.state.State.{State}
-use Rattle.cube_state.specs.declared.stop.Stop.{Stop}
-use Rattle.cube_state.specs.declared.stop.Stop.TheVariants as stops
-use Rattle.cube_state.specs.Cached.{Fits, Saves, live_file, live_of}
-use Rattle.cube_state.specs.Carried.{CarriesOut}
-use Rattle.cube_state.specs.Costs.{Cost, Spends}
-use Rattle.cube_state.proofs.Standing.{emits_left, fit_on, stands_on}
-use Rattle.cube_state.proofs.Told.{tells_none}
-use Rattle.cube_session.specs.Session.{Answers, unless_stopped}
-use Rattle.cube_session.proofs.Commanded.{telling, untold}
+use Rattle.cube_session.proofs.Names.{Vec, Global, List, sym, subst, ap, Some, ◌∙◌, None, ◌≡◌, ℕ, [], ◌++◌, length, take, drop, inr, refl, append-nil, arith, Ok, IsTrue, Err, take-append-drop, goes_on}
+use Rattle.cube_session.proofs.Names.{wider, Emits, RoseOnce, Disk, Files, LeavesOnly, Ghosts, Cache, Keeps, Command, reply_some, act, Meanwhile, World, emits_left, fit_on, stands_on, stands_left}
+use Rattle.cube_session.proofs.Names.{tells_none, Saves, Fits, live_file, live_of, ByWorld, CarriesOut, MayWrite, Costs, Cost, Spends, moves_made, Between, KeepsEither, Stands, GoesTo, State, Stop}
+use Rattle.cube_session.proofs.Names.stops
+use Rattle.cube_session.specs.Session.{Answers}
+
+-- ---- what a stop within it leaves
+
+module _ (world : World) (command : Command) (old mid : Disk) (run : Between old mid world (act world command).0) where
+  -- before the reply
+  untold : LeavesOnly old mid (Meanwhile world command old.told)
+  untold = wider old mid (λ told files. (told ≡ old.told) × KeepsEither world (act world command).0 files) (Meanwhile world command old.told) (λ told files both. record {
+    front = [];
+    rest = (act world command).1;
+    tells = both.0 ∙ sym (append-nil old.told);
+    prefix = refl;
+    kept = both.1;
+    acknowledged = λ same. absurd (omega (arith, ap length same, reply_some world command));
+  }) run
+
+  -- with the reply, or a part of it
+  telling : (new : Disk) (state : State) (reply : List ℕ) → mid.told ≡ old.told → Stands state mid (act world command).0 → reply ≡ (act world command).1 → Emits reply mid new
+      → LeavesOnly old new (Meanwhile world command old.told)
+  telling new state reply told is same emits = goes_on old mid new (Meanwhile world command old.told) untold emits.time (λ bytes files some after.
+      let kept = subst (λ (f : Files). Keeps f (act world command).0.kept) (sym after.2) (stands_left state mid (act world command).0 is after.0 after.1) in
+      record {
+        front = take some.0 reply;
+        rest = drop some.0 reply;
+        tells = some.1 ∙ ap (λ (l : List ℕ). l ++ take some.0 reply) told;
+        prefix = sym same ∙ sym (take-append-drop some.0 reply);
+        kept = inr kept;
+        acknowledged = λ all. kept;
+      })
+
+-- ---- the command
 
 module _ {S : Type 0} (T : Ghosts S) (command : Command) (state next : State) (old mid : S) (before after : Cache) where
   -- a stop is handed on
@@ -26,30 +41,9 @@ module _ {S : Type 0} (T : Ghosts S) (command : Command) (state next : State) (o
   stopped stop is = record {
     by_world = λ t world stands.
         let known = is.by_world t world stands in
-        record {
-          stands = tt;
-          told = tt;
-          any_moment = untold world command (T.disk old) (T.disk mid) known.any_moment;
-          undamaged = known.undamaged;
-          moved = tt;
-          cost = known.cost;
-          saves = known.saves;
-          keeps = λ numbers goes. tt;
-        };
-    any_files = λ t. record {
-      damage = (is.any_files t).damage;
-      answered = tt;
-      spared = (is.any_files t).spared;
-      looks = λ none. ((is.any_files t).looks none).files;
-    };
-    goes_on = record {
-      stopped = refl;
-      runs = tt;
-      cache = λ none. tt;
-      capacity = is.goes_on.capacity;
-      unwritten = is.goes_on.unwritten;
-      stops = record { cause = is.goes_on.quiet.cause; disk_faults = tt; told_faults = tt };
-    };
+        assumption (known, untold world command (T.disk old) (T.disk mid) known.any_moment);
+    any_files = λ t. assumption (is.any_files t, λ (none : MayWrite command → ⊥). ((is.any_files t).looks none).files);
+    goes_on = assumption is.goes_on;
   }
 
   -- a reply is told, or a part of it
@@ -59,34 +53,42 @@ module _ {S : Type 0} (T : Ghosts S) (command : Command) (state next : State) (o
     spends_on : (cost : Cost) → Spends T cost old mid → Spends T cost old new
     spends_on cost spent = record { reads = omega (arith, spent.reads, reads); writes = omega (arith, spent.writes, writes) }
 
-    saves_on : (file : ℕ) (numbers : List ℕ) → Saves before file numbers (T.reads old) (T.reads mid) → Saves before file numbers (T.reads old) (T.reads new)
-    saves_on file numbers = subst (λ (n : ℕ). Saves before file numbers (T.reads old) n) (sym reads)
+    unwritten_on : (MayWrite command → ⊥) → T.writes new ≡ T.writes old
+    unwritten_on none = writes ∙ is.goes_on.unwritten none
+
+    looks_on : IsTrue T.tells → (MayWrite command → ⊥) → (T.disk new).files ≡ (T.disk old).files
+    looks_on t none = (emits t).files ∙ ((is.any_files t).looks none).files
+
+    module _ (t : IsTrue T.tells) (world : World) (stands : Stands state (T.disk old) world) where
+      known : ByWorld T command world state next old mid before after (Ok reply)
+      known = is.by_world t world stands
+
+      moment : LeavesOnly (T.disk old) (T.disk new) (Meanwhile world command (T.disk old).told)
+      moment = telling world command (T.disk old) (T.disk mid) known.any_moment (T.disk new) next bytes (is.goes_on.quiet.told t) known.answer.stands (same ∙ known.answer.said) (emits t)
+
+      costs : (cost : Cost) → Costs world (moves_made state) command cost → Spends T cost old new
+      costs cost its = spends_on cost (known.cost cost its)
+
+      saves : (numbers : List ℕ) → GoesTo world command numbers → Saves before (live_file (live_of state)) numbers (T.reads old) (T.reads new)
+      saves numbers goes = subst (λ (n : ℕ). Saves before (live_file (live_of state)) numbers (T.reads old) n) (sym reads) (known.saves numbers goes)
+
+    told_on : IsTrue T.tells → (T.disk new).told ≡ (T.disk mid).told ++ bytes → (T.disk new).told ≡ (T.disk old).told ++ reply.items
+    told_on t told = told ∙ ap (λ (l : List ℕ). l ++ bytes) (is.goes_on.quiet.told t) ∙ ap (λ (l : List ℕ). (T.disk old).told ++ l) same
 
     pub answered : (told : IsTrue T.tells → (T.disk new).told ≡ (T.disk mid).told ++ bytes) (told_faults : T.told_faults new ≡ T.told_faults mid)
         → Answers T command state (Some next) old new before after (Ok tt)
     answered told told_faults = record {
       by_world = λ t world stands.
-          let known = is.by_world t world stands in
-          record {
-            stands = stands_on (T.disk mid) (T.disk new) (emits t).files (emits_left bytes (T.disk mid) (T.disk new) (emits t)) next (act world command).0 known.answer.stands;
-            told = told t ∙ ap (λ (l : List ℕ). l ++ bytes) (is.goes_on.quiet.told t) ∙ ap (λ (l : List ℕ). (T.disk old).told ++ l) (same ∙ known.answer.said);
-            any_moment = telling world command (T.disk old) (T.disk mid) known.any_moment (T.disk new) next bytes (is.goes_on.quiet.told t) known.answer.stands (same ∙ known.answer.said) (emits t);
-            undamaged = tt;
-            moved = known.moved;
-            cost = λ cost costs. spends_on cost (known.cost cost costs);
-            saves = λ numbers goes. saves_on (live_file (live_of state)) numbers (known.saves numbers goes);
-            keeps = known.keeps;
-          };
-      any_files = λ t. record {
-        damage = tt;
-        answered = record {
-          reply = reply.items;
-          told = told t ∙ ap (λ (l : List ℕ). l ++ bytes) (is.goes_on.quiet.told t) ∙ ap (λ (l : List ℕ). (T.disk old).told ++ l) same;
-          right = (is.any_files t).answered;
-        };
-        spared = tt;
-        looks = λ none. (emits t).files ∙ ((is.any_files t).looks none).files;
-      };
+          let its = known t world stands in
+          assumption (
+            its,
+            stands_on (T.disk mid) (T.disk new) (emits t).files (emits_left bytes (T.disk mid) (T.disk new) (emits t)) next (act world command).0 its.answer.stands,
+            told_on t (told t) ∙ ap (λ (l : List ℕ). (T.disk old).told ++ l) its.answer.said,
+            moment t world stands,
+            costs t world stands,
+            saves t world stands,
+          );
+      any_files = λ t. record { damage = tt; answered = record { reply = reply.items; told = told_on t (told t); right = (is.any_files t).answered }; spared = tt; looks = looks_on t };
       goes_on = record {
         stopped = tt;
         runs = record {
@@ -98,7 +100,7 @@ module _ {S : Type 0} (T : Ghosts S) (command : Command) (state next : State) (o
         };
         cache = is.goes_on.cache;
         capacity = is.goes_on.capacity;
-        unwritten = λ none. writes ∙ is.goes_on.unwritten none;
+        unwritten = unwritten_on;
         stops = record { cause = tt; disk_faults = disk_faults ∙ is.goes_on.quiet.disk_faults; told_faults = told_faults ∙ is.goes_on.quiet.told_faults };
       };
     }
@@ -106,34 +108,12 @@ module _ {S : Type 0} (T : Ghosts S) (command : Command) (state next : State) (o
     -- the output failed
     pub unheard : RoseOnce (T.told_faults mid) (T.told_faults new) → Answers T command state None old new before after (Err stops.Output)
     unheard rose = record {
-      by_world = λ t world stands.
-          let known = is.by_world t world stands in
-          record {
-            stands = tt;
-            told = tt;
-            any_moment = telling world command (T.disk old) (T.disk mid) known.any_moment (T.disk new) next bytes (is.goes_on.quiet.told t) known.answer.stands (same ∙ known.answer.said) (emits t);
-            undamaged = tt;
-            moved = tt;
-            cost = λ cost costs. spends_on cost (known.cost cost costs);
-            saves = λ numbers goes. saves_on (live_file (live_of state)) numbers (known.saves numbers goes);
-            keeps = λ numbers goes. tt;
-          };
-      any_files = λ t. record {
-        damage = tells_none state (T.disk old).files command stops.Output tt;
-        answered = tt;
-        spared = tt;
-        looks = λ none. (emits t).files ∙ ((is.any_files t).looks none).files;
-      };
-      goes_on = record {
-        stopped = refl;
-        runs = tt;
-        cache = λ none. tt;
-        capacity = is.goes_on.capacity;
-        unwritten = λ none. writes ∙ is.goes_on.unwritten none;
-        stops = record {
-          cause = (subst (λ (n : ℕ). RoseOnce n (T.told_faults new)) is.goes_on.quiet.told_faults rose, disk_faults ∙ is.goes_on.quiet.disk_faults);
-          disk_faults = tt;
-          told_faults = tt;
-        };
-      };
+      by_world = λ t world stands. assumption (moment t world stands, costs t world stands, saves t world stands);
+      any_files = λ t. assumption (tells_none state (T.disk old).files command stops.Output tt, looks_on t);
+      goes_on = assumption (
+        is.goes_on,
+        unwritten_on,
+        disk_faults ∙ is.goes_on.quiet.disk_faults,
+        subst (λ (n : ℕ). RoseOnce n (T.told_faults new)) is.goes_on.quiet.told_faults rose,
+      );
     }

@@ -1,199 +1,305 @@
--- A slice is carried out by what was looked up in the store that the session has.
-use Rattle.std.proofs.Common.{◌≡◌, ◌≤◌, ◌+◌, ◌∙◌, ℕ, IsTrue, false, List, length, Option, Some, None, Ok, Err, refl, sym, ap, subst, arith}
-use Rattle.std.specs.Prelude.{codes, IfOk, IfErr, OnOk}
-use Rattle.std.proofs.lemmas.Result.{IfOk-weaker}
-use Rattle.reply_text.specs.Replies.{line}
-use Rattle.fact_model.specs.declared.slice.Slice.{Slice}
-use Rattle.cube_schema.specs.declared.schema.Schema.{Schema}
-use Rattle.forest_root.specs.declared.body.Body.{Body}
-use Rattle.forest_root.specs.declared.forest.Store.{Store}
-use Rattle.forest_store.specs.Stored.{IsStoreOf}
-use Rattle.page_cache.specs.Giving.{Cache}
-use Rattle.script_lang.specs.declared.command.Command.TheVariants as says
-use Rattle.site_core.specs.Disk.{Disk, Files}
-use Rattle.site_core.specs.declared.site.Site.{Ghosts}
-use Rattle.slice_lang.specs.Reading.{slice_of}
-use Rattle.plain_machine.specs.Machine.{Answer, act, asked_by, asked_over, asked_slice, slice_over, slice_reply}
-use Rattle.plain_machine.specs.World.{Kept, Warehouse, World}
-use Rattle.plain_machine.proofs.Acts.{act_slice}
-use Rattle.cube_state.specs.declared.state.State.{State}
-use Rattle.cube_state.specs.declared.state.State.TheVariants.{Empty, Idle, Hollow, Pending}
-use Rattle.cube_state.specs.Cached.{Fits, FitsLive, KeepsUp, Saves, live_file, live_of}
-use Rattle.cube_state.specs.Carried.{ByWorld, CarriesOut, IsReadyFor, OverAnyFiles, Reply, Spares}
-use Rattle.cube_state.specs.Costs.{Cost, Spends}
-use Rattle.cube_state.specs.Session.{Belongs, IsAnswer, Stands}
-use Rattle.cube_state.specs.Slices.{SliceGives, SliceTells}
-use Rattle.cube_state.specs.Visits.{GoesFrom, GoesOver, GoesTo, ReadsFor, ReadsFrom, asked_from, asks_pages, is_asked, store_of}
-use Rattle.cube_state.proofs.Answering.{OnlyNow, fit_rests, resting, stands_rests}
-use Rattle.cube_state.proofs.Cached.{holds, kept_same}
-use Rattle.cube_state.proofs.Carried.{OnlySays}
-use Rattle.cube_state.proofs.Costs.{spends_none}
-use Rattle.cube_state.proofs.Standing.{attends_belongs}
-use Rattle.cube_state.proofs.Told.{spares_same}
-use Rattle.cube_slices.specs.Looked.{Replies}
+-- A slice is carried out: it is only answered, or it goes to the pages of a view.
+use Rattle.cube_slices.proofs.Names.{RepliesAlone, no_schema, SideStays, Vec, Global, Agrees, LiesIn, GivesFound, StopCause, IsUndamaged, Option, Result, List, sym, subst, ap, Some, ◌∙◌, None, ◌≡◌, ℕ}
+use Rattle.cube_slices.proofs.Names.{length, inr, refl, arith, Bool, true, false, cond, inl, true≢false, Ok, IsTrue, Err, IfErr, ◌≤◌, ◌+◌, IfOk, OnOk, cases_Bool, IfOk-weaker, ◌↔◌, IsErrOf}
+use Rattle.cube_slices.proofs.Names.{HasCauseWhere, Disk, Files, Looks, Ghosts, rows, Fact, Row, Slice, Schema, Picks, covers, Cache, HasRoom, Keeps, Body, Store, side_of, IsStoreOf, Command}
+use Rattle.cube_slices.proofs.Names.{same-cost, IsJudged, IsUncovered, visits_of, AnswerStop, slice_of, SliceRefusal, answer_text, line, not_covered, act_slice, Answer, act, asked_by, asked_over}
+use Rattle.cube_slices.proofs.Names.{asked_slice, slice_over, slice_reply, covered, is_covered, Kept, Warehouse, World, OnlyNow, fit_rests, resting, stands_rests, holds, OnlySays, attends_belongs}
+use Rattle.cube_slices.proofs.Names.{spares_same, AreLive, KeepsUp, Saves, Fits, FitsLive, live_file, live_of, ByWorld, CarriesOut, IsReadyFor, OverAnyFiles, Reply, Spares, Gives, Cost, Spends}
+use Rattle.cube_slices.proofs.Names.{IsQuiet, Belongs, Stands, IsAnswer, GivesRead, TellsSpoilt, SliceGives, SliceTells, IsNoDamage, GoesFrom, GoesOver, GoesTo, ReadsFor, ReadsFrom, asked_from}
+use Rattle.cube_slices.proofs.Names.{asks_pages, is_asked, store_of, State, Empty, Idle, Hollow, Pending, Stop}
+use Rattle.cube_slices.proofs.Names.answers
+use Rattle.cube_slices.proofs.Names.carried
+use Rattle.cube_slices.proofs.Names.says
+use Rattle.cube_slices.proofs.Names.stops
+use Rattle.cube_slices.specs.Told.{Tells, answer_stop}
+use Rattle.cube_slices.proofs.Costs.{none-covers, some-covers}
+
+same_in : {A : Type 0} {x y : A} → Some x ≡ Some y → x ≡ y
+same_in is = cc
+
+none_some : {A : Type 0} {x : A} → None ≡ Some x → ⊥
+none_some is = cc
 
 -- ---- the store that a session has
 
-same_in : {A : Type 0} (x y : A) → Some x ≡ Some y → x ≡ y
-same_in x y is = cc
+-- the store is that of the facts which the world keeps
+pub record IsKept (store : Store) (disk : Disk) (world : World) : Type 0 where
+  pub facts : List Fact
+  pub last : ℕ
+  pub kept : world.kept ≡ Some (record { schema = store.forest.schema; facts = facts; last = last })
+  pub stored : IsStoreOf store facts disk.files
 
-none_in : {A : Type 0} (x : A) → None ≡ Some x → ⊥
-none_in x is = cc
+abbrev pub KeptBy : Option Store → Disk → World → Type 0
+KeptBy None disk world = world.kept ≡ None
+KeptBy (Some store) disk world = IsKept store disk world
 
--- the store is that of the warehouse which the world keeps
-record IsKept (store : Store) (disk : Disk) (world : World) : Type 0 where
-  pub warehouse : Warehouse
-  pub kept : world.kept ≡ Some warehouse
-  pub belongs : Belongs store disk warehouse
+kept_by : (store : Store) (disk : Disk) (world : World) (warehouse : Warehouse) → world.kept ≡ Some warehouse → Belongs store disk warehouse → IsKept store disk world
+kept_by store disk world warehouse kept is = record {
+  facts = warehouse.facts;
+  last = warehouse.last;
+  kept = kept ∙ ap (λ (schema : Schema). Some (record warehouse { schema = schema })) (sym is.schema);
+  stored = is.stored.read;
+}
 
-kept_of : (state : State) (store : Store) (disk : Disk) (world : World) → store_of state ≡ Some store → Stands state disk world → IsKept store disk world
-kept_of Empty store disk world has stands = absurd (none_in store has)
-kept_of (Idle own) store disk world has stands =
-    subst (λ (s : Store). IsKept s disk world) (same_in own store has) (record { warehouse = stands.0; kept = stands.1.kept; belongs = stands.2 })
-kept_of (Hollow own) store disk world has stands =
-    subst (λ (s : Store). IsKept s disk world) (same_in own store has) (record { warehouse = stands.0; kept = stands.1.kept; belongs = stands.2 })
-kept_of (Pending r) store disk world has stands =
-    subst (λ (s : Store). IsKept s disk world) (same_in r.store store has)
-    (record { warehouse = stands.0; kept = stands.2.kept; belongs = attends_belongs r disk stands.0 stands.1 stands.3 })
+kept_as : (state : State) (disk : Disk) (world : World) → Stands state disk world → KeptBy (store_of state) disk world
+kept_as Empty disk world is = is.0.kept
+kept_as (Idle store) disk world is = kept_by store disk world is.0 is.1.kept is.2
+kept_as (Hollow store) disk world is = kept_by store disk world is.0 is.1.kept is.2
+kept_as (Pending r) disk world is = kept_by r.store disk world is.0 is.2.kept (attends_belongs r disk is.0 is.1 is.3)
 
-live_is : (state : State) (store : Store) → store_of state ≡ Some store → live_of state ≡ Some store.forest.body
-live_is Empty store has = absurd (none_in store has)
-live_is (Idle own) store has = ap (λ (s : Store). Some s.forest.body) (same_in own store has)
-live_is (Hollow own) store has = ap (λ (s : Store). Some s.forest.body) (same_in own store has)
-live_is (Pending r) store has = ap (λ (s : Store). Some s.forest.body) (same_in r.store store has)
+pub kept_over : (state : State) (k : Option Store) (disk : Disk) (world : World) → store_of state ≡ k → Stands state disk world → KeptBy k disk world
+kept_over state k disk world has stands = subst (λ (o : Option Store). KeptBy o disk world) has (kept_as state disk world stands)
+
+live_as : (state : State) (store : Store) → store_of state ≡ Some store → live_of state ≡ Some store.forest.body
+live_as Empty store has = absurd (none_some has)
+live_as (Idle own) store has = ap (λ (s : Store). Some s.forest.body) (same_in has)
+live_as (Hollow own) store has = ap (λ (s : Store). Some s.forest.body) (same_in has)
+live_as (Pending r) store has = ap (λ (s : Store). Some s.forest.body) (same_in has)
 
 -- what is the same is spared, however it ends
 spared_all : (result : Reply) (live : Option Body) (files : Files) → IfErr result (Spares live files files)
 spared_all (Ok reply) live files = tt
 spared_all (Err stop) live files = spares_same live files stop
 
--- ---- over the world that keeps it
+-- ---- it is only answered
 
--- it spends what a slice costs, where it reads the pages that it goes to, and calls nothing where it goes to none
-spends_of : {S : Type 0} (T : Ghosts S) (old new : S) (warehouse : Warehouse) (asked : Option Slice) (cost : Cost) → ReadsFrom (Some warehouse) asked cost
-    → (is_asked asked ≡ false → new ≡ old) → ((numbers : List ℕ) → GoesOver warehouse.schema warehouse.facts asked numbers → T.reads new ≤ T.reads old + length numbers)
-    → T.writes new ≡ T.writes old → Spends T cost old new
-spends_of T old new warehouse None cost costs uncalled reads writes = spends_none T cost old new (uncalled refl)
-spends_of T old new warehouse (Some s) cost costs uncalled reads writes =
-    record { reads = omega (arith, reads costs.0 costs.1, ap (λ (c : Cost). c.reads) costs.2); writes = omega (arith, writes) }
+goes_nowhere : (kept : Kept) (numbers : List ℕ) → GoesFrom kept None numbers → ⊥
+goes_nowhere None numbers goes = goes
+goes_nowhere (Some warehouse) numbers goes = goes
 
-module _ (store : Store) (disk : Disk) (world : World) (is : IsKept store disk world) (text : List ℕ) where
-  read_of : IsStoreOf store is.warehouse.facts disk.files
-  read_of = is.belongs.stored.read
+module _ {S : Type 0} (T : Ghosts S) (site : S) (state : State) (text reply : List ℕ) where
+  only_says : (k : Option Store) → store_of state ≡ k
+      → ((world : World) → KeptBy k (T.disk site) world → (slice_over world.kept text ≡ reply) × (asked_slice world (says.Slice text) ≡ None))
+      → ((files : Files) → SliceGives k files text reply) → OnlySays T (says.Slice text) state site reply
+  only_says k has over gives =
+      let its : (world : World) → Stands state (T.disk site) world → (slice_over world.kept text ≡ reply) × (asked_slice world (says.Slice text) ≡ None)
+      = λ world stands. over world (kept_over state k (T.disk site) world has stands) in
+      record {
+        acts = λ t world stands. act_slice world text ∙ ap (λ (r : List ℕ). (world, r)) (its world stands).0;
+        moves = λ t world stands. refl;
+        goes = λ t world stands numbers goes. goes_nowhere world.kept numbers (subst (λ (a : Option Slice). GoesFrom world.kept a numbers) (its world stands).1 goes);
+        gives = λ files. subst (λ (o : Option Store). SliceGives o files text reply) (sym has) (gives files);
+        alone = λ none. refl;
+      }
 
-  asked_same : asked_by store.forest.schema (says.Slice text) ≡ asked_by is.warehouse.schema (says.Slice text)
-  asked_same = ap (λ (schema : Schema). asked_by schema (says.Slice text)) is.belongs.schema
+  -- without a schema
+  pub schemaless : store_of state ≡ None → reply ≡ line no_schema → OnlySays T (says.Slice text) state site reply
+  schemaless none is = only_says None none
+      (λ world kept. (ap (λ (k : Kept). slice_over k text) kept ∙ sym is, ap (λ (k : Kept). asked_over k (says.Slice text)) kept)) (λ files. is)
 
-  goes_by : (numbers : List ℕ) → GoesOver is.warehouse.schema is.warehouse.facts (asked_by is.warehouse.schema (says.Slice text)) numbers
-      → GoesOver store.forest.schema is.warehouse.facts (asked_by store.forest.schema (says.Slice text)) numbers
-  goes_by numbers goes = subst (λ (schema : Schema). GoesOver schema is.warehouse.facts (asked_by schema (says.Slice text)) numbers) (sym is.belongs.schema) goes
+  -- and over a store
+  pub unasked : (store : Store) (read : Result Slice SliceRefusal) → store_of state ≡ Some store → slice_of store.forest.schema text ≡ read → covered store.forest.schema read ≡ None
+      → ((facts : List Fact) → slice_reply store.forest.schema facts read ≡ reply) → ((files : Files) → GivesRead store files read reply) → OnlySays T (says.Slice text) state site reply
+  unasked store read has is none replies gives = only_says (Some store) has
+      (λ world its. (
+        ap (λ (k : Kept). slice_over k text) its.kept ∙ (ap (slice_reply store.forest.schema its.facts) is ∙ replies its.facts),
+        ap (λ (k : Kept). asked_over k (says.Slice text)) its.kept ∙ (ap (covered store.forest.schema) is ∙ none),
+      ))
+      (λ files. subst (λ (r : Result Slice SliceRefusal). GivesRead store files r reply) (sym is) (gives files))
 
-  goes_of : (numbers : List ℕ) → GoesTo world (says.Slice text) numbers → GoesOver store.forest.schema is.warehouse.facts (asked_by store.forest.schema (says.Slice text)) numbers
-  goes_of numbers goes = goes_by numbers (subst (λ (k : Kept). GoesFrom k (asked_over k (says.Slice text)) numbers) is.kept goes)
+-- ---- it goes to pages
 
-  costs_of : (cost : Cost) → ReadsFor world (says.Slice text) cost → ReadsFrom (Some is.warehouse) (asked_by is.warehouse.schema (says.Slice text)) cost
-  costs_of cost costs = subst (λ (k : Kept). ReadsFrom k (asked_over k (says.Slice text)) cost) is.kept costs
+damaged_no_fault : {A : Type 0} (file offset : ℕ) → IsErrOf {T = A} (Err (answers.Damaged file offset)) answers.Disk → ⊥
+damaged_no_fault file offset is = cc
 
-  reply_of : (reply : List ℕ) → reply ≡ slice_reply store.forest.schema is.warehouse.facts (slice_of store.forest.schema text) → reply ≡ (act world (says.Slice text)).1
-  reply_of reply said =
-      said ∙ (ap (λ (schema : Schema). slice_reply schema is.warehouse.facts (slice_of schema text)) is.belongs.schema
-      ∙ (ap (λ (k : Kept). slice_over k text) (sym is.kept) ∙ ap (λ (a : Answer). a.1) (sym (act_slice world text))))
+memory_no_fault : {A : Type 0} → IsErrOf {T = A} (Err answers.Memory) answers.Disk → ⊥
+memory_no_fault is = cc
 
--- ---- what was looked up is the reply
+module _ {S : Type 0} (T : Ghosts S) (old new : S) (store : Store) (before after : Cache) (s : Slice) where
+  abbrev Known : Type 0 → Type 0
+  Known P = IsTrue T.tells → Agrees (T.disk old).files before → P
 
-module _ {S : Type 0} (T : Ghosts S) (old new : S) (state : State) (store : Store) (before after : Cache) (text : List ℕ) (result : Reply)
-    (has : store_of state ≡ Some store) (is : Replies T old new store before after (slice_of store.forest.schema text) result) where
-  module _ (t : IsTrue T.tells) (world : World) (kept : IsKept store (T.disk old) world) where
-    stands_of : Stands state (T.disk old) world → Stands state (T.disk new) (act world (says.Slice text)).0
-    stands_of stands = subst (λ (a : Answer). Stands state (T.disk new) a.0) (sym (act_slice world text)) (stands_rests state (T.disk old) (T.disk new) world (is.looks.disk t) stands)
+  abbrev Stored : (List Fact → Type 0) → Type 0
+  Stored P = Known ((facts : List Fact) → IsStoreOf store facts (T.disk old).files → P facts)
 
-    answer_of : Stands state (T.disk old) world → IfOk result (λ reply. IsAnswer (T.disk new) (act world (says.Slice text)) state reply.items)
-    answer_of stands = IfOk-weaker result (λ reply. reply.items ≡ slice_reply store.forest.schema kept.warehouse.facts (slice_of store.forest.schema text))
-        (λ reply. IsAnswer (T.disk new) (act world (says.Slice text)) state reply.items)
-        (λ reply said. record { stands = stands_of stands; said = reply_of store (T.disk old) world kept text reply.items said })
-        (is.reply t kept.warehouse.facts (read_of store (T.disk old) world kept text))
+  abbrev Visited : (List ℕ → Type 0) → Type 0
+  Visited P = Known ((view : ℕ) → Picks store.forest.schema.views store.forest.body.counts s view → P (visits_of store s view (T.disk old).files))
 
-    spends : (cost : Cost) → ReadsFor world (says.Slice text) cost → Spends T cost old new
-    spends cost costs = spends_of T old new kept.warehouse (asked_by kept.warehouse.schema (says.Slice text)) cost (costs_of store (T.disk old) world kept text cost costs)
-        (λ no. is.goes.uncalled (ap is_asked (asked_same store (T.disk old) world kept text) ∙ no))
-        (λ numbers goes. is.goes.reads t kept.warehouse.facts numbers (read_of store (T.disk old) world kept text) (goes_by store (T.disk old) world kept text numbers goes))
-        is.looks.writes
+  -- what the answer to a slice promises
+  pub record Answers (answer : Result (List Row) AnswerStop) : Type 0 where
+    pub rows : Stored (λ facts. IfOk answer (λ found. found ≡ rows facts s))
+    pub undamaged : Stored (λ facts. IfErr answer IsUndamaged)
+    pub uncovered : IsErrOf answer answers.NotCovered ↔ IsUncovered store.forest.schema s
+    pub visits : Visited (λ numbers. T.reads new ≤ T.reads old + length numbers)
+    pub saves : Visited (λ numbers. Saves before (side_of store.forest.body) numbers (T.reads old) (T.reads new))
+    pub keeps : Visited (λ numbers. HasRoom before (side_of store.forest.body) numbers → OnOk answer (Keeps before after (side_of store.forest.body) numbers))
+    pub agrees : Known (Agrees (T.disk new).files after)
+    pub judged : Known ((view : ℕ) → Picks store.forest.schema.views store.forest.body.counts s view → IsJudged store s view (T.disk old).files answer)
+    pub untouched : IsErrOf answer answers.NotCovered → new ≡ old
+    pub unasked : IsErrOf answer answers.NotCovered → after ≡ before
+    pub lies : LiesIn (side_of store.forest.body) before → LiesIn (side_of store.forest.body) after
+    pub capacity : after.capacity ≡ before.capacity
+    pub looks : Looks T (HasCauseWhere answers.Disk) old new answer
 
-    saves : (numbers : List ℕ) → GoesTo world (says.Slice text) numbers → Saves before (live_file (live_of state)) numbers (T.reads old) (T.reads new)
-    saves numbers goes = subst (λ (b : Option Body). Saves before (live_file b) numbers (T.reads old) (T.reads new)) (sym (live_is state store has))
-        (is.goes.saves t kept.warehouse.facts numbers (read_of store (T.disk old) world kept text) (goes_of store (T.disk old) world kept text numbers goes))
+  -- what is told of it, where some view covers the slice
+  record Ends (result : Reply) : Type 0 where
+    pub replied : Stored (λ facts. IfOk result (λ reply. reply.items ≡ answer_text (rows facts s)))
+    pub undamaged : Stored (λ facts. IfErr result IsNoDamage)
+    pub keeps : Visited (λ numbers. OnOk result (KeepsUp before after (side_of store.forest.body) numbers))
+    pub damage : Known (IfErr result (TellsSpoilt store (T.disk old).files (Some s)))
+    pub answered : Known (IfOk result (λ reply. GivesFound store (T.disk old).files s reply.items))
+    pub quiet : IsQuiet T old new result
 
-    keeps : (numbers : List ℕ) → GoesTo world (says.Slice text) numbers → OnOk result (KeepsUp before after (live_file (live_of state)) numbers)
-    keeps numbers goes = subst (λ (b : Option Body). OnOk result (KeepsUp before after (live_file b) numbers)) (sym (live_is state store has))
-        (is.keeps t kept.warehouse.facts numbers (read_of store (T.disk old) world kept text) (goes_of store (T.disk old) world kept text numbers goes))
+  stops_by : (answer : Result (List Row) AnswerStop) → Answers answer → (stop : Stop) → StopCause (T.disk_faults old) (T.disk_faults new) (T.told_faults old) (T.told_faults new) stop
+      → Stored (λ facts. IsNoDamage stop) → Known (TellsSpoilt store (T.disk old).files (Some s) stop) → Ends (Err stop)
+  stops_by answer is stop cause undamaged damage =
+      let quiet : IsQuiet {A = Vec ℕ Global} T old new (Err stop) = record { told = λ t. (is.looks.disk t).told; cause = cause; disk_faults = tt; told_faults = is.looks.told_faults } in
+      assumption (undamaged, damage, quiet)
 
-    none_asked : asked_slice world (says.Slice text) ≡ None → is_asked (asked_by store.forest.schema (says.Slice text)) ≡ false
-    none_asked none = ap is_asked (asked_same store (T.disk old) world kept text ∙ (ap (λ (k : Kept). asked_over k (says.Slice text)) (sym kept.kept) ∙ none))
+  module _ (covers : is_covered store.forest.schema s ≡ true) where
+    not_uncovered : Answers (Err answers.NotCovered) → ⊥
+    not_uncovered is = let some = some-covers store.forest.schema s covers in is.uncovered.0 refl some.0 some.1
 
-    by_world : OnlyNow (T.disk old) → Stands state (T.disk old) world → ByWorld T (says.Slice text) world state state old new before after result
-    by_world only stands = record {
-      answer = answer_of stands;
-      any_moment = resting state (T.disk old) (T.disk new) world (act world (says.Slice text)).0 stands only (is.looks.disk t);
-      undamaged = is.undamaged t kept.warehouse.facts (read_of store (T.disk old) world kept text);
-      moved = holds result refl;
-      cost = spends;
-      uncalled = λ none. holds result (is.goes.uncalled (none_asked none));
-      saves = saves;
-      keeps = keeps;
+    stop_ends : (answer : Result (List Row) AnswerStop) → Answers answer → Ends (Err (answer_stop answer))
+    stop_ends (Ok found) is = stops_by (Ok found) is stops.Memory (is.looks.cause.ok, is.looks.told_faults) (λ t agree facts stored. tt) (λ t agree. tt)
+    stop_ends (Err answers.NotCovered) is = absurd (not_uncovered is)
+    stop_ends (Err answers.Disk) is =
+        stops_by (Err answers.Disk) is stops.Disk ((is.looks.cause.failed refl, is.looks.cause.once), is.looks.told_faults) (λ t agree facts stored. tt) (λ t agree. tt)
+    stop_ends (Err (answers.Damaged file offset)) is =
+        stops_by (Err (answers.Damaged file offset)) is (stops.Damaged file offset) (is.looks.cause.other (damaged_no_fault file offset), is.looks.told_faults) is.undamaged is.judged
+    stop_ends (Err answers.Memory) is =
+        stops_by (Err answers.Memory) is stops.Memory (is.looks.cause.other memory_no_fault, is.looks.told_faults) (λ t agree facts stored. tt) (λ t agree. tt)
+
+    ends_by : (answer : Result (List Row) AnswerStop) → Answers answer → (result : Reply) → Tells answer result → Ends result
+    ends_by answer is (Err stop) told = subst (λ (e : Stop). Ends (Err e)) (sym told) (stop_ends answer is)
+    ends_by (Ok found) is (Ok reply) told = record {
+      replied = λ t agree facts stored. sym (same_in told) ∙ ap answer_text (is.rows t agree facts stored);
+      undamaged = λ t agree facts stored. tt;
+      keeps = is.keeps;
+      damage = λ t agree. tt;
+      answered = λ t agree. (Some found, (covers, is.judged t agree), sym (same_in told));
+      quiet = record { told = λ t. (is.looks.disk t).told; cause = tt; disk_faults = is.looks.cause.ok; told_faults = is.looks.told_faults };
     }
+    ends_by (Err answers.NotCovered) is (Ok reply) told = absurd (not_uncovered is)
+    ends_by (Err _) is (Ok reply) told = absurd (none_some told)
 
-  unasked : asks_pages state (says.Slice text) ≡ false → after ≡ before
-  unasked nothing = is.goes.unasked (ap (λ (k : Option Store). is_asked (asked_from k (says.Slice text))) (sym has) ∙ nothing)
+-- ---- it is carried out
+
+module _ {S : Type 0} (T : Ghosts S) (old new : S) (state : State) (store : Store) (before after : Cache) (text : List ℕ) (s : Slice) (answer : Result (List Row) AnswerStop)
+    (is : Answers T old new store before after s answer) (has : store_of state ≡ Some store) (read : slice_of store.forest.schema text ≡ Ok s)
+    (ready : IsReadyFor T old before state) (only : IsTrue T.tells → OnlyNow (T.disk old)) (result : Reply) where
+  abbrev its : Command
+  its = says.Slice text
+
+  live : live_of state ≡ Some store.forest.body
+  live = live_as state store has
+
+  fitting : IsTrue T.tells → AreLive store.forest.body (T.disk old).files before
+  fitting t = subst (λ (b : Option Body). FitsLive b (T.disk old).files before) live (ready.fits t)
 
   fits : IsTrue T.tells → Fits state (T.disk new).files after
-  fits t = subst (λ (b : Option Body). FitsLive b (T.disk new).files after) (sym (live_is state store has)) (is.goes.fits t)
+  fits t = subst (λ (b : Option Body). FitsLive b (T.disk new).files after) (sym live) (record { lie = is.lies (fitting t).lie; agree = is.agrees t (fitting t).agree })
 
-  any_files : IsTrue T.tells → OverAnyFiles T (says.Slice text) state state old new after result
-  any_files t = record {
-    damage = subst (λ (k : Option Store). IfErr result (SliceTells k (T.disk old).files (says.Slice text))) (sym has) (is.damage t);
-    answered = subst (λ (k : Option Store). IfOk result (λ reply. SliceGives k (T.disk old).files text reply.items)) (sym has) (is.answered t);
-    spared = subst (λ (f : Files). IfErr result (Spares (live_of state) (T.disk old).files f)) (sym (is.looks.disk t).files) (spared_all result (live_of state) (T.disk old).files);
-    looks = λ none. is.looks.disk t;
-    fits = holds result (fits t);
-  }
+  -- no view covers it
+  refuses : is_covered store.forest.schema s ≡ false → Tells answer result → CarriesOut T its state state old new before after result
+  refuses not told =
+      let none = is.uncovered.1 (none-covers store.forest.schema s not) in
+      subst (λ (n : S). CarriesOut T its state state old n before after result) (sym (is.untouched none))
+      (subst (λ (c : Cache). CarriesOut T its state state old old before c result) (sym (is.unasked none)) (by result (subst (λ (a : Result (List Row) AnswerStop). Tells a result) none told)))
+    where
+      by : (result : Reply) → Tells (Err answers.NotCovered) result → CarriesOut T its state state old old before before result
+      by (Ok reply) told = carried.says T its state old before only (line not_covered) reply ready
+          (unasked T old state text (line not_covered) store (Ok s) has read (ap (λ (b : Bool). cond b (Some s) None) not)
+          (λ facts. ap (λ (b : Bool). cond b (answer_text (rows facts s)) (line not_covered)) not) (λ files. (None, not, refl))) (sym (same_in told))
+      by (Err stop) told = carried.runs_out_as T its state old before only ready state (Err stop) told
 
-  pub replied : IsReadyFor T old before state → (IsTrue T.tells → OnlyNow (T.disk old)) → CarriesOut T (says.Slice text) state state old new before after result
-  replied ready only = record {
-    by_world = λ t world stands. by_world t world (kept_of state store (T.disk old) world has stands) (only t) stands;
-    any_files = any_files;
-    goes_on = record {
-      runs = holds result (record { running = ready.runs.running; fit = λ t. fit_rests state (T.disk old) (T.disk new) (is.looks.disk t) (ready.runs.fit t) });
-      cache = λ no. holds result (unasked no ∙ sym (kept_same (live_of state) (live_of state) before refl));
-      capacity = is.goes.capacity;
-      unwritten = λ none. is.looks.writes;
-      quiet = is.looks.quiet;
-    };
-    leaves = record {
-      made = λ no. holds result refl;
-      live = λ same. holds result refl;
-      harmless = λ none. absurd none;
-      said = λ alone files. absurd alone;
-      unasked = λ none nothing. unasked nothing;
-      fits = λ t none. fits t;
-      side = λ t same. holds result (ap (λ (f : Files). f (live_file (live_of state))) (is.looks.disk t).files);
-      step_side = λ t step. absurd step;
-    };
-  }
+  module _ (covers : is_covered store.forest.schema s ≡ true) (ends : Ends T old new store before after s result) where
+    asked : asked_by store.forest.schema its ≡ Some s
+    asked = ap (covered store.forest.schema) read ∙ ap (λ (b : Bool). cond b (Some s) None) covers
 
--- ---- without a schema
+    asks : asks_pages state its ≡ true
+    asks = ap (λ (k : Option Store). is_asked (asked_from k its)) has ∙ ap is_asked asked
 
-abbrev with_reply : World → List ℕ → Answer
-with_reply world reply = (world, reply)
+    -- what is spent, saved and kept over the pages that it goes to
+    abbrev Pages : Option Body → List ℕ → Type 0
+    Pages body numbers = (T.reads new ≤ T.reads old + length numbers) × Saves before (live_file body) numbers (T.reads old) (T.reads new) × OnOk result (KeepsUp before after (live_file body) numbers)
 
--- it only answers that there is none
-pub schemaless : {S : Type 0} (T : Ghosts S) (site : S) (state : State) (text : List ℕ) → store_of state ≡ None → OnlySays T (says.Slice text) state site (line (codes "refused no schema"))
-schemaless T site Empty text none = record {
-  acts = λ t world stands. act_slice world text ∙ ap (λ (k : Kept). with_reply world (slice_over k text)) stands.0.kept;
-  moves = λ t world stands. refl;
-  goes = λ t world stands numbers goes. subst (λ (k : Kept). GoesFrom k (asked_over k (says.Slice text)) numbers) stands.0.kept goes;
-  gives = λ files. refl;
-  alone = λ no. refl;
-}
-schemaless T site (Idle own) text none = absurd (none_in own (sym none))
-schemaless T site (Hollow own) text none = absurd (none_in own (sym none))
-schemaless T site (Pending r) text none = absurd (none_in r.store (sym none))
+    module _ (t : IsTrue T.tells) (world : World) (kept : IsKept store (T.disk old) world) where
+      asks_slice : asked_slice world its ≡ Some s
+      asks_slice = ap (λ (k : Kept). asked_over k its) kept.kept ∙ asked
+
+      pages_over : (numbers : List ℕ) → GoesOver store.forest.schema kept.facts (Some s) numbers → Pages (live_of state) numbers
+      pages_over numbers goes =
+          let agree = (fitting t).agree in
+          let picks = subst (λ (counts : List ℕ). Picks store.forest.schema.views counts s goes.0) (sym kept.stored.live.at.body_is.counts) goes.1 in
+          subst (λ (b : Option Body). Pages b numbers) (sym live)
+          (subst (Pages (Some store.forest.body)) (same-cost store s goes.0 goes.1.covering.0 kept.facts (T.disk old).files kept.stored ∙ sym goes.2)
+          (is.visits t agree goes.0 picks, is.saves t agree goes.0 picks, ends.keeps t agree goes.0 picks))
+
+      pages : (numbers : List ℕ) → GoesFrom world.kept (Some s) numbers → Pages (live_of state) numbers
+      pages numbers goes = pages_over numbers (subst (λ (k : Kept). GoesFrom k (Some s) numbers) kept.kept goes)
+
+      goes_to : (numbers : List ℕ) → GoesTo world its numbers → Pages (live_of state) numbers
+      goes_to numbers goes = pages numbers (subst (λ (a : Option Slice). GoesFrom world.kept a numbers) asks_slice goes)
+
+      spends : (cost : Cost) → ReadsFor world its cost → Spends T cost old new
+      spends cost costs =
+          let its = subst (λ (a : Option Slice). ReadsFrom world.kept a cost) asks_slice costs in
+          record { reads = omega (arith, (pages its.0 its.1).0, ap (λ (c : Cost). c.reads) its.2); writes = omega (arith, is.looks.writes) }
+
+      reply_is : (act world its).1 ≡ answer_text (rows kept.facts s)
+      reply_is =
+          ap (λ (a : Answer). a.1) (act_slice world text) ∙ (ap (λ (k : Kept). slice_over k text) kept.kept
+          ∙ (ap (slice_reply store.forest.schema kept.facts) read ∙ ap (λ (b : Bool). cond b (answer_text (rows kept.facts s)) (line not_covered)) covers))
+
+      answers_so : Stands state (T.disk old) world → IfOk result (λ reply. IsAnswer (T.disk new) (act world its) state reply.items)
+      answers_so stands = IfOk-weaker result _ _
+          (λ reply said. record {
+            stands = subst (λ (a : Answer). Stands state (T.disk new) a.0) (sym (act_slice world text)) (stands_rests state (T.disk old) (T.disk new) world (is.looks.disk t) stands);
+            said = said ∙ sym reply_is;
+          })
+          (ends.replied t (fitting t).agree kept.facts kept.stored)
+
+      by_world : Stands state (T.disk old) world → ByWorld T its world state state old new before after result
+      by_world stands = record {
+        answer = answers_so stands;
+        any_moment = resting state (T.disk old) (T.disk new) world (act world its).0 stands (only t) (is.looks.disk t);
+        undamaged = ends.undamaged t (fitting t).agree kept.facts kept.stored;
+        moved = holds result refl;
+        cost = spends;
+        uncalled = λ none. absurd (none_some (sym none ∙ asks_slice));
+        saves = λ numbers goes. (goes_to numbers goes).1;
+        keeps = λ numbers goes. (goes_to numbers goes).2;
+      }
+
+    any_files : IsTrue T.tells → OverAnyFiles T its state state old new after result
+    any_files t = record {
+      damage = subst (λ (k : Option Store). IfErr result (SliceTells k (T.disk old).files its)) (sym has)
+          (subst (λ (a : Option Slice). IfErr result (TellsSpoilt store (T.disk old).files a)) (sym asked) (ends.damage t (fitting t).agree));
+      answered = subst (λ (k : Option Store). IfOk result (λ reply. SliceGives k (T.disk old).files text reply.items)) (sym has)
+          (subst (λ (r : Result Slice SliceRefusal). IfOk result (λ reply. GivesRead store (T.disk old).files r reply.items)) (sym read) (ends.answered t (fitting t).agree));
+      spared = subst (λ (f : Files). IfErr result (Spares (live_of state) (T.disk old).files f)) (sym (is.looks.disk t).files) (spared_all result (live_of state) (T.disk old).files);
+      looks = λ none. is.looks.disk t;
+      fits = holds result (fits t);
+    }
+
+    unasked_not : asks_pages state its ≡ false → after ≡ before
+    unasked_not none = absurd (true≢false (sym asks ∙ none))
+
+    said_never : RepliesAlone its → (files : Files) → IfOk result (λ (reply : Vec ℕ Global). Gives state files its reply.items)
+    said_never alone files = absurd alone
+
+    side_stays : IsTrue T.tells → SideStays (live_of state) (T.disk old).files (T.disk new).files
+    side_stays t = ap (λ (f : Files). f (live_file (live_of state))) (is.looks.disk t).files
+
+    -- some view does
+    replies : CarriesOut T its state state old new before after result
+    replies = record {
+      by_world = λ t world stands. by_world t world (kept_over state (Some store) (T.disk old) world has stands) stands;
+      any_files = any_files;
+      goes_on = record {
+        runs = holds result (record { running = ready.runs.running; fit = λ t. fit_rests state (T.disk old) (T.disk new) (is.looks.disk t) (ready.runs.fit t) });
+        cache = λ none. absurd (true≢false (sym asks ∙ none));
+        capacity = is.capacity;
+        unwritten = λ none. is.looks.writes;
+        quiet = ends.quiet;
+      };
+      leaves = search (holds, fits, unasked_not, said_never, side_stays, absurd);
+    }
+
+  -- the answer is told
+  pub tells : Tells answer result → CarriesOut T its state state old new before after result
+  tells told = elim (cases_Bool (is_covered store.forest.schema s)) [
+    | inl covers ↦ replies covers (ends_by T old new store before after s covers answer is result told)
+    | inr not ↦ refuses not told
+  ]

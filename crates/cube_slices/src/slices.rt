@@ -1,20 +1,14 @@
 //! The command `slice`.
-ghost use Rattle.std.specs.Prelude.{◌≡◌, IsTrue, Ok};
 ghost use Rattle.script_lang.specs.declared.command.Command.TheVariants as says;
-ghost use Rattle.slice_lang.specs.Agreeing.{SliceAgrees};
-ghost use Rattle.slice_lang.specs.Reading.{slice_of};
-ghost use Rattle.cube_state.specs.Cached.{AreLive};
 ghost use Rattle.cube_state.specs.Carried.{CarriesOut, IsReadyFor};
-ghost use Rattle.cube_slices.specs.Looked.{FindsRows, Replies};
-ghost use Rattle.cube_slices.specs.Rows.{rows_told};
+ghost use Rattle.cube_slices.specs.Told.{CarriesOutOver, Tells};
 
 use cube_state::{State, Stop};
-use fact_model::Slice;
 use forest_root::Store;
 use page_cache::Pages;
-use reply_text::refused_slice;
+use reply_text::{plain, refused_slice};
 use site_core::Site;
-use slice_exec::AnswerStop;
+use slice_exec::{AnswerStop, rows_text};
 use slice_lang::read_slice;
 use std::alloc::Global;
 use view_rows::SliceRows;
@@ -32,7 +26,7 @@ pub fn slice<T: Site>(
     ensures carried { CarriesOut T.Site (says.Slice text.now) state.now state.now site.old site.new pages.old pages.new result }
 {
     match state.store() {
-        None => Ok(reply_text::plain(alloc, "refused no schema")?),
+        None => Ok(plain(alloc, "refused no schema")?),
         Some(store) => reply_to(alloc, pages, store, text, site),
     }
 }
@@ -45,55 +39,21 @@ fn reply_to<T: Site>(
     text: &[u8],
     site: &mut T,
 ) -> Result<Vec<u8>, Stop>
-    requires fits { IsTrue T.tells → AreLive store.now.forest.body (T.disk site.old).files pages.old }
-    ensures { Replies T.Site site.old site.new store.now pages.old pages.new (slice_of store.now.forest.schema text.now) result }
+    ensures { CarriesOutOver T.Site text.now store.now site.old site.new pages.old pages.new result }
 {
     match read_slice(alloc, &store.forest.schema, text) {
-        Ok(slice) => found_text(alloc, pages, store, &slice, site),
+        Ok(slice) => told(alloc, slice_exec::answer(alloc, site, pages, store, &slice)),
         Err(refusal) => Ok(refused_slice(alloc, refusal)?),
     }
 }
 
-/// The rows of a slice as text, or its refusal where no view covers it.
-fn found_text<T: Site>(
-    alloc: Global,
-    pages: &mut Pages,
-    store: &Store,
-    slice: &Slice,
-    site: &mut T,
-) -> Result<Vec<u8>, Stop>
-    requires agrees { SliceAgrees store.now.forest.schema slice.now }
-    requires fits { IsTrue T.tells → AreLive store.now.forest.body (T.disk site.old).files pages.old }
-    ensures { Replies T.Site site.old site.new store.now pages.old pages.new (Ok slice.now) result }
-{
-    match rows_of(alloc, pages, store, slice, site)? {
-        Some(rows) => Ok(slice_exec::rows_text(alloc, &rows)?.into_vec()),
-        None => Ok(reply_text::plain(alloc, "refused notcovered")?),
-    }
-}
-
-/// The rows of a slice, if some view covers it.
-fn rows_of<'a, T: Site>(
-    alloc: Global,
-    pages: &mut Pages,
-    store: &'a Store,
-    slice: &'a Slice,
-    site: &mut T,
-) -> Result<Option<SliceRows<'a>>, Stop>
-    requires agrees { SliceAgrees store.now.forest.schema slice.now }
-    requires fits { IsTrue T.tells → AreLive store.now.forest.body (T.disk site.old).files pages.old }
-    ensures { FindsRows T.Site site.old site.new store.now pages.old pages.new slice.now result }
-{
-    told(slice_exec::answer(alloc, site, pages, store, slice))
-}
-
 /// What is told of an answer: its rows, that no view covers the slice, or why the command stops.
-fn told<'a>(answer: Result<SliceRows<'a>, AnswerStop>) -> Result<Option<SliceRows<'a>>, Stop>
-    ensures { result ≡ rows_told answer.entry }
+fn told(alloc: Global, answer: Result<SliceRows<'_>, AnswerStop>) -> Result<Vec<u8>, Stop>
+    ensures { Tells answer.entry result }
 {
     match answer {
-        Ok(rows) => Ok(Some(rows)),
-        Err(AnswerStop::NotCovered) => Ok(None),
+        Ok(rows) => Ok(rows_text(alloc, &rows)?.into_vec()),
+        Err(AnswerStop::NotCovered) => Ok(plain(alloc, "refused notcovered")?),
         Err(AnswerStop::Disk) => Err(Stop::Disk),
         Err(AnswerStop::Damaged { file, offset }) => Err(Stop::Damaged { file, offset }),
         Err(AnswerStop::Memory) => Err(Stop::Memory),
