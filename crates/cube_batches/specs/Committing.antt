@@ -21,7 +21,7 @@ use Rattle.cube_state.specs.Cached.{emptied, generation, live_of}
 use Rattle.cube_state.specs.Carried.{Reply}
 use Rattle.cube_state.specs.Costs.{Spends}
 use Rattle.cube_state.specs.Frames.{IsQuiet, RunsOn}
-use Rattle.cube_state.specs.Moves.{moves_made}
+use Rattle.cube_state.specs.Moves.{format_of, moves_made}
 use Rattle.cube_state.specs.Session.{AttendsAs, Between, IsAnswer}
 use Rattle.cube_state.specs.Stops.{IsNoDamage}
 
@@ -53,8 +53,8 @@ pub record CommitsFor {S : Type 0} (T : Ghosts S) (refresh : Begun) (warehouse :
   pub answer : (world : World) → IfOk result (λ reply. IsAnswer (T.disk new) (committed world warehouse batch last) next reply.items)
   pub any_moment : (world : World) → world.kept ≡ Some warehouse → Between (T.disk old) (T.disk new) world (committed world warehouse batch last).0
   pub undamaged : IfErr result IsNoDamage
-  pub cost : Spends T (commit_cost (forest_moves warehouse.schema warehouse.facts batch) refresh.progress.taken) old new
-  pub pages : T.reads new ≤ T.reads old + page_count warehouse.schema warehouse.facts
+  pub cost : Spends T (commit_cost (forest_moves refresh.store.forest.body.format refresh.store.forest.body.format warehouse.schema warehouse.facts batch) refresh.progress.taken) old new
+  pub pages : T.reads new ≤ T.reads old + page_count refresh.store.forest.body.format warehouse.schema warehouse.facts
 
 -- the session has this then
 pub record Commits {S : Type 0} (T : Ghosts S) (refresh : Begun) (next : State) (old new : S) (before after : Cache) (result : Reply) : Type 0 where
@@ -65,6 +65,7 @@ pub record Commits {S : Type 0} (T : Ghosts S) (refresh : Begun) (next : State) 
   pub spared : IsTrue T.tells → IfErr result (SparesOthers refresh.store.forest.body (T.disk old).files (T.disk new).files)
   pub runs : OnOk result (RunsOn T new next)
   pub moved : OnOk result (moves_made next ≡ 0)
+  pub format : OnOk result (format_of next ≡ refresh.next.format)
   -- none of the kept pages is of the side that is live then
   pub onward : OnOk result (generation (live_of next) ≡ refresh.store.forest.body.generation + 1)
   pub cache : OnOk result (after ≡ emptied before)

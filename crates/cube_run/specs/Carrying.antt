@@ -13,7 +13,7 @@ use Rattle.cube_state.specs.Frames.{StopsFor}
 use Rattle.cube_state.specs.Stops.{IsNoDamage}
 use Rattle.cube_state.specs.declared.state.State.{State}
 use Rattle.cube_state.specs.declared.stop.Stop.{Stop}
-use Rattle.cube_session.specs.Session.{Runs, StandsFor, moves_for}
+use Rattle.cube_session.specs.Session.{Runs, StandsFor, reached_for}
 use Rattle.cube_run.specs.Headline.{Finished}
 use Rattle.cube_run.specs.Onward.{Onward}
 use Rattle.cube_run.specs.Replied.{AreLeft, HasReplied}
@@ -35,7 +35,7 @@ fed_with come piece = record { over = come.over; all = λ more. come.all (piece 
 -- whatever the end, what a stop may leave and what was spent is of these commands
 pub record IsWithin {S : Type 0} (T : Ghosts S) (had : Option State) (world : World) (commands : List Command) (old new : S) : Type 0 where
   pub any_moment : LeavesOnly (T.disk old) (T.disk new) (AfterStop world commands (T.disk old).told)
-  pub cost : (cost : Cost) → CostTogether world (moves_for had) commands cost → Spends T cost old new
+  pub cost : (cost : Cost) → CostTogether world (reached_for had) commands cost → Spends T cost old new
 
 -- a session that had this has that now; it stood for this world, and some of what was to come is carried out
 pub record WentOn {S : Type 0} (T : Ghosts S) (had has : Option State) (world : World) (before now : ToCome) (old new : S) : Type 0 where
@@ -57,7 +57,7 @@ pub record CarriesOn {S : Type 0} (T : Ghosts S) (had has : Option State) (befor
 -- all these commands are carried out, or something ended it before
 pub record Finishes {S E : Type 0} (T : Ghosts S) (had : Option State) (commands : List Command) (old new : S) (result : Result (Unit {0}) E) : Type 0 where
   pub finished : IsTrue T.tells → (world : World) → StandsFor had (T.disk old) world
-      → OnOk result (Finished (T.disk new) world (moves_for had) commands (T.disk old).told)
+      → OnOk result (Finished (T.disk new) world (reached_for had) commands (T.disk old).told)
   pub within : IsTrue T.tells → (world : World) → StandsFor had (T.disk old) world → IsWithin T had world commands old new
   pub replied : IsTrue T.tells → OnOk result (HasReplied commands (T.disk old).told (T.disk new).told)
 

@@ -6,14 +6,14 @@ use Rattle.plain_machine.specs.World.{World}
 use Rattle.plain_machine.specs.Stages.{Carried}
 use Rattle.cube_state.specs.Commands.{CostTogether}
 use Rattle.cube_state.specs.Costs.{Cost}
-use Rattle.cube_state.specs.Moves.{made_from}
+use Rattle.cube_state.specs.Moves.{Reached, reached_from}
 use Rattle.cube_state.specs.declared.state.State.{State}
-use Rattle.cube_session.specs.Session.{StandsFor, moves_for}
+use Rattle.cube_session.specs.Session.{StandsFor, reached_for}
 
 -- of what all commands cost enough is left for the others
-pub record IsLeft {S : Type 0} (T : Ghosts S) (start site : S) (now : World) (made : ℕ) (rest : List Command) (all : Cost) : Type 0 where
+pub record IsLeft {S : Type 0} (T : Ghosts S) (start site : S) (now : World) (reached : Reached) (rest : List Command) (all : Cost) : Type 0 where
   pub left : Cost
-  pub costs : CostTogether now made rest left
+  pub costs : CostTogether now reached rest left
   pub reads : T.reads site + left.reads ≤ T.reads start + all.reads
   pub writes : T.writes site + left.writes ≤ T.writes start + all.writes
 
@@ -22,6 +22,6 @@ pub record Onward {S : Type 0} (T : Ghosts S) (start site : S) (had has : Option
   pub now : World
   pub stands : StandsFor has (T.disk site) now
   pub carried : Carried world commands (T.disk start).told now rest (T.disk site).told
-  -- as many moves will be made in the end
-  pub moved : made_from world (moves_for had) commands ≡ made_from now (moves_for has) rest
-  pub spent : (all : Cost) → CostTogether world (moves_for had) commands all → IsLeft T start site now (moves_for has) rest all
+  -- the same will be reached in the end
+  pub moved : reached_from world (reached_for had) commands ≡ reached_from now (reached_for has) rest
+  pub spent : (all : Cost) → CostTogether world (reached_for had) commands all → IsLeft T start site now (reached_for has) rest all

@@ -5,7 +5,7 @@ use Rattle.site_core.specs.declared.source.Source.{Ghosts as Sources}
 use Rattle.script_lang.specs.Script.{commands}
 use Rattle.plain_machine.specs.World.{World}
 use Rattle.cube_state.specs.declared.state.State.{State}
-use Rattle.cube_session.specs.Session.{StandsFor, moves_for}
+use Rattle.cube_session.specs.Session.{StandsFor, reached_for}
 use Rattle.cube_run.specs.Carrying.{Finishes}
 use Rattle.cube_run.specs.Ends.{EndsFor, IsUndamaged, ended, faults}
 use Rattle.cube_run.specs.Headline.{StopsShort}
@@ -24,7 +24,7 @@ pub record Serves {A B : Type 0} (S : Sources A) (T : Sites B) (had : Option Sta
   pub finishes : IsTrue S.tells → Finishes T had (commands (S.left source)) site site_now result
   pub undamaged : IsTrue T.tells → (world : World) → StandsFor had (T.disk site) world → IfErr result IsUndamaged
   pub short : IsTrue S.tells → IsTrue T.tells → (world : World) → StandsFor had (T.disk site) world
-      → StopsShort (λ end. ended result ≡ end) (T.disk site_now) world (moves_for had) (S.left source) (S.left source_now) most (T.disk site).told
+      → StopsShort (λ end. ended result ≡ end) (T.disk site_now) world (reached_for had) (S.left source) (S.left source_now) most (T.disk site).told
   pub pulls : IsTrue S.tells → Pulls most (S.left source) (S.left source_now) result
   pub asked : S.ends source_now ≤ S.ends source + 1
   pub no_usage : ended result ≡ Usage → ⊥
