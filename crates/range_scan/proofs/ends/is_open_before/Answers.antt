@@ -13,7 +13,7 @@ returns-then-region-i-gt1 c = (
       elim c.then-region-i-gt1.branch [
         | then-region-i-gt1-via-then-region-i-gt1 w ↦ absurd (omega (arith, here.0, w.if-region-i-gt1.true))
         | then-region-i-gt1-via-else-region-i-gt1+then-region-i w ↦
-            absurd (omega (arith, here.1 c.greatest_coordinate.result c.greatest_coordinate.ensures.fits, w.if-region-i.true))
+            absurd (omega (arith, here.1 c.greatest_coordinate-most.result c.greatest_coordinate-most.ensures.fits, w.if-region-i.true))
       ],
 )
 
@@ -24,7 +24,7 @@ loop-i-preserved c = λ i below. elim (cases_lt i c.loop-i.i) [
       let is : c.loop-i.i ≡ i = omega (arith, below, past) in
       let bounds = c.args.region.now.bounds in
       subst (λ j. (slice_index bounds.low j ≤ 1) × ((n : ℕ) → IsCoordinate c.args.wide n → n ≤ slice_index bounds.high j)) is
-      (c.if-region-i-gt1.false, λ n fits. omega (arith, c.greatest_coordinate.ensures.most n fits, c.if-region-i.false))
+      (c.if-region-i-gt1.false, λ n fits. omega (arith, c.greatest_coordinate-most.ensures.most n fits, c.if-region-i.false))
 ]
 
 pub returns : goal.returns
