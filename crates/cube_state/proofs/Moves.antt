@@ -18,12 +18,18 @@ use Rattle.cube_state.specs.declared.state.State.TheVariants.{Empty, Idle, Hollo
 live_root : (schema : Schema) (body : Body) (facts : List Fact) (files : Files) → IsLive schema body facts files → IsLiveBody body (files 0)
 live_root schema body facts files is = record { slot = is.slot; low = is.at.low; raised = is.at.raised; decodes = is.at.decodes; each = is.at.each }
 
+module _ (r : Begun) (disk : Disk) (warehouse : Warehouse) (batch : List Fact) where
+  -- the pages of the moves made, where the new ones have this format
+  abbrev HasWrittenAs : Schema → ℕ → Type 0
+  HasWrittenAs schema next = take (4096 * written r.progress.taken (forest_moves r.store.forest.body.format next schema warehouse.facts batch)) (disk.files (next_side r.store.forest.body))
+      ≡ bytes_after r.store.forest.body.format next schema warehouse.facts batch r.progress.taken
+
 attended_pages : (r : Begun) (disk : Disk) (warehouse : Warehouse) (batch : List Fact) → Attends r disk warehouse batch → HasPagesOver disk.files (Some warehouse) (Some batch) r.progress.taken
 attended_pages r disk warehouse [] is = tt
 attended_pages r disk warehouse (x ∷ xs) is = record {
   live = r.store.forest.body;
   is_live = live_root r.store.forest.schema r.store.forest.body warehouse.facts disk.files is.adds.read.live;
-  pages = subst (λ (s : Schema). take (4096 * written r.progress.taken (forest_moves s warehouse.facts (x ∷ xs))) (disk.files (next_side r.store.forest.body)) ≡ bytes_after s warehouse.facts (x ∷ xs) r.progress.taken) is.schema is.moved.pages;
+  pages = subst (λ (s : Schema). HasWrittenAs r disk warehouse (x ∷ xs) s r.store.forest.body.format) is.schema (subst (HasWrittenAs r disk warehouse (x ∷ xs) r.store.forest.schema) is.format is.moved.pages);
 }
 
 -- what is kept and pending tells it

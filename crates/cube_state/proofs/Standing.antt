@@ -105,6 +105,7 @@ module _ (old new : Disk) (same : new.files ≡ old.files) (left : (files : File
     schema = is.schema;
     last = is.last;
     next = is.next;
+    format = is.format;
     due = is.due;
     adds = holds_on (IsRefreshOf r warehouse.facts batch) is.adds;
     some = is.some;

@@ -11,7 +11,7 @@ use Rattle.plain_machine.specs.Machine.{begin}
 use Rattle.plain_machine.specs.Stages.{makes_stage}
 use Rattle.plain_machine.specs.World.{Kept, World}
 use Rattle.cube_state.specs.Costs.{Cost, both, free}
-use Rattle.cube_state.specs.Moves.{moves_over, pending_moves}
+use Rattle.cube_state.specs.Moves.{Reached, moves_over, pending_moves}
 
 -- where a schema is declared the gates are read; two of them, the names, the bodies and a gate are written
 abbrev pub schema_cost : World → Command → Cost
@@ -41,33 +41,33 @@ abbrev pub moves_cost : List Move → ℕ → ℕ → Cost
 moves_cost moves m n = record { reads = reads_in n moves - reads_in m moves; writes = written n moves - written m moves }
 
 -- so many moves more
-abbrev pub step_cost : World → ℕ → ℕ → Cost
-step_cost world made n = moves_cost (pending_moves world) made (made + n)
+abbrev pub step_cost : World → Reached → ℕ → Cost
+step_cost world reached n = moves_cost (pending_moves reached.format world) reached.made (reached.made + n)
 
 -- the moves that are left, and a write of the names, of the body and of its gate
 abbrev pub commit_cost : List Move → ℕ → Cost
 commit_cost moves made = both (moves_cost moves made (length moves)) (record { reads = 0; writes = 3 })
 
 -- where the pending batch is accepted, behind so many of its moves
-abbrev pub finish_cost : World → ℕ → Cost
-finish_cost world made = cond (makes_stage world says.Finish) (commit_cost (pending_moves world) made) free
+abbrev pub finish_cost : World → Reached → Cost
+finish_cost world reached = cond (makes_stage world says.Finish) (commit_cost (pending_moves reached.format world) reached.made) free
 
 -- ---- load
 
--- how many pages the trees have
-abbrev pub pages_over : Kept → ℕ
-pages_over None = 0
-pages_over (Some warehouse) = page_count warehouse.schema warehouse.facts
+-- how many pages of this format the trees have
+abbrev pub pages_over : ℕ → Kept → ℕ
+pages_over format None = 0
+pages_over format (Some warehouse) = page_count format warehouse.schema warehouse.facts
 
 -- the moves of a batch over what is kept
-abbrev pub moves_of : Kept → Option Batch → List Move
-moves_of kept None = []
-moves_of kept (Some batch) = moves_over kept (Some batch.facts)
+abbrev pub moves_of : ℕ → Kept → Option Batch → List Move
+moves_of format kept None = []
+moves_of format kept (Some batch) = moves_over format kept (Some batch.facts)
 
 -- where a batch is accepted at once: the gate is read, and each old page; a page is written for each write among the moves, and the gate twice, the names and the body
-abbrev pub load_cost_of : Kept → List Move → Cost
-load_cost_of kept moves = record { reads = 1 + pages_over kept; writes = 4 + written (length moves) moves }
+abbrev pub load_cost_of : ℕ → Kept → List Move → Cost
+load_cost_of format kept moves = record { reads = 1 + pages_over format kept; writes = 4 + written (length moves) moves }
 
 -- of the command that sends it
-abbrev pub load_cost : World → Command → Cost
-load_cost world command = cond (makes_stage world command) (load_cost_of world.kept (moves_of world.kept (batch_by world command))) free
+abbrev pub load_cost : ℕ → World → Command → Cost
+load_cost format world command = cond (makes_stage world command) (load_cost_of format world.kept (moves_of format world.kept (batch_by world command))) free

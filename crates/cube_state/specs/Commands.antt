@@ -17,7 +17,7 @@ use Rattle.cube_state.specs.BatchCosts.{begin_cost, begins, finish_cost, load_co
 use Rattle.cube_state.specs.BatchDamage.{FinishTells, LoadTells}
 use Rattle.cube_state.specs.Batches.{BeginGives, FinishGives, LoadGives, pending_line}
 use Rattle.cube_state.specs.Costs.{Cost, both, free}
-use Rattle.cube_state.specs.Moves.{made_behind}
+use Rattle.cube_state.specs.Moves.{Reached, reached_behind}
 use Rattle.cube_state.specs.Session.{IsLine, state_text}
 use Rattle.cube_state.specs.Slices.{SliceGives, SliceTells}
 use Rattle.cube_state.specs.Stops.{IsNoDamage}
@@ -31,27 +31,27 @@ load_of (Generator start rows) = says.Generate start rows
 
 -- ---- costs
 
--- where so many moves of the pending batch are made before it: a slice costs the pages that it goes to
-abbrev pub Costs : World → ℕ → Command → Cost → Type 0
-Costs world made (says.Slice text) cost = ReadsFor world (says.Slice text) cost
-Costs world made (says.Schema block) cost = cost ≡ schema_cost world (says.Schema block)
-Costs world made (says.Load block) cost = cost ≡ load_cost world (says.Load block)
-Costs world made (says.LoadNumbered number block) cost = cost ≡ load_cost world (says.LoadNumbered number block)
-Costs world made (says.Generate start rows) cost = cost ≡ load_cost world (says.Generate start rows)
-Costs world made (says.Begin block) cost = cost ≡ begin_cost world block
-Costs world made (says.Step n) cost = cost ≡ step_cost world made n
-Costs world made says.Finish cost = cost ≡ finish_cost world made
-Costs world made says.Abandon cost = cost ≡ free
-Costs world made says.Status cost = cost ≡ free
-Costs world made says.LongLine cost = cost ≡ free
-Costs world made says.OpenBlock cost = cost ≡ free
-Costs world made says.Unknown cost = cost ≡ free
+-- where this is reached before it: a slice costs the pages that it goes to
+abbrev pub Costs : World → Reached → Command → Cost → Type 0
+Costs world reached (says.Slice text) cost = ReadsFor reached.format world (says.Slice text) cost
+Costs world reached (says.Schema block) cost = cost ≡ schema_cost world (says.Schema block)
+Costs world reached (says.Load block) cost = cost ≡ load_cost reached.format world (says.Load block)
+Costs world reached (says.LoadNumbered number block) cost = cost ≡ load_cost reached.format world (says.LoadNumbered number block)
+Costs world reached (says.Generate start rows) cost = cost ≡ load_cost reached.format world (says.Generate start rows)
+Costs world reached (says.Begin block) cost = cost ≡ begin_cost world block
+Costs world reached (says.Step n) cost = cost ≡ step_cost world reached n
+Costs world reached says.Finish cost = cost ≡ finish_cost world reached
+Costs world reached says.Abandon cost = cost ≡ free
+Costs world reached says.Status cost = cost ≡ free
+Costs world reached says.LongLine cost = cost ≡ free
+Costs world reached says.OpenBlock cost = cost ≡ free
+Costs world reached says.Unknown cost = cost ≡ free
 
 -- of commands one after another
-pub data CostTogether : World → ℕ → List Command → Cost → Type 0 where
-  none_cost : {world : World} {made : ℕ} → CostTogether world made [] free
-  one_costs : {world : World} {made : ℕ} {command : Command} {rest : List Command} (one others : Cost) → Costs world made command one
-      → CostTogether (act world command).0 (made_behind world made command) rest others → CostTogether world made (command ∷ rest) (both one others)
+pub data CostTogether : World → Reached → List Command → Cost → Type 0 where
+  none_cost : {world : World} {reached : Reached} → CostTogether world reached [] free
+  one_costs : {world : World} {reached : Reached} {command : Command} {rest : List Command} (one others : Cost) → Costs world reached command one
+      → CostTogether (act world command).0 (reached_behind world reached command) rest others → CostTogether world reached (command ∷ rest) (both one others)
 
 -- no batch is there, or an empty one
 abbrev pub HasNoFact : Option (List Fact) → Type 0

@@ -10,44 +10,70 @@ use Rattle.forest_refresh.specs.Begun.{next_side}
 use Rattle.script_lang.specs.declared.command.Command.{Command}
 use Rattle.script_lang.specs.declared.command.Command.TheVariants as says
 use Rattle.plain_machine.specs.Machine.{act}
+use Rattle.plain_machine.specs.Keeps.{HasFormat}
 use Rattle.plain_machine.specs.World.{Kept, Warehouse, World}
 use Rattle.cube_state.specs.declared.state.State.{State}
 use Rattle.cube_state.specs.declared.state.State.TheVariants.{Empty, Idle, Hollow, Pending}
 
--- all that the batch takes; an empty one takes none
-abbrev pub moves_over : Kept → Option (List Fact) → List Move
-moves_over None pending = []
-moves_over (Some warehouse) None = []
-moves_over (Some warehouse) (Some []) = []
-moves_over (Some warehouse) (Some (x ∷ xs)) = forest_moves warehouse.schema warehouse.facts (x ∷ xs)
+-- what a session has reached: the format of the live pages, and how many moves of the pending batch are made
+pub record Reached : Type 0 where
+  pub format : ℕ
+  pub made : ℕ
 
-abbrev pub pending_moves : World → List Move
-pending_moves world = moves_over world.kept world.pending
+-- before any move is made, where the live pages have this format
+abbrev pub unmoved : ℕ → Reached
+unmoved format = record { format = format; made = 0 }
 
--- how many are made behind a command, where so many were before: a step makes so many more, or all that are left
-abbrev pub made_behind : World → ℕ → Command → ℕ
-made_behind world made (says.Step n) = min (made + n) (length (pending_moves world))
-made_behind world made says.Finish = 0
-made_behind world made says.Abandon = 0
-made_behind world made _ = made
+-- all that the batch takes where the live pages have this format; an empty one takes none
+abbrev pub moves_over : ℕ → Kept → Option (List Fact) → List Move
+moves_over format None pending = []
+moves_over format (Some warehouse) None = []
+moves_over format (Some warehouse) (Some []) = []
+moves_over format (Some warehouse) (Some (x ∷ xs)) = forest_moves format format warehouse.schema warehouse.facts (x ∷ xs)
+
+abbrev pub pending_moves : ℕ → World → List Move
+pending_moves format world = moves_over format world.kept world.pending
+
+-- what is reached behind a command: a step makes so many moves more, or all that are left, and no command changes the format
+abbrev pub reached_behind : World → Reached → Command → Reached
+reached_behind world reached (says.Step n) = record reached { made = min (reached.made + n) (length (pending_moves reached.format world)) }
+reached_behind world reached says.Finish = unmoved reached.format
+reached_behind world reached says.Abandon = unmoved reached.format
+reached_behind world reached _ = reached
 
 -- and behind commands
-abbrev pub made_from : World → ℕ → List Command → ℕ
-made_from world made [] = made
-made_from world made (command ∷ rest) = made_from (act world command).0 (made_behind world made command) rest
+abbrev pub reached_from : World → Reached → List Command → Reached
+reached_from world reached [] = reached
+reached_from world reached (command ∷ rest) = reached_from (act world command).0 (reached_behind world reached command) rest
 
--- how many a session has made
+-- the format of the pages that are live for a session; files without a schema count as format 1
+abbrev pub format_of : State → ℕ
+format_of Empty = 1
+format_of (Idle store) = store.forest.body.format
+format_of (Hollow store) = store.forest.body.format
+format_of (Pending refresh) = refresh.store.forest.body.format
+
+-- how many moves it has made
 abbrev pub moves_made : State → ℕ
 moves_made Empty = 0
 moves_made (Idle store) = 0
 moves_made (Hollow store) = 0
 moves_made (Pending refresh) = refresh.progress.taken
 
+abbrev pub reached_by : State → Reached
+reached_by state = record { format = format_of state; made = moves_made state }
+
+-- this holds from where no move is made, in the format that these files have
+pub record FromFormat (files : Files) (kept : Kept) (P : Reached → Type 0) : Type 0 where
+  pub format : ℕ
+  pub has : HasFormat files kept format
+  pub holds : P (unmoved format)
+
 -- the side that is not live begins with a page for each write among the moves made, as the forest over all facts does
 pub record HasPages (files : Files) (warehouse : Warehouse) (batch : List Fact) (made : ℕ) : Type 0 where
   pub live : Body
   pub is_live : IsLiveBody live (files 0)
-  pub pages : take (4096 * written made (forest_moves warehouse.schema warehouse.facts batch)) (files (next_side live)) ≡ bytes_after warehouse.schema warehouse.facts batch made
+  pub pages : take (4096 * written made (forest_moves live.format live.format warehouse.schema warehouse.facts batch)) (files (next_side live)) ≡ bytes_after live.format live.format warehouse.schema warehouse.facts batch made
 
 abbrev pub HasPagesOver : Files → Kept → Option (List Fact) → ℕ → Type 0
 HasPagesOver files None pending made = Unit {0}

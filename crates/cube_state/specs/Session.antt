@@ -29,6 +29,8 @@ pub record AttendsAs (number : ℕ) (r : Begun) (disk : Disk) (warehouse : Wareh
   pub schema : r.store.forest.schema ≡ warehouse.schema
   pub last : r.store.forest.body.last ≡ warehouse.last
   pub next : r.next.last ≡ number
+  -- the batch goes into pages of the live format
+  pub format : r.next.format ≡ r.store.forest.body.format
   -- it is the same, or the next one
   pub due : number ≤ warehouse.last + 1
   -- as a read gives them, and as a stop now may leave them

@@ -23,26 +23,26 @@ store_of (Pending refresh) = Some refresh.store
 
 -- ---- over a world
 
--- the slice goes to these pages of the picked view, over these facts
-abbrev pub GoesOver : Schema → List Fact → Option Slice → List ℕ → Type 0
-GoesOver schema facts None numbers = ⊥
-GoesOver schema facts (Some s) numbers = (view : ℕ) × Picks schema.views (body_counts schema facts) s view × (numbers ≡ visits_over schema facts s view)
+-- the slice goes to these pages of the picked view, over these facts in pages of this format
+abbrev pub GoesOver : ℕ → Schema → List Fact → Option Slice → List ℕ → Type 0
+GoesOver format schema facts None numbers = ⊥
+GoesOver format schema facts (Some s) numbers = (view : ℕ) × Picks schema.views (body_counts schema facts) s view × (numbers ≡ visits_over format schema facts s view)
 
-abbrev pub GoesFrom : Kept → Option Slice → List ℕ → Type 0
-GoesFrom None asked numbers = ⊥
-GoesFrom (Some warehouse) asked numbers = GoesOver warehouse.schema warehouse.facts asked numbers
+abbrev pub GoesFrom : ℕ → Kept → Option Slice → List ℕ → Type 0
+GoesFrom format None asked numbers = ⊥
+GoesFrom format (Some warehouse) asked numbers = GoesOver format warehouse.schema warehouse.facts asked numbers
 
 -- the slice that the command has answered goes to these pages; where it has none answered it goes to none
-abbrev pub GoesTo : World → Command → List ℕ → Type 0
-GoesTo world command numbers = GoesFrom world.kept (asked_slice world command) numbers
+abbrev pub GoesTo : ℕ → World → Command → List ℕ → Type 0
+GoesTo format world command numbers = GoesFrom format world.kept (asked_slice world command) numbers
 
 -- a read for each page that the slice goes to, and nothing where none is answered
-abbrev pub ReadsFrom : Kept → Option Slice → Cost → Type 0
-ReadsFrom kept None cost = cost ≡ free
-ReadsFrom kept (Some s) cost = (numbers : List ℕ) × GoesFrom kept (Some s) numbers × (cost ≡ record { reads = length numbers; writes = 0 })
+abbrev pub ReadsFrom : ℕ → Kept → Option Slice → Cost → Type 0
+ReadsFrom format kept None cost = cost ≡ free
+ReadsFrom format kept (Some s) cost = (numbers : List ℕ) × GoesFrom format kept (Some s) numbers × (cost ≡ record { reads = length numbers; writes = 0 })
 
-abbrev pub ReadsFor : World → Command → Cost → Type 0
-ReadsFor world command cost = ReadsFrom world.kept (asked_slice world command) cost
+abbrev pub ReadsFor : ℕ → World → Command → Cost → Type 0
+ReadsFor format world command cost = ReadsFrom format world.kept (asked_slice world command) cost
 
 -- ---- over what a session has
 

@@ -36,7 +36,7 @@ use Rattle.forest_root.specs.Forest.{pages_of_all}
 use Rattle.forest_pages.specs.Forest.{forest}
 use Rattle.forest_pages.proofs.Scanned.{forest-long}
 use Rattle.select_map.specs.Views.{selected}
-use Rattle.forest_store.specs.Held.{AreAccepted, IsLive, KeepsFacts, held, masses_of, names_text}
+use Rattle.forest_store.specs.Held.{AreAccepted, FitsFormat, IsLive, KeepsFacts, held, masses_of, names_text}
 use Rattle.forest_store.specs.Opened.{HasRoot}
 use Rattle.forest_store.specs.Sides.{page_total, side_of}
 use Rattle.forest_store.specs.Stored.{IsWhole}
@@ -205,7 +205,7 @@ kind_there (attr ∷ attrs) (suc a) = kind_there attrs a
 names_room : (schema : Schema) (facts : List Fact) → AreAccepted schema facts → (a : ℕ) → length (names_of facts a) ≤ max_of (kind_at (no_names schema) a)
 names_room schema facts accepted a = (let kind = ap max_of (kind_there schema.attrs a) in let named = accepted.named a in omega arith)
 
-module _ (schema : Schema) (facts : List Fact) (last slot : ℕ) (body : Body) (files : Files) (live : LiveAt (held schema facts last) slot body files) where
+module _ (schema : Schema) (facts : List Fact) (last slot : ℕ) (body : Body) (files : Files) (fits : FitsFormat body.format facts) (live : LiveAt (held body.format schema facts last) slot body files) where
   -- the names that count are there
   names_long : body.names_len ≤ length (files 1)
   names_long = (let long = length-take (length (names_text schema facts)) (files 1) in let same = ap length live.names in let count = live.body_is.names_len in omega arith)
@@ -226,9 +226,9 @@ module _ (schema : Schema) (facts : List Fact) (last slot : ℕ) (body : Body) (
   -- all pages are there
   side_long : IsSchema schema → AreAccepted schema facts → 4096 * page_total body schema ≤ length (files (side_of body))
   side_long lawful accepted =
-      let long : length (forest schema facts) ≡ 4096 * page_total body schema = forest-long schema lawful facts (storable schema facts lawful accepted)
-      ∙ ap (λ (counts : List ℕ). 4096 * pages_of_all schema counts (selected schema.views).trees) (sym live.body_is.counts) in
-      let there : length (forest schema facts) ≤ length (files (2 + slot)) = omega (arith, length-take (length (forest schema facts)) (files (2 + slot)), ap length live.forest) in
+      let long : length (forest body.format schema facts) ≡ 4096 * page_total body schema = forest-long schema lawful facts (storable schema facts lawful accepted body.format fits)
+      ∙ ap (λ (counts : List ℕ). 4096 * pages_of_all body.format schema counts (selected schema.views).trees) (sym live.body_is.counts) in
+      let there : length (forest body.format schema facts) ≤ length (files (2 + slot)) = omega (arith, length-take (length (forest body.format schema facts)) (files (2 + slot)), ap length live.forest) in
       subst (λ s. 4096 * page_total body schema ≤ length (files (2 + s))) (sym live.decodes.1.within.side) (omega (arith, long, there))
 
 -- the names that the entries of facts give
@@ -244,7 +244,7 @@ module _ (schema : Schema) (facts : List Fact) (lawful : IsSchema schema) (accep
     own_read : HasRead (no_names schema) (book_of schema facts) (entries_in body files) []
     own_read = record {
       es = names facts;
-      are = entries_are schema facts body.last is.slot body files is.at ∙ sym (append-nil (entries_text (names facts)));
+      are = entries_are schema facts body.last is.slot body files is.fits is.at ∙ sym (append-nil (entries_text (names facts)));
       enter = names-enter schema facts (all-agree schema facts accepted.each) (λ a low. names_room schema facts accepted a);
       book = refl;
     }
@@ -253,35 +253,43 @@ module _ (schema : Schema) (facts : List Fact) (lawful : IsSchema schema) (accep
     pub kept_opened : AreOpened body files schema (book_of schema facts)
     kept_opened = record {
       declared = record {
-        there = names_long schema facts body.last is.slot body files is.at;
-        found = declared_again schema lawful (text_in body files) (text_is schema facts body.last is.slot body files is.at);
+        there = names_long schema facts body.last is.slot body files is.fits is.at;
+        found = declared_again schema lawful (text_in body files) (text_is schema facts body.last is.slot body files is.fits is.at);
       };
       of_schema = rw (is.at.body_is.views, is.at.body_is.masses, no_masses_past schema facts lawful accepted.each, eq-eqb (length schema.views) (length schema.views) refl) refl;
       read = own_read;
-      pages = le-leb (4096 * page_total body schema) (length (files (side_of body))) (side_long schema facts body.last is.slot body files is.at lawful accepted);
+      pages = le-leb (4096 * page_total body schema) (length (files (side_of body))) (side_long schema facts body.last is.slot body files is.fits is.at lawful accepted);
     }
 
     -- and other names are not read
     pub kept_names : (found : Book) → HasRead (no_names schema) found (entries_in body files) [] → HoldsNamesOf found facts
     kept_names found read =
-        subst (λ (b : Book). HoldsNamesOf b facts) (sym (read-only (no_names schema) found (entries_in body files) (names facts) (entries_are schema facts body.last is.slot body files is.at) read)) own_hold
+        subst (λ (b : Book). HoldsNamesOf b facts) (sym (read-only (no_names schema) found (entries_in body files) (names facts) (entries_are schema facts body.last is.slot body files is.fits is.at) read)) own_hold
 
 -- ---- the live body of files that keep facts
 
 module _ (schema : Schema) (facts : List Fact) (last : ℕ) (body : Body) (files : Files) (kept : KeepsFacts schema facts last files) (live : IsLiveBody body (files 0)) where
-  live_there : LiveAt (held schema facts last) kept.0 body files
-  live_there = subst (λ (b : Body). LiveAt (held schema facts last) kept.0 b files) (sym (one_live (held schema facts last) kept.0 kept.1 body files kept.2 live)) kept.2
+  live_there : LiveAt (held kept.format schema facts last) kept.keeps.0 body files
+  live_there = subst (λ (b : Body). LiveAt (held kept.format schema facts last) kept.keeps.0 b files) (sym (one_live (held kept.format schema facts last) kept.keeps.0 kept.keeps.1 body files kept.keeps.2 live)) kept.keeps.2
+
+  live_format : body.format ≡ kept.format
+  live_format = live_there.body_is.format
 
   -- it has the number that they keep
   pub live_last : body.last ≡ last
   live_last = live_there.body_is.last
 
   pub live_body : IsLive schema body facts files
-  live_body = record { slot = kept.0; at = subst (λ n. LiveAt (held schema facts n) kept.0 body files) (sym live_last) live_there }
+  live_body = record {
+    slot = kept.keeps.0;
+    fits = subst (λ (f : ℕ). FitsFormat f facts) (sym live_format) kept.fits;
+    at = subst (λ n. LiveAt (held body.format schema facts n) kept.keeps.0 body files) (sym live_last)
+        (subst (λ (f : ℕ). LiveAt (held f schema facts last) kept.keeps.0 body files) (sym live_format) live_there);
+  }
 
 -- files that keep facts have no slot whose body does not decode
 pub kept_decodes : (schema : Schema) (facts : List Fact) (last slot : ℕ) (files : Files) → KeepsFacts schema facts last files → IsFirstDamaged slot (files 0) → ⊥
-kept_decodes schema facts last slot files kept first = live_damaged (files 0) kept.1 slot (held_is_live (held schema facts last) kept.0 kept.1 files kept.2) first
+kept_decodes schema facts last slot files kept first = live_damaged (files 0) kept.keeps.1 slot (held_is_live (held kept.format schema facts last) kept.keeps.0 kept.keeps.1 files kept.keeps.2) first
 
 -- the names that the live body counts are those of the facts
 pub names_counted : (schema : Schema) (facts : List Fact) (last : ℕ) (body : Body) (files : Files) → KeepsFacts schema facts last files → IsLiveBody body (files 0) → body.names_len ≡ length (names_text schema facts)

@@ -23,6 +23,7 @@ live_again r facts batch old new is live = record {
   accepted = is.accepted;
   live = live;
   all = is.all;
+  fits = is.fits;
   shown = is.shown;
   names = is.names;
   deltas = is.deltas;

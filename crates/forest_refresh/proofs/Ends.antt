@@ -67,21 +67,22 @@ module _ (r : Begun) (begun : IsBegun r) (all : length r.progress.rows ≡ lengt
       follows = subst (λ (b : Begun). IsNext b.store.forest.body b.entries (with_counts r.next counts)) same (next-all going);
       facts = ap (λ (b : Begun). b.next.facts) same;
       last = ap (λ (b : Begun). b.next.last) same;
+      format = ap (λ (b : Begun). b.next.format) same;
     }
 
     module _ (facts batch : List Fact) (files : Files) (is : IsRefreshOf r facts batch files) (has : HasMoved r files) where
       -- it is the body of all facts, whose forest stands on its side
-      pub body-all : IsBodyOf (held own.schema (facts ++ batch) r.next.last) (with_counts r.next counts)
+      pub body-all : IsBodyOf (held r.next.format own.schema (facts ++ batch) r.next.last) (with_counts r.next counts)
       body-all = body_of_all r begun facts batch files is counts
-          (counts-of-all own.schema own.lawful (facts ++ batch) (storable own.schema (facts ++ batch) own.lawful is.all) r.progress.rows counts
-          (all-rows own files r.deltas facts batch (addition_of r facts batch files is) (slot_of r.next) r.progress has (omega (arith, all))) told)
+          (counts-of-all own.schema own.lawful (facts ++ batch) (storable own.schema (facts ++ batch) own.lawful is.all r.next.format is.fits) r.progress.rows counts
+          (all-rows r.next.format own files r.deltas facts batch (addition_of r facts batch files is) (slot_of r.next) r.progress has (omega (arith, all))) told)
 
-      pub side-all : take (length (forest_bytes own.schema (facts ++ batch))) (files (2 + slot_of r.next)) ≡ forest_bytes own.schema (facts ++ batch)
-      side-all = all-written own files r.deltas facts batch (addition_of r facts batch files is) (slot_of r.next) r.progress has (omega (arith, all))
+      pub side-all : take (length (forest_bytes r.next.format own.schema (facts ++ batch))) (files (2 + slot_of r.next)) ≡ forest_bytes r.next.format own.schema (facts ++ batch)
+      side-all = all-written r.next.format own files r.deltas facts batch (addition_of r facts batch files is) (slot_of r.next) r.progress has (omega (arith, all))
 
 -- the facts are live until the commit
 pub live-still : (r : Begun) (facts batch : List Fact) (disk : Disk) → HoldsNow (IsRefreshOf r facts batch) disk
-    → (k : ℕ) × IsLiveNow (held r.store.forest.schema facts r.store.forest.body.last) k r.store.forest.body disk
+    → (k : ℕ) × IsLiveNow (held r.store.forest.body.format r.store.forest.schema facts r.store.forest.body.last) k r.store.forest.body disk
 live-still r facts batch disk both =
     let live : HoldsNow (IsLive r.store.forest.schema r.store.forest.body facts) disk = holds_to (IsRefreshOf r facts batch) (IsLive r.store.forest.schema r.store.forest.body facts) disk (λ files is. is.live) both in
     (live.read.slot, live_now r.store.forest.schema r.store.forest.body facts disk live)
@@ -90,7 +91,7 @@ live-still r facts batch disk both =
 pub all-done : (old r s : Begun) → r ≡ s → s ≡ record old { progress = s.progress } → IsGoing s → (made most : ℕ) → 2 ^ 60 ≤ most → s.progress.taken ≡ old.progress.taken + made
     → (made < most → length s.progress.rows ≡ length old.store.forest.mapping.trees) → length r.progress.rows ≡ length r.store.forest.mapping.trees
 all-done old r s view same going made most many taken limit =
-    let few = moves-few s.store.forest s.deltas (slot_of s.next) (batch_size s) s.progress going in
+    let few = moves-few s.next.format s.store.forest s.deltas (slot_of s.next) (batch_size s) s.progress going in
     subst (λ (b : Begun). length b.progress.rows ≡ length b.store.forest.mapping.trees) (sym view)
     (limit (omega (arith, taken, few, many)) ∙ sym (ap (λ (b : Begun). length b.store.forest.mapping.trees) same))
 

@@ -13,6 +13,7 @@ use Rattle.site_core.specs.Causes.{HasCauseWhere}
 use Rattle.view_points.proofs.Sums.{mass-append}
 use Rattle.forest_root.specs.declared.body.Body.{Body}
 use Rattle.forest_root.specs.Body.{IsBody, max_facts, max_names_len}
+use Rattle.page_fmt.specs.Formats.{wide_format}
 use Rattle.cube_schema.specs.declared.schema.Schema.{Schema}
 use Rattle.cube_schema.specs.Writing.{canonical}
 use Rattle.forest_refresh.specs.declared.stop.BeginStop.TheVariants as begins
@@ -98,18 +99,20 @@ zeros_at (suc n) zero = refl
 zeros_at (suc n) (suc i) = zeros_at n i
 
 -- the body of the next generation
-pub body_is : (live : Body) (names_len facts last : ℕ) (masses : List ℕ) (more : ℕ) → IsSound live → live.names_len ≤ names_len → names_len ≤ max_names_len → 0 < more → facts ≡ live.facts + more → facts ≤ max_facts
-    → last ≤ live.last + 1 → length masses ≡ 4 → ((m : ℕ) → m < 4 → slice_index masses m ≤ mass_limit)
-    → IsBody (slot_of (next_body live names_len facts last masses)) (next_body live names_len facts last masses)
-body_is live names_len facts last masses more sound longer short some all few near long within = record {
+pub body_is : (live : Body) (format names_len facts last : ℕ) (masses : List ℕ) (more : ℕ) → IsSound live → live.format ≤ format → format ≤ wide_format → live.names_len ≤ names_len → names_len ≤ max_names_len → live.format < format + more → facts ≡ live.facts + more → facts ≤ max_facts
+    → last ≤ live.last + more → length masses ≡ 4 → ((m : ℕ) → m < 4 → slice_index masses m ≤ mass_limit)
+    → IsBody (slot_of (next_body live format names_len facts last masses)) (next_body live format names_len facts last masses)
+body_is live format names_len facts last masses more sound later known longer short some all few near long within = record {
   within = record {
+    some_format = omega (arith, later, sound.within.some_format);
+    known_format = known;
     views = sound.within.views;
     few_views = sound.within.few_views;
     schema_len = omega (arith, longer, sound.within.schema_len);
     names_len = short;
     facts = few;
-    generation = omega (arith, all, sound.within.generation, some);
-    last = omega (arith, near, all, sound.within.last, some);
+    generation = omega (arith, all, sound.within.generation, some, later);
+    last = omega (arith, near, all, sound.within.last);
     side = refl;
   };
   schema_fits = sound.schema_fits;
@@ -126,6 +129,8 @@ body_is live names_len facts last masses more sound longer short some all few ne
 pub body_with : (next : Body) (counts : List ℕ) → IsSound next → HasNumbers next.views next.facts counts → IsSound (record next { counts = counts })
 body_with next counts sound numbers = record {
   within = record {
+    some_format = sound.within.some_format;
+    known_format = sound.within.known_format;
     views = sound.within.views;
     few_views = sound.within.few_views;
     schema_len = sound.within.schema_len;

@@ -1,5 +1,5 @@
 //! A batch is prepared: its names have codes, its points are made, and all memory is taken. No file is called.
-ghost use Rattle.std.specs.Prelude.{◌≡◌, ◌≢◌, ◌<◌, ◌≤◌, ◌+◌, ◌++◌, ℕ, IfOk, IfErr, OnErr, OnOk, List, length, slice_index, vec_capacity};
+ghost use Rattle.std.specs.Prelude.{◌≡◌, ◌≢◌, ◌<◌, ◌≤◌, ◌+◌, ◌++◌, ℕ, [], IfOk, IfErr, OnErr, OnOk, List, length, map, slice_index, vec_capacity};
 ghost use Rattle.site_core.specs.Disk.{Files};
 ghost use Rattle.fact_model.specs.declared.fact.Fact as declared;
 ghost use Rattle.view_points.specs.Codes.{names_of};
@@ -8,12 +8,14 @@ ghost use Rattle.attr_dict.specs.Book.{HoldsNamesOf, names_at, shown_names};
 ghost use Rattle.attr_dict.specs.Room.{entries_len, entries_limit};
 ghost use Rattle.cube_schema.specs.Writing.{canonical};
 ghost use Rattle.forest_root.specs.Body.{max_facts};
+ghost use Rattle.page_fmt.specs.Formats.{wide_format};
 ghost use Rattle.forest_store.specs.Held.{AreAccepted, HasNames, IsLive};
 ghost use Rattle.forest_store.specs.Stored.{IsStoreOf, IsWhole};
 ghost use Rattle.forest_refresh.specs.Back.{IsBack};
 ghost use Rattle.forest_refresh.specs.Begun.{HasMoved, IsBegun, IsGoing, IsRefreshOf};
 ghost use Rattle.forest_refresh.specs.Limits.{IsBatchOf, TellsLimit};
-ghost use Rattle.forest_refresh.specs.Next.{AddsNames, AreCoded, next_body};
+ghost use Rattle.forest_refresh.specs.Next.{AddsNames, AreCoded, body_as, next_body};
+ghost use Rattle.delta_agg.specs.Trees.{named_tree};
 ghost use Rattle.forest_refresh.specs.Prepared.{begun_with};
 ghost use Rattle.forest_refresh.specs.Trees.{deltas_by};
 
@@ -23,10 +25,10 @@ use crate::stop::BeginStop;
 use crate::writing::start_trees;
 use attr_dict::Admitted;
 use delta_agg::{Deltas, deltas};
-use fact_batch::Batch;
-use fact_model::Text;
+use fact_batch::{Batch, BatchBuilder, FlatRows};
+use fact_model::{Memory, Text};
 use forest_commit::slot;
-use forest_root::{Body, Store};
+use forest_root::{Body, Store, WIDE};
 use std::alloc::Global;
 
 /// What a batch makes of a store, with all memory that the end of its refresh needs.
@@ -60,6 +62,7 @@ pub(crate) fn prepare(
     ensures moved { (files : Files) → IfOk result (λ p. HasMoved (begun_with store.new p) files) }
     ensures taken { IfOk result (λ p. p.room.taken ≡ 0) }
     ensures last { IfOk result (λ p. p.next.last ≡ last) }
+    ensures format { IfOk result (λ p. p.next.format ≡ store.old.forest.body.format) }
     ensures adds { (accepted : List declared.Fact) (files : Files) → IsStoreOf store.old accepted files
         → IfOk result (λ p. IsRefreshOf (begun_with store.new p) accepted facts files) }
     ensures points { IfOk result (λ p. p.deltas ≡ deltas_by (names_with store.old.dicts facts) store.old.forest.schema facts) }
@@ -108,6 +111,7 @@ fn prepare_with(
     ensures moved { (files : Files) → IfOk result (λ p. HasMoved (begun_with store.now p) files) }
     ensures taken { IfOk result (λ p. p.room.taken ≡ 0) }
     ensures last { IfOk result (λ p. p.next.last ≡ last) }
+    ensures format { IfOk result (λ p. p.next.format ≡ store.now.forest.body.format) }
     ensures adds { (accepted : List declared.Fact) (files : Files) → AreAccepted store.now.forest.schema accepted
         → IsLive store.now.forest.schema store.now.forest.body accepted files
         → ((a : ℕ) → shown_names store.now.dicts store.now.shown.at a ≡ names_of accepted a)
@@ -130,8 +134,9 @@ fn prepare_with(
         facts,
     )?;
     let mut room = take_room(alloc, deltas.len())?;
-    let next = next_body(&forest.body, names_len, count, last, masses);
-    start_trees(forest, &deltas, slot(&next), &mut room);
+    let format = forest.body.format;
+    let next = next_body(&forest.body, format, names_len, count, last, masses);
+    start_trees(forest, &deltas, next.format, slot(&next), &mut room);
     Ok(Prepared {
         deltas,
         names: admitted.names,
@@ -140,12 +145,68 @@ fn prepare_with(
     })
 }
 
-/// The body of the next generation, without numbers of points.
-fn next_body(live: &Body, names_len: u64, facts: u64, last: u64, masses: [u128; 4]) -> Body
-    requires { live.now.generation ≤ max_facts }
-    ensures { result ≡ next_body live.now names_len facts last masses }
+/// Prepares the same facts in pages of the greatest format, behind no batch.
+pub(crate) fn prepare_upgrade(alloc: Global, store: &Store) -> Result<Prepared, Memory>
+    requires narrow { store.now.forest.body.format < wide_format }
+    requires whole { IsWhole store.now }
+
+    ensures prepared { IfOk result (λ p. IsBegun (begun_with store.now p)) }
+    ensures room { IfOk result (λ p. length p.deltas ≤ vec_capacity p.room.rows) }
+    ensures goes { IfOk result (λ p. IsGoing (begun_with store.now p)) }
+    ensures moved { (files : Files) → IfOk result (λ p. HasMoved (begun_with store.now p) files) }
+    ensures taken { IfOk result (λ p. p.room.taken ≡ 0) }
+    ensures next { IfOk result (λ p. p.next ≡ body_as store.now.forest.body wide_format) }
+    ensures adds { (accepted : List declared.Fact) (files : Files) → IsStoreOf store.now accepted files
+        → IfOk result (λ p. IsRefreshOf (begun_with store.now p) accepted [] files) }
+{
+    let forest = &store.forest;
+    let body = &forest.body;
+    let deltas = no_points(alloc, store)?;
+    let mut room = take_room(alloc, deltas.len())?;
+    let next = next_body(
+        body,
+        WIDE,
+        body.names_len,
+        body.facts,
+        body.last,
+        body.masses,
+    );
+    start_trees(forest, &deltas, next.format, slot(&next), &mut room);
+    let names = Text::from_vec(Vec::new(alloc));
+    Ok(Prepared {
+        deltas,
+        names,
+        next,
+        room,
+    })
+}
+
+/// No points for each tree.
+fn no_points(alloc: Global, store: &Store) -> Result<Deltas, Memory>
+    ensures { IfOk result (λ lists.
+        lists ≡ map (named_tree (names_at store.now.dicts) store.now.forest.schema []) store.now.forest.mapping.trees) }
+{
+    let forest = &store.forest;
+    let builder = BatchBuilder::new(alloc, 0, 0);
+    let none = builder.finish();
+    let rows = FlatRows::from_vec(0, 0, Vec::new(alloc));
+    deltas(alloc, &forest.schema, &forest.mapping, rows, none)
+}
+
+/// The body of the next generation in a format, without numbers of points.
+fn next_body(
+    live: &Body,
+    format: u16,
+    names_len: u64,
+    facts: u64,
+    last: u64,
+    masses: [u128; 4],
+) -> Body
+    requires { live.now.generation ≤ max_facts + 1 }
+    ensures { result ≡ next_body live.now format names_len facts last masses }
 {
     Body {
+        format,
         views: live.views,
         schema_len: live.schema_len,
         generation: live.generation + 1,

@@ -1,5 +1,5 @@
 //! A refresh that has begun, and how it ends.
-ghost use Rattle.std.specs.Prelude.{◌≡◌, ◌≢◌, ◌<◌, ◌≤◌, ◌+◌, ◌-◌, ◌%◌, ◌++◌, ℕ, IsTrue, IfOk, IfErr, IfSome, OnOk, List, length, min, slice_index, vec_capacity};
+ghost use Rattle.std.specs.Prelude.{◌≡◌, ◌≢◌, ◌⊎◌, [], ◌<◌, ◌≤◌, ◌+◌, ◌-◌, ◌%◌, ◌++◌, ℕ, IsTrue, IfOk, IfErr, IfSome, OnOk, List, length, min, slice_index, vec_capacity};
 ghost use Rattle.site_core.specs.Disk.{Files};
 ghost use Rattle.site_core.specs.Causes.{HasCause};
 ghost use Rattle.site_core.specs.Moments.{HoldsNow, IsStable, LeavesOnly};
@@ -14,11 +14,11 @@ ghost use Rattle.forest_store.specs.Held.{IsLive, KeepsFacts};
 ghost use Rattle.forest_store.specs.Opened.{IsOpened};
 ghost use Rattle.forest_store.specs.Sides.{page_total};
 ghost use Rattle.forest_store.specs.Stored.{IsStoreOf, IsWhole};
+ghost use Rattle.page_fmt.specs.Formats.{wide_format};
 ghost use Rattle.forest_refresh.specs.Back.{BeginCause, IsBack, IsCut};
-ghost use Rattle.forest_refresh.specs.Begun.{HasMoved, IsBegun, IsGoing, IsNextBody, IsNextStore, IsReady, IsRefreshOf, StandsAt};
+ghost use Rattle.forest_refresh.specs.Begun.{HasMoved, IsBegun, IsGoing, IsNextBody, IsNextStore, IsReady, IsRefreshOf, StandsAt, moves_of};
 ghost use Rattle.forest_refresh.specs.Limits.{IsBatchOf, TellsLimit};
-ghost use Rattle.forest_refresh.specs.Next.{last_behind};
-ghost use Rattle.forest_moves.specs.Forest.{forest_moves};
+ghost use Rattle.forest_refresh.specs.Next.{body_as, last_behind};
 ghost use Rattle.packing.specs.Moves.{KeepsTo};
 ghost use Rattle.merge_pack.specs.Standing.{moves_tried};
 ghost use Rattle.forest_refresh.specs.Prepared.{begun_with};
@@ -26,7 +26,7 @@ ghost use Rattle.forest_refresh.specs.Refreshed.{IsNoDamage, KeepsEither, NamesP
 ghost use Rattle.forest_refresh.specs.Trees.{AreAllWhole, TellsFirstDamage, deltas_by};
 
 use crate::committing::{commit, with_body};
-use crate::preparing::{Prepared, prepare};
+use crate::preparing::{Prepared, prepare, prepare_upgrade};
 use crate::room::Room;
 use crate::stop::{BeginFault, BeginStop, RefreshStop};
 use crate::writing::{advance, view_counts};
@@ -89,6 +89,7 @@ impl Refresh {
             → LeavesOnly (T.disk site.old) (T.disk site.new) (λ told files.
             (told ≡ (T.disk site.old).told) × KeepsFacts store.forest.schema accepted store.forest.body.last files) }
         ensures last { IfOk result (λ refresh. refresh.next.last ≡ last_behind store.forest.body.last number) }
+        ensures format { IfOk result (λ refresh. refresh.next.format ≡ store.forest.body.format) }
 
         ensures ready { IsTrue T.tells → IfOk result (λ refresh. IsReady refresh (T.disk site.new)) }
         ensures goes { IfOk result (λ refresh. IsGoing refresh × (refresh.progress.taken ≡ 0)) }
@@ -107,6 +108,46 @@ impl Refresh {
         match prepare(alloc, &mut store, facts, last) {
             Ok(prepared) => shut_gate(site, store, prepared),
             Err(why) => Err(BeginFault { store, why }),
+        }
+    }
+
+    /// Begins an upgrade: the same facts, of a warehouse in an earlier format, in pages of the greatest one. It takes all memory that is needed
+    /// to the end, and then shuts the gate of the next generation. `Memory` comes before any call on a file. It goes on as a refresh of no
+    /// batch, and keeps the number of the last batch. A stop at any moment leaves the facts.
+    pub fn begin_upgrade<T: Site>(
+        alloc: Global,
+        site: &mut T,
+        store: Store,
+    ) -> Result<Refresh, BeginFault>
+        requires narrow { store.forest.body.format < wide_format }
+        requires whole { IsWhole store }
+        requires opened { IsTrue T.tells → IsOpened store.forest.body (T.disk site.old) }
+
+        ensures begun { IsTrue T.tells → (accepted : List declared.Fact) → IsStoreOf store accepted (T.disk site.old).files
+            → IfOk result (λ refresh. IsRefreshOf refresh accepted [] (T.disk site.new).files) }
+        ensures any_moment { IsTrue T.tells → (accepted : List declared.Fact) → HoldsNow (IsStoreOf store accepted) (T.disk site.old)
+            → LeavesOnly (T.disk site.old) (T.disk site.new) (λ told files.
+            (told ≡ (T.disk site.old).told) × KeepsFacts store.forest.schema accepted store.forest.body.last files) }
+        ensures next { IfOk result (λ refresh. refresh.next ≡ body_as store.forest.body wide_format) }
+        ensures why { IfErr result (λ fault. (fault.why ≡ BeginStop.Memory) ⊎ (fault.why ≡ BeginStop.Disk)) }
+
+        ensures ready { IsTrue T.tells → IfOk result (λ refresh. IsReady refresh (T.disk site.new)) }
+        ensures goes { IfOk result (λ refresh. IsGoing refresh × (refresh.progress.taken ≡ 0)) }
+        ensures stable { IsTrue T.tells → OnOk result (IsStable (T.disk site.new)) }
+        // The root file alone is written.
+        ensures others { IsTrue T.tells → OnOk result ((file : ℕ) → file ≢ 0 → (T.disk site.new).files file ≡ (T.disk site.old).files file) }
+        ensures forest { IfOk result (λ refresh. refresh.store.forest ≡ store.forest) }
+        ensures back { IfErr result (λ fault. IsBack store fault.store) }
+        ensures untouched { IfErr result (λ fault. fault.why ≢ BeginStop.Disk → site.new ≡ site.old) }
+        ensures told { IsTrue T.tells → (T.disk site.new).told ≡ (T.disk site.old).told }
+        ensures calls { CallsOnly T.Site BeginCause 1 1 site.old site.new result }
+    {
+        match prepare_upgrade(alloc, &store) {
+            Ok(upgrade) => shut_gate(site, store, upgrade),
+            Err(_) => Err(BeginFault {
+                store,
+                why: BeginStop::Memory,
+            }),
         }
     }
 
@@ -143,7 +184,7 @@ impl Refresh {
 
         ensures stands { IsTrue T.tells → (accepted batch : List declared.Fact) → IsRefreshOf self.old accepted batch (T.disk site.old).files
             → IfOk result (λ made. StandsAt self.new accepted batch (T.disk site.new).files
-            × (made ≡ min moves (length (forest_moves self.old.store.forest.schema accepted batch) - self.old.progress.taken))) }
+            × (made ≡ min moves (length (moves_of self.old accepted batch) - self.old.progress.taken))) }
         ensures taken { IfOk result (λ made. self.new.progress.taken ≡ self.old.progress.taken + made) }
         ensures same { self.new ≡ record self.old { progress = self.new.progress } }
         ensures live { IsTrue T.tells → (accepted batch : List declared.Fact) → HoldsNow (IsRefreshOf self.old accepted batch) (T.disk site.old)
@@ -154,7 +195,7 @@ impl Refresh {
         ensures undamaged { IsTrue T.tells → (accepted batch : List declared.Fact) → IsRefreshOf self.old accepted batch (T.disk site.old).files
             → IfErr result IsNoDamage }
         ensures cost { IsTrue T.tells → (accepted batch : List declared.Fact) → IsRefreshOf self.old accepted batch (T.disk site.old).files
-            → KeepsTo (forest_moves self.old.store.forest.schema accepted batch) self.old.progress.taken (self.old.progress.taken + moves_tried moves result)
+            → KeepsTo (moves_of self.old accepted batch) self.old.progress.taken (self.old.progress.taken + moves_tried moves result)
             (T.reads site.old, T.writes site.old) (T.reads site.new, T.writes site.new) }
 
         // Whatever the files hold.
@@ -173,6 +214,7 @@ impl Refresh {
             site,
             &store.forest,
             &self.deltas,
+            self.next.format,
             side,
             moves,
             &mut self.room,
@@ -198,7 +240,7 @@ impl Refresh {
             → LeavesOnly (T.disk site.old) (T.disk site.new) (λ told files.
             (told ≡ (T.disk site.old).told) × KeepsEither self.store.forest.schema accepted self.store.forest.body.last (accepted ++ batch) self.next.last files) }
         ensures cost { IsTrue T.tells → (accepted batch : List declared.Fact) → IsRefreshOf self accepted batch (T.disk site.old).files
-            → KeepsTo (forest_moves self.store.forest.schema accepted batch) self.progress.taken (length (forest_moves self.store.forest.schema accepted batch))
+            → KeepsTo (moves_of self accepted batch) self.progress.taken (length (moves_of self accepted batch))
             (T.reads site.old, T.writes site.old + 3) (T.reads site.new, T.writes site.new) }
 
         // Whatever the files hold.
@@ -240,7 +282,7 @@ impl Refresh {
             → LeavesOnly (T.disk site.old) (T.disk site.new) (λ told files.
             (told ≡ (T.disk site.old).told) × KeepsEither self.old.store.forest.schema accepted self.old.store.forest.body.last (accepted ++ batch) self.old.next.last files) }
         ensures cost { IsTrue T.tells → (accepted batch : List declared.Fact) → IsRefreshOf self.old accepted batch (T.disk site.old).files
-            → KeepsTo (forest_moves self.old.store.forest.schema accepted batch) self.old.progress.taken (length (forest_moves self.old.store.forest.schema accepted batch))
+            → KeepsTo (moves_of self.old accepted batch) self.old.progress.taken (length (moves_of self.old accepted batch))
             (T.reads site.old, T.writes site.old + 3) (T.reads site.new, T.writes site.new) }
         ensures joined { IsTrue T.tells → OnOk result (AreAllWhole self.old.store.forest (T.disk site.old).files self.old.deltas) }
         ensures spared { IsTrue T.tells → IfErr result (λ stop. stop ≢ RefreshStop.Disk → SparesLive self.old.store.forest.body (T.disk site.old) (T.disk site.new)) }

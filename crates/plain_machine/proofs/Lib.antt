@@ -1,4 +1,5 @@
 pub mod Acts
+pub mod Formats
 pub mod Histories
 pub mod Outcomes
 pub mod Stages

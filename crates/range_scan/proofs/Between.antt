@@ -119,7 +119,7 @@ filter-all p (x ∷ xs) d h =
     ap (λ b. cond b (x ∷ filter p xs) (filter p xs)) (h 0 (omega arith)) ∙ ap (λ l. x ∷ l) (filter-all p xs d (λ k lt. h (suc k) (omega (arith, lt))))
 
 module _ (shape : Shape) (region : Region) (es : List Entry) (are : AreEntries shape es) where
-  module _ (d : Entry) (some : 0 < length es) (tell : TellAll (get_or es 0 d).point (get_or es (length es - 1) d).point region) (k : ℕ) (lt : k < length es) where
+  module _ (d : Entry) (some : 0 < length es) (tell : TellAll shape.wide (get_or es 0 d).point (get_or es (length es - 1) d).point region) (k : ℕ) (lt : k < length es) where
     abbrev first : Entry
     first = get_or es 0 d
 
@@ -173,10 +173,10 @@ module _ (shape : Shape) (region : Region) (es : List Entry) (are : AreEntries s
     }
 
   -- the first and the last entry are found at their places
-  pub all-inside : (f l : Entry) (at : ℕ) → f ≡ get_or es 0 f → l ≡ get_or es at l → at + 1 ≡ length es → TellAll f.point l.point region → filter (is_inside region) es ≡ es
+  pub all-inside : (f l : Entry) (at : ℕ) → f ≡ get_or es 0 f → l ≡ get_or es at l → at + 1 ≡ length es → TellAll shape.wide f.point l.point region → filter (is_inside region) es ≡ es
   all-inside f l at f-is l-is at-is tell =
       let some : 0 < length es = omega (arith, at-is) in
       let at-last : at ≡ length es - 1 = omega (arith, at-is) in
       let last-is : l ≡ get_or es (length es - 1) f = l-is ∙ (get_or_default es at l f (omega (arith, at-is)) ∙ ap (λ n. get_or es n f) at-last) in
-      let told = subst (λ (e : Entry). TellAll (get_or es 0 f).point e.point region) last-is (subst (λ (e : Entry). TellAll e.point l.point region) f-is tell) in
+      let told = subst (λ (e : Entry). TellAll shape.wide (get_or es 0 f).point e.point region) last-is (subst (λ (e : Entry). TellAll shape.wide e.point l.point region) f-is tell) in
       filter-all (is_inside region) es f (λ k lt. inside-from region (get_or es k f) (lies-inside f some told k lt))

@@ -42,7 +42,7 @@ module _ (shape : Shape) (bytes : List ℕ) where
 
     held-is : (number : ℕ) (page : PointPage) → IsLawful shape number (content_of page) → held shape (page_bytes shape page) (content_head shape (content_of page)).node ≡ page
     held-is number (Leaf es) h = ap Leaf (leaf-entries shape (leaf_arity es) es h)
-    held-is number (Inner cs) h = ap Inner (inner-children shape.dims cs is.dims h.stored h.count)
+    held-is number (Inner cs) h = ap Inner (inner-children shape cs is.dims h.stored h.count)
 
     module _ (number : ℕ) (page : PointPage) (lawful : IsLawful shape number (content_of page)) (at : page_at bytes number ≡ page_bytes shape page) where
       accepted : taken shape number (page_at bytes number) ≡ Ok (content_head shape (content_of page))

@@ -51,7 +51,7 @@ page-falls shape bytes region n = by_page (taken shape n page) refl
 
     by_node : (head : Head) (node : Node) → head.node ≡ node → taken shape n page ≡ Ok head → AllBelow n (below region (held shape page node))
     by_node head nodes.Leaf is e = tt
-    by_node head nodes.Inner is e = met-falls region n (children page) (children-fall shape n page head e is)
+    by_node head nodes.Inner is e = met-falls region n (children shape page) (children-fall shape n page head e is)
 
     by_page : (r : Result Head BadPage) → taken shape n page ≡ r → AllBelow n (below region (held_if shape page r))
     by_page (Ok head) e = by_node head head.node refl e

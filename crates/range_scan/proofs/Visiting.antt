@@ -54,10 +54,10 @@ module _ (tree : Place) (bytes : List ℕ) (number : ℕ) (page : List ℕ) (is 
   sound all = record { whole = is.whole; lawful = subst (λ (p : List ℕ). IsOk (taken tree.shape number p)) is.bytes_are is-lawful; within = all }
 
   module _ (node : head.node ≡ nodes.Leaf) where
-    leaf-is : page_of tree.shape bytes number ≡ Leaf (entries tree.shape.measures page)
+    leaf-is : page_of tree.shape bytes number ≡ Leaf (entries tree.shape page)
     leaf-is = page-is ∙ ap (held tree.shape page) node
 
-    pub leaf-hits : (region : Region) → filter (is_inside region) (entries tree.shape.measures page) ≡ hits region (page_of tree.shape bytes number)
+    pub leaf-hits : (region : Region) → filter (is_inside region) (entries tree.shape page) ≡ hits region (page_of tree.shape bytes number)
     leaf-hits region = ap (hits region) (sym leaf-is)
 
     pub leaf-visited : (region : Region) (ahead : List ℕ) → IsVisited tree region bytes number ahead ahead
@@ -67,14 +67,14 @@ module _ (tree : Place) (bytes : List ℕ) (number : ℕ) (page : List ℕ) (is 
     }
 
   module _ (node : head.node ≡ nodes.Inner) where
-    inner-is : page_of tree.shape bytes number ≡ Inner (children page)
+    inner-is : page_of tree.shape bytes number ≡ Inner (children tree.shape page)
     inner-is = page-is ∙ ap (held tree.shape page) node
 
     -- an inner page has no points
     pub inner-hits : (region : Region) (es : List Entry) → es ≡ es ++ hits region (page_of tree.shape bytes number)
     inner-hits region es = sym (append-nil es) ∙ ap (λ p. es ++ hits region p) (sym inner-is)
 
-    pub inner-visited : (region : Region) (ahead next : List ℕ) → All (λ (c : Child). tree.first ≤ c.page) (children page) → reverse next ≡ met region (children page) ++ reverse ahead
+    pub inner-visited : (region : Region) (ahead next : List ℕ) → All (λ (c : Child). tree.first ≤ c.page) (children tree.shape page) → reverse next ≡ met region (children tree.shape page) ++ reverse ahead
         → IsVisited tree region bytes number ahead next
     inner-visited region ahead next all goes_on = record {
       sound = sound (subst (λ (p : PointPage). All (λ (c : Child). tree.first ≤ c.page) (children_in p)) (sym inner-is) all);
@@ -82,7 +82,7 @@ module _ (tree : Place) (bytes : List ℕ) (number : ℕ) (page : List ℕ) (is 
     }
 
     -- a child before the tree's first page is a fault
-    pub inner-unsound : (All (λ (c : Child). tree.first ≤ c.page) (children page) → ⊥) → IsSound tree bytes number → ⊥
+    pub inner-unsound : (All (λ (c : Child). tree.first ≤ c.page) (children tree.shape page) → ⊥) → IsSound tree bytes number → ⊥
     inner-unsound before is_sound = before (subst (λ (p : PointPage). All (λ (c : Child). tree.first ≤ c.page) (children_in p)) inner-is is_sound.within)
 
 -- ---- a page that the cache does not give

@@ -17,8 +17,8 @@ use Rattle.range_scan.specs.Meeting.{is_inside, is_met}
 
 -- the entries or the children that a page of this kind holds
 abbrev pub held : Shape → List ℕ → Node → PointPage
-held shape page nodes.Leaf = Leaf (entries shape.measures page)
-held shape page nodes.Inner = Inner (children page)
+held shape page nodes.Leaf = Leaf (entries shape page)
+held shape page nodes.Inner = Inner (children shape page)
 
 -- a page that is refused holds nothing
 abbrev pub held_if : Shape → List ℕ → Result Head BadPage → PointPage

@@ -1,7 +1,7 @@
 //! Whether a leaf lies whole in the region, by its first and its last point.
 
 ghost use Rattle.std.specs.Prelude.{◌≡◌, ◌≢◌, ◌↔◌, ◌<◌, ◌≤◌, ℕ, IsTrue, filter, length, slice_index};
-ghost use Rattle.page_fmt.specs.Lawful.{HasEntries};
+ghost use Rattle.page_fmt.specs.Lawful.{HasEntries, IsCoordinate};
 ghost use Rattle.page_fmt.specs.Taking.{entries, page_count};
 ghost use Rattle.page_fmt.specs.Writing.{AreEntries};
 ghost use Rattle.range_scan.specs.Ends.{DoEndsTellAll, IsOpenBefore, TellAll};
@@ -15,23 +15,23 @@ pub(crate) fn is_whole(page: &[u8; PAGE], shape: &Shape, count: u16, region: &Re
     requires page { HasEntries shape.now page.now }
     requires said { count ≡ page_count page.now }
     requires some { 0 < count }
-    requires count { count ≡ length (entries shape.now.measures page.now) }
-    requires holds { AreEntries shape.now (entries shape.now.measures page.now) }
+    requires count { count ≡ length (entries shape.now page.now) }
+    requires holds { AreEntries shape.now (entries shape.now page.now) }
 
-    ensures whole { IsTrue result → filter (is_inside region.now) (entries shape.now.measures page.now) ≡ entries shape.now.measures page.now }
-    ensures told { IsTrue result ↔ DoEndsTellAll (entries shape.now.measures page.now) region.now }
+    ensures whole { IsTrue result → filter (is_inside region.now) (entries shape.now page.now) ≡ entries shape.now page.now }
+    ensures told { IsTrue result ↔ DoEndsTellAll shape.now.wide (entries shape.now page.now) region.now }
 {
     let first = lent_entry(page, shape, 0);
     let last = lent_entry(page, shape, count as usize - 1);
-    tell_all(&first.point(), &last.point(), region)
+    tell_all(&first.point(), &last.point(), region, shape.wide)
 }
 
 /// Whether all points between two in point order lie in the region. They have the coordinates that both have past the last
 /// dimension in which the two differ, and there one between theirs; before it they may have any.
-fn tell_all(first: &Point, last: &Point, region: &Region) -> bool
-    ensures { IsTrue result ↔ TellAll first.now last.now region.now }
+fn tell_all(first: &Point, last: &Point, region: &Region, wide: bool) -> bool
+    ensures { IsTrue result ↔ TellAll wide first.now last.now region.now }
 {
-    inside(first, region) && inside(last, region) && is_open_before(region, last_apart(first, last))
+    inside(first, region) && inside(last, region) && is_open_before(region, wide, last_apart(first, last))
 }
 
 /// The last dimension in which two points differ, and the first one where they do not.
@@ -50,14 +50,23 @@ fn last_apart(first: &Point, last: &Point) -> usize
 }
 
 /// Whether the region holds every used coordinate of a page, in each dimension before this one.
-fn is_open_before(region: &Region, dimension: usize) -> bool
+fn is_open_before(region: &Region, wide: bool, dimension: usize) -> bool
     requires { dimension ≤ 8 }
-    ensures { IsTrue result ↔ IsOpenBefore dimension region.now }
+    ensures { IsTrue result ↔ IsOpenBefore wide dimension region.now }
 {
+    let most = greatest_coordinate(wide);
     for i in 0..dimension {
-        if region.bounds.low[i] > 1 || region.bounds.high[i] < u64::from(u32::MAX) {
+        if region.bounds.low[i] > 1 || region.bounds.high[i] < most {
             return false;
         }
     }
     true
+}
+
+/// The greatest coordinate that a page of this width holds.
+fn greatest_coordinate(wide: bool) -> u64
+    ensures fits { IsCoordinate wide result }
+    ensures most { (c : ℕ) → IsCoordinate wide c → c ≤ result }
+{
+    if wide { u64::MAX } else { u64::from(u32::MAX) }
 }

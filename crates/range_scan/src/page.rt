@@ -65,11 +65,11 @@ fn take_points<G: Taker>(
     requires page { HasEntries query.now.tree.now.shape page.now }
     requires said { count ≡ page_count page.now }
     requires some { 0 < count }
-    requires count { count ≡ length (entries query.now.tree.now.shape.measures page.now) }
-    requires holds { AreEntries query.now.tree.now.shape (entries query.now.tree.now.shape.measures page.now) }
+    requires count { count ≡ length (entries query.now.tree.now.shape page.now) }
+    requires holds { AreEntries query.now.tree.now.shape (entries query.now.tree.now.shape page.now) }
 
     ensures { (start : G) (es : List points.Entry) → G.was_given start es taker.old → OnOk result (G.was_given start
-        (es ++ filter (is_inside query.now.region.now) (entries query.now.tree.now.shape.measures page.now)) taker.new) }
+        (es ++ filter (is_inside query.now.region.now) (entries query.now.tree.now.shape page.now)) taker.new) }
 {
     if is_whole(page, &query.tree.shape, count, query.region) {
         return take_all(page, &query.tree.shape, count, taker);
@@ -86,10 +86,10 @@ fn take_all<G: Taker>(
 ) -> Result<(), Memory>
     requires page { HasEntries shape.now page.now }
     requires said { count ≡ page_count page.now }
-    requires count { count ≡ length (entries shape.now.measures page.now) }
+    requires count { count ≡ length (entries shape.now page.now) }
 
     ensures { (start : G) (es : List points.Entry) → G.was_given start es taker.old
-        → OnOk result (G.was_given start (es ++ entries shape.now.measures page.now) taker.new) }
+        → OnOk result (G.was_given start (es ++ entries shape.now page.now) taker.new) }
 {
     for index in 0..count as usize {
         taker.take(&lent_entry(page, shape, index))?;
@@ -107,10 +107,10 @@ fn take_inside<G: Taker>(
 ) -> Result<(), Memory>
     requires page { HasEntries query.now.tree.now.shape page.now }
     requires said { count ≡ page_count page.now }
-    requires count { count ≡ length (entries query.now.tree.now.shape.measures page.now) }
+    requires count { count ≡ length (entries query.now.tree.now.shape page.now) }
 
     ensures { (start : G) (es : List points.Entry) → G.was_given start es taker.old → OnOk result (G.was_given start
-        (es ++ filter (is_inside query.now.region.now) (entries query.now.tree.now.shape.measures page.now)) taker.new) }
+        (es ++ filter (is_inside query.now.region.now) (entries query.now.tree.now.shape page.now)) taker.new) }
 {
     for index in 0..count as usize {
         let entry = lent_entry(page, &query.tree.shape, index);
@@ -131,14 +131,14 @@ fn take_children(
 ) -> Result<bool, Memory>
     requires page { HasChildren query.now.tree.now.shape page.now }
     requires said { count ≡ page_count page.now }
-    requires count { count ≡ length (children page.now) }
-    requires below { All (λ (c : Child). c.page < query.now.tree.now.first + query.now.tree.now.pages) (children page.now) }
+    requires count { count ≡ length (children query.now.tree.now.shape page.now) }
+    requires below { All (λ (c : Child). c.page < query.now.tree.now.first + query.now.tree.now.pages) (children query.now.tree.now.shape page.now) }
     requires ahead { AreAhead query.now.tree.now ahead.old.items }
 
     ensures within { IfOk result (λ taken. IsTrue taken
-        ↔ All (λ (c : Child). query.now.tree.now.first ≤ c.page) (children page.now)) }
+        ↔ All (λ (c : Child). query.now.tree.now.first ≤ c.page) (children query.now.tree.now.shape page.now)) }
     ensures goes_on { IfOk result (λ taken. IsTrue taken
-        → reverse ahead.new.items ≡ met query.now.region.now (children page.now) ++ reverse ahead.old.items) }
+        → reverse ahead.new.items ≡ met query.now.region.now (children query.now.tree.now.shape page.now) ++ reverse ahead.old.items) }
     ensures ahead { OnOk result (AreAhead query.now.tree.now ahead.new.items) }
 {
     let count = count as usize;

@@ -21,15 +21,18 @@ use Rattle.view_points.specs.Entries.{entry_of}
 use Rattle.view_points.specs.Points.{Names, PlacedCell, View, points_by}
 use Rattle.view_points.proofs.Members.{every-from_All, every-map, filter-same}
 use Rattle.attr_dict.specs.Book.{shown_names}
-use Rattle.page_fmt.specs.Lawful.{IsNarrow}
+use Rattle.page_fmt.specs.Formats.{wide_format}
+use Rattle.page_fmt.specs.Lawful.{IsCoordinate}
+use Rattle.page_fmt.specs.Pages.{width}
 use Rattle.page_fmt.specs.Writing.{FitsLeaf}
+use Rattle.page_fmt.proofs.Widths.{fits-wide}
 use Rattle.leaf_points.specs.Storable.{AreStorable}
 use Rattle.leaf_points.proofs.Leaves.{entries-fit}
 use Rattle.forest_root.specs.declared.forest.Store.{Store}
 use Rattle.forest_pages.specs.Forest.{tree_entries, view_entries}
 use Rattle.forest_store.specs.Held.{AreAccepted}
 use Rattle.forest_store.proofs.Schemas.{few_measures, view-short}
-use Rattle.forest_store.proofs.Storable.{storable}
+use Rattle.forest_store.proofs.Storable.{any-wide, storable}
 use Rattle.forest_store.proofs.ViewReads.{points-view}
 use Rattle.range_scan.specs.Meeting.{is_inside}
 use Rattle.range_scan.proofs.Tests.{inside-from, inside-told}
@@ -67,12 +70,13 @@ same-truth false true there back = absurd (true≢false (sym (back refl)))
 
 -- ---- points of leaves
 
-low-coordinates : (at : List ℕ) → ((i : ℕ) → IsNarrow (slice_index at i)) → AllByRecursion (λ c. c ≤ top_coord) at
-low-coordinates [] narrow = tt
-low-coordinates (c ∷ at) narrow = let low = narrow 0 in (omega (arith, low), low-coordinates at (λ i. narrow (suc i)))
+low-coordinates : (at : List ℕ) → ((i : ℕ) → IsCoordinate true (slice_index at i)) → AllByRecursion (λ c. c ≤ top_coord) at
+unfolding width
+low-coordinates [] each = tt
+low-coordinates (c ∷ at) each = let low = each 0 in (omega (arith, low), low-coordinates at (λ i. each (suc i)))
 
 placed : (shape : Shape) (e : Entry) → FitsLeaf shape e → IsPlaced e.point
-placed shape e fits = record { point = fits.point; eight = fits.eight; coordinates = low-coordinates e.point.at fits.narrow }
+placed shape e fits = record { point = fits.point; eight = fits.eight; coordinates = low-coordinates e.point.at (λ i. fits-wide shape.wide (slice_index e.point.at i) (fits.narrow i)) }
 
 -- ---- a view's points
 
@@ -114,16 +118,16 @@ module _ (store : Store) (view : ℕ) (slice : Slice) where
     low = covers.0
 
     abbrev shape : Shape
-    shape = record { dims = length attrs; measures = measure_count schema }
+    shape = record { dims = length attrs; measures = measure_count schema; wide = true }
 
     same-names : names_of accepted ≡ shown
     same-names = λ i a. sym (named a) i
 
-    stored : AreStorable (names_of accepted) (measure_count schema) accepted
-    stored = storable schema accepted store.forest.lawful fine
+    stored : AreStorable wide_format (names_of accepted) (measure_count schema) accepted
+    stored = storable schema accepted store.forest.lawful fine wide_format (any-wide accepted)
 
     fit : All (FitsLeaf shape) (view_entries schema accepted attrs)
-    fit = entries-fit shape (names_of accepted) attrs accepted (let short = view-short schema store.forest.lawful view low in omega (arith, short)) (few_measures schema store.forest.lawful) stored
+    fit = entries-fit shape (names_of accepted) attrs accepted refl (let short = view-short schema store.forest.lawful view low in omega (arith, short)) (few_measures schema store.forest.lawful) stored
 
     module _ (agree : (p : Point) → IsPlaced p → IsInside p where_found ↔ IsTrue (inside intervals p.at)) where
       same-test : (e : Entry) → FitsLeaf shape e → is_inside where_found e ≡ inside intervals e.point.at
@@ -146,4 +150,4 @@ module _ (store : Store) (view : ℕ) (slice : Slice) where
           ∙ (filter-map (λ (e : Entry). inside intervals e.point.at) entry_of (points_by (names_of accepted) (measure_count schema) attrs accepted)
           ∙ (ap (λ (names : Names). map entry_of (filter (λ (e : PlacedCell). inside intervals e.0) (points_by names (measure_count schema) attrs accepted))) same-names
           ∙ shown-inside store.dicts store.shown.at attrs slice accepted (answers store view slice accepted fine named agrees covers) (measure_count schema)
-          (subst (λ (names : Names). AreStorable names (measure_count schema) accepted) same-names stored))))))
+          (subst (λ (names : Names). AreStorable wide_format names (measure_count schema) accepted) same-names stored))))))

@@ -53,7 +53,7 @@ pub fn answer<'a, T: Site>(
     ensures cost { IsTrue T.tells → Agrees (T.disk site.old).files pages.old
         → (accepted : List facts.Fact) → IsStoreOf store.now accepted (T.disk site.old).files
         → (view : ℕ) → IsRoute store.now.forest.schema.views (body_counts store.now.forest.schema accepted) slice.now view
-        → T.reads site.new ≤ T.reads site.old + length (visits_over store.now.forest.schema accepted slice.now view) }
+        → T.reads site.new ≤ T.reads site.old + length (visits_over store.now.forest.body.format store.now.forest.schema accepted slice.now view) }
 
     // The kept pages.
     ensures saves { IsTrue T.tells → Agrees (T.disk site.old).files pages.old

@@ -13,7 +13,8 @@ returns-in-Ok-clause-live g c = λ t accepted is.
     subst (λ k. is.slot ≢ k) (sym c.slot.ensures) (other_slot c.args.store.forest.body c.args.prepared.next c.args.prepared.names c.requires.begun.next is.slot is.at.decodes.1.within.side) in
     record {
       slot = is.slot;
-      at = shut_keeps (held c.args.store.forest.schema accepted c.args.store.forest.body.last) is.slot c.slot.result c.args.store.forest.body _ _ low other is.at (c.in-Ok.ensures.disk t).files;
+      fits = is.fits;
+      at = shut_keeps (held c.args.store.forest.body.format c.args.store.forest.schema accepted c.args.store.forest.body.last) is.slot c.slot.result c.args.store.forest.body _ _ low other is.at (c.in-Ok.ensures.disk t).files;
     }
 
 pub returns-in-Ok-clause-any_moment : goal.returns-in-Ok-clause-any_moment
@@ -22,7 +23,7 @@ returns-in-Ok-clause-any_moment g c = λ t accepted now.
     let live = c.args.store.forest.body in
     let is = now.read in
     let other : is.slot ≢ c.slot.result = subst (λ k. is.slot ≢ k) (sym c.slot.ensures) (other_slot live c.args.prepared.next c.args.prepared.names c.requires.begun.next is.slot is.at.decodes.1.within.side) in
-    live_facts schema accepted live.last is.slot live _ _ (c.begin.ensures.any_moment t (held schema accepted live.last) is.slot live other (live_now schema live accepted _ now))
+    live_facts schema accepted live.last is.slot live _ _ is.fits (c.begin.ensures.any_moment t (held live.format schema accepted live.last) is.slot live other (live_now schema live accepted _ now))
 
 pub returns-in-Err-clause-any_moment : goal.returns-in-Err-clause-any_moment
 returns-in-Err-clause-any_moment g c = λ t accepted now.
@@ -30,7 +31,7 @@ returns-in-Err-clause-any_moment g c = λ t accepted now.
     let live = c.args.store.forest.body in
     let is = now.read in
     let other : is.slot ≢ c.slot.result = subst (λ k. is.slot ≢ k) (sym c.slot.ensures) (other_slot live c.args.prepared.next c.args.prepared.names c.requires.begun.next is.slot is.at.decodes.1.within.side) in
-    live_facts schema accepted live.last is.slot live _ _ (c.begin.ensures.any_moment t (held schema accepted live.last) is.slot live other (live_now schema live accepted _ now))
+    live_facts schema accepted live.last is.slot live _ _ is.fits (c.begin.ensures.any_moment t (held live.format schema accepted live.last) is.slot live other (live_now schema live accepted _ now))
 
 pub begin-requires-clause-root : goal.begin-requires-clause-root
 begin-requires-clause-root g c = λ t. (c.requires.opened t).stable

@@ -1,7 +1,7 @@
 use Rattle.std.proofs.Common.{◌≡◌, ◌≤◌, inl, inr, ℕ, refl, subst, arith}
 use Rattle.std.specs.Prelude.{slice_index}
 use Rattle.std.proofs.lemmas.Bool.{cases_lt}
-use Rattle.page_fmt.specs.Lawful.{IsNarrow}
+use Rattle.page_fmt.specs.Lawful.{IsCoordinate}
 use Rattle.range_scan.proofs.ends.is_open_before.Goals.{then-region-i-gt1-via-then-region-i-gt1, then-region-i-gt1-via-else-region-i-gt1+then-region-i}
 use Rattle.range_scan.proofs.ends.is_open_before.Goals as goal
 
@@ -13,7 +13,7 @@ returns-then-region-i-gt1 c = (
       elim c.then-region-i-gt1.branch [
         | then-region-i-gt1-via-then-region-i-gt1 w ↦ absurd (omega (arith, here.0, w.if-region-i-gt1.true))
         | then-region-i-gt1-via-else-region-i-gt1+then-region-i w ↦
-            absurd (omega (arith, here.1 4294967295 (omega arith), w.from.ensures, w.if-region-i.true))
+            absurd (omega (arith, here.1 c.greatest_coordinate-most.result c.greatest_coordinate-most.ensures.fits, w.if-region-i.true))
       ],
 )
 
@@ -23,8 +23,8 @@ loop-i-preserved c = λ i below. elim (cases_lt i c.loop-i.i) [
   | inr past ↦
       let is : c.loop-i.i ≡ i = omega (arith, below, past) in
       let bounds = c.args.region.now.bounds in
-      subst (λ j. (slice_index bounds.low j ≤ 1) × ((n : ℕ) → IsNarrow n → n ≤ slice_index bounds.high j)) is
-      (c.if-region-i-gt1.false, λ n narrow. omega (arith, narrow, c.if-region-i.false, c.from.ensures))
+      subst (λ j. (slice_index bounds.low j ≤ 1) × ((n : ℕ) → IsCoordinate c.args.wide n → n ≤ slice_index bounds.high j)) is
+      (c.if-region-i-gt1.false, λ n fits. omega (arith, c.greatest_coordinate-most.ensures.most n fits, c.if-region-i.false))
 ]
 
 pub returns : goal.returns

@@ -3,4 +3,4 @@ use Rattle.range_scan.proofs.ends.is_open_before.Given as goal
 
 -- in the first dimensions the region holds every used coordinate
 abbrev pub invariant-loop-i : goal.invariant-loop-i
-invariant-loop-i l = IsOpenBefore l.i l.region
+invariant-loop-i l = IsOpenBefore l.wide l.i l.region

@@ -11,15 +11,15 @@ pub returns-clause-whole : goal.returns-clause-whole
 returns-clause-whole c = λ told.
     let shape = c.args.shape.now in
     let region = c.args.region.now in
-    let last = subst (λ (p : Point). TellAll c.point.result p region) c.point-2.ensures (c.tell_all.ensures.0 told) in
-    let ends = subst (λ (p : Point). TellAll p c.lent_entry-last.result.point region) c.point.ensures last in
-    all-inside shape region (entries shape.measures c.args.page.now) c.requires.holds c.lent_entry-first.result c.lent_entry-last.result (c.args.count - 1)
+    let last = subst (λ (p : Point). TellAll c.args.shape.now.wide c.point.result p region) c.point-2.ensures (c.tell_all.ensures.0 told) in
+    let ends = subst (λ (p : Point). TellAll c.args.shape.now.wide p c.lent_entry-last.result.point region) c.point.ensures last in
+    all-inside shape region (entries shape c.args.page.now) c.requires.holds c.lent_entry-first.result c.lent_entry-last.result (c.args.count - 1)
     c.lent_entry-first.ensures c.lent_entry-last.ensures (omega (arith, c.requires.count, c.requires.some)) ends
 
 pub returns-clause-told : goal.returns-clause-told
 returns-clause-told c =
     let region = c.args.region.now in
-    let es = entries c.args.shape.now.measures c.args.page.now in
+    let es = entries c.args.shape.now c.args.page.now in
     let end : c.args.count - 1 ≡ length es - 1 = omega (arith, c.requires.count) in
     let within : c.args.count - 1 < length es = omega (arith, c.requires.count, c.requires.some) in
     let e = c.lent_entry-first.result in
@@ -29,8 +29,8 @@ returns-clause-told c =
     let last : (d : Entry) → c.point-2.result ≡ (get_or es (length es - 1) d).point
     = λ d. c.point-2.ensures ∙ ap (λ (g : Entry). g.point)
     (c.lent_entry-last.ensures ∙ (get_or_default es (c.args.count - 1) f d within ∙ ap (λ i. get_or es i d) end)) in (
-      λ told. λ d. subst (λ (p : Point). TellAll p (get_or es (length es - 1) d).point region) (first d)
-          (subst (λ (p : Point). TellAll c.point.result p region) (last d) (c.tell_all.ensures.0 told)),
-      λ tells. c.tell_all.ensures.1 (subst (λ (p : Point). TellAll c.point.result p region) (sym (last e))
-          (subst (λ (p : Point). TellAll p (get_or es (length es - 1) e).point region) (sym (first e)) (tells e))),
+      λ told. λ d. subst (λ (p : Point). TellAll c.args.shape.now.wide p (get_or es (length es - 1) d).point region) (first d)
+          (subst (λ (p : Point). TellAll c.args.shape.now.wide c.point.result p region) (last d) (c.tell_all.ensures.0 told)),
+      λ tells. c.tell_all.ensures.1 (subst (λ (p : Point). TellAll c.args.shape.now.wide c.point.result p region) (sym (last e))
+          (subst (λ (p : Point). TellAll c.args.shape.now.wide p (get_or es (length es - 1) e).point region) (sym (first e)) (tells e))),
     )

@@ -6,7 +6,7 @@ use Rattle.range_scan.proofs.page.take_all.Goals as goal
 
 pub loop-index-preserved : goal.loop-index-preserved
 loop-index-preserved g c = λ start es given.
-    let all = entries c.args.shape.now.measures c.args.page.now in
+    let all = entries c.args.shape.now c.args.page.now in
     let i = c.loop-index.index in
     let e = c.lent_entry.result in
     let low : i < length all = omega arith in

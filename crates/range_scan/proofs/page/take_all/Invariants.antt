@@ -6,4 +6,4 @@ use Rattle.range_scan.proofs.page.take_all.Given as goal
 -- the taker was given the first entries
 abbrev pub invariant-loop-index : goal.invariant-loop-index
 invariant-loop-index g l = (start : g.row.G.Denot) (es : List Entry) → g.G.Taker.was_given start es l.fn.taker
-    → g.G.Taker.was_given start (es ++ take l.index (entries l.shape.measures l.page)) l.taker
+    → g.G.Taker.was_given start (es ++ take l.index (entries l.shape l.page)) l.taker

@@ -13,7 +13,7 @@ pub loop-passed-init : goal.loop-passed-init
 loop-passed-init c =
     let region = c.args.query.now.region.now in
     record {
-      goes_on = ap (λ l. met region l ++ reverse c.args.ahead.now.items) (sym (drop_all (c.args.count - 0) (children c.args.page.now) (omega (arith, c.requires.count))));
+      goes_on = ap (λ l. met region l ++ reverse c.args.ahead.now.items) (sym (drop_all (c.args.count - 0) (children c.args.query.now.tree.now.shape c.args.page.now) (omega (arith, c.requires.count))));
       within = λ k d low lt. absurd (omega (arith, low, lt, c.requires.count));
       ahead = c.requires.ahead;
     }
@@ -31,7 +31,7 @@ returns-then-child-query-clause-ahead c = c.loop-passed.invariant.ahead
 
 pub loop-passed-preserved : goal.loop-passed-preserved
 loop-passed-preserved c =
-    let cs = children c.args.page.now in
+    let cs = children c.args.query.now.tree.now.shape c.args.page.now in
     let region = c.args.query.now.region.now in
     let tree = c.args.query.now.tree.now in
     let child = c.inner_entry-child.result in
@@ -64,7 +64,7 @@ returns-clause-within c = (λ _. λ k d lt. c.loop-passed.invariant.within k d (
 pub returns-clause-goes_on : goal.returns-clause-goes_on
 returns-clause-goes_on c = λ _.
     let all : c.args.count - c.loop-passed.passed ≡ 0 = omega arith in
-    c.loop-passed.invariant.goes_on ∙ ap (λ (k : ℕ). met c.args.query.now.region.now (drop k (children c.args.page.now)) ++ reverse c.args.ahead.now.items) all
+    c.loop-passed.invariant.goes_on ∙ ap (λ (k : ℕ). met c.args.query.now.region.now (drop k (children c.args.query.now.tree.now.shape c.args.page.now)) ++ reverse c.args.ahead.now.items) all
 
 pub returns-clause-ahead : goal.returns-clause-ahead
 returns-clause-ahead c = c.loop-passed.invariant.ahead

@@ -48,7 +48,7 @@ pub take_children-requires-clause-below : goal.take_children-requires-clause-bel
 take_children-requires-clause-below g c =
     let node : c.args.head.node ≡ nodes.Inner = search rules in
     let end = c.args.query.now.tree.now.first + c.args.query.now.tree.now.pages in
-    All-weaker (λ (d : Child). d.page < c.args.number) (λ (d : Child). d.page < end) (λ d low. omega (arith, low, c.requires.within)) (children c.args.page.now)
+    All-weaker (λ (d : Child). d.page < c.args.number) (λ (d : Child). d.page < end) (λ d low. omega (arith, low, c.requires.within)) (children c.args.query.now.tree.now.shape c.args.page.now)
     (as-inner c.args.query.now.tree.now.shape c.requires.shape c.args.number c.args.page.now c.fits-page c.told-page c.args.head c.requires.accepted node).1.below
 
 pub returns-then-not-branch-clause-stop : goal.returns-then-not-branch-clause-stop

@@ -10,7 +10,7 @@ use Rattle.range_scan.proofs.page.take_inside.Goals.{then-is_inside+in_ok-take, 
 pub loop-index-preserved : goal.loop-index-preserved
 loop-index-preserved g c = λ start es given.
     let region = c.args.query.now.region.now in
-    let all = entries c.args.query.now.tree.now.shape.measures c.args.page.now in
+    let all = entries c.args.query.now.tree.now.shape c.args.page.now in
     let i = c.loop-index.index in
     let e = c.lent_entry-entry.result in
     let low : i < length all = omega arith in

@@ -7,4 +7,4 @@ use Rattle.range_scan.proofs.page.take_inside.Given as goal
 -- the taker was given those of the first entries that lie in the region
 abbrev pub invariant-loop-index : goal.invariant-loop-index
 invariant-loop-index g l = (start : g.row.G.Denot) (es : List Entry) → g.G.Taker.was_given start es l.fn.taker
-    → g.G.Taker.was_given start (es ++ filter (is_inside l.query.region.now) (take l.index (entries l.query.tree.now.shape.measures l.page))) l.taker
+    → g.G.Taker.was_given start (es ++ filter (is_inside l.query.region.now) (take l.index (entries l.query.tree.now.shape l.page))) l.taker

@@ -1,10 +1,9 @@
 use Rattle.std.proofs.Common.{◌≡◌, ◌∙◌, ◌≤◌, ◌++◌, IfOk, OnOk, length, sym, ap, subst, arith}
 use Rattle.site_core.specs.Disk.{DiffersPast}
 use Rattle.site_core.specs.Moments.{HoldsNow, LeavesOnly}
-use Rattle.forest_moves.specs.Forest.{forest_moves}
 use Rattle.forest_store.specs.Held.{IsLive}
 use Rattle.forest_refresh.specs.declared.refresh.Refresh.TheInside.{Inside}
-use Rattle.forest_refresh.specs.Begun.{Begun, HasMoved, IsGoing, IsNextBody, IsRefreshOf, next_side}
+use Rattle.forest_refresh.specs.Begun.{Begun, HasMoved, IsGoing, IsNextBody, IsRefreshOf, moves_of, next_side}
 use Rattle.forest_refresh.specs.Next.{counts_from}
 use Rattle.forest_refresh.specs.Progress.{progress_of}
 use Rattle.forest_refresh.specs.Refreshed.{KeepsEither}
@@ -22,7 +21,7 @@ seen r = record { store = r.store; deltas = r.deltas; entries = r.names; next = 
 pub returns-in_err-step-clause-cost : goal.returns-in_err-step-clause-cost
 returns-in_err-step-clause-cost g c = λ t accepted batch is.
     let old = c.args.self.now in
-    keeps-top (forest_moves old.store.forest.schema accepted batch) old.progress.taken _ (g.T.Site.reads c.args.site.now) (g.T.Site.writes c.args.site.now) (g.T.Site.reads c.step.new.site) (g.T.Site.writes c.step.new.site)
+    keeps-top (moves_of old accepted batch) old.progress.taken _ (g.T.Site.reads c.args.site.now) (g.T.Site.writes c.args.site.now) (g.T.Site.reads c.step.new.site) (g.T.Site.writes c.step.new.site)
     (c.step.ensures.cost t accepted batch is) (g.T.Site.reads c.step.new.site, g.T.Site.writes c.step.new.site) (omega arith) (omega arith)
 
 -- ---- all moves are made
@@ -71,7 +70,7 @@ returns-clause-live g c = λ t accepted batch was.
     let names = more_names r.store.forest.schema accepted batch r.entries both.read.entries in
     elim c.match-commit.branch [
       | in-Ok w ↦ subst (λ result. IfOk result (λ next. IsLive c.args.self.now.store.forest.schema next (accepted ++ batch) new.files)) (sym w.result-is)
-          (subst (λ (b : Begun). IsLive b.store.forest.schema (with_counts r.next c.view_counts-counts.result) (accepted ++ batch) new.files) (c.self.view_is ∙ c.step.ensures.same) (w.in-Ok.ensures.committed t accepted (accepted ++ batch) still.0 still.1 body names side))
+          (subst (λ (b : Begun). IsLive b.store.forest.schema (with_counts r.next c.view_counts-counts.result) (accepted ++ batch) new.files) (c.self.view_is ∙ c.step.ensures.same) (w.in-Ok.ensures.committed t accepted (accepted ++ batch) still.0 still.1 both.read.fits body names side))
       | in-Err w ↦ subst (λ result. IfOk result (λ next. IsLive c.args.self.now.store.forest.schema next (accepted ++ batch) new.files)) (sym w.result-is) tt
     ]
 
@@ -93,12 +92,12 @@ returns-clause-any_moment g c = λ t accepted batch was.
     let names = more_names r.store.forest.schema accepted batch r.entries both.read.entries in
     then-committed old.store.forest.schema accepted (accepted ++ batch) old.store.forest.body.last old.next.last (g.T.Site.disk c.args.site.now) mid new (c.step.ensures.told t) (c.step.ensures.any_moment t accepted batch was)
     (subst (λ (b : Begun). LeavesOnly mid new (λ told files. (told ≡ mid.told) × KeepsEither b.store.forest.schema accepted b.store.forest.body.last (accepted ++ batch) b.next.last files)) (c.self.view_is ∙ c.step.ensures.same)
-    (c.commit.ensures.any_moment t accepted (accepted ++ batch) still.0 still.1 both.read.all body names side))
+    (c.commit.ensures.any_moment t accepted (accepted ++ batch) still.0 still.1 both.read.fits both.read.all both.read.live.fits body names side))
 
 pub returns-clause-cost : goal.returns-clause-cost
 returns-clause-cost g c = λ t accepted batch is.
     let old = c.args.self.now in
-    keeps-top (forest_moves old.store.forest.schema accepted batch) old.progress.taken _ (g.T.Site.reads c.args.site.now) (g.T.Site.writes c.args.site.now) (g.T.Site.reads c.step.new.site) (g.T.Site.writes c.step.new.site)
+    keeps-top (moves_of old accepted batch) old.progress.taken _ (g.T.Site.reads c.args.site.now) (g.T.Site.writes c.args.site.now) (g.T.Site.reads c.step.new.site) (g.T.Site.writes c.step.new.site)
     (c.step.ensures.cost t accepted batch is) (g.T.Site.reads c.commit.new.site, g.T.Site.writes c.commit.new.site) (omega (arith, c.commit.ensures.calls.reads)) (omega (arith, c.commit.ensures.calls.writes))
 
 pub returns-clause-joined : goal.returns-clause-joined
