@@ -13,7 +13,7 @@ use Rattle.cube_state.specs.declared.stop.Stop.TheVariants as stops
 use Rattle.cube_state.specs.Cached.{live_of}
 use Rattle.cube_state.specs.Carried.{CarriesOut, IsReadyFor, IsStep, Reply, made_alone}
 use Rattle.cube_state.specs.Commands.{Gives}
-use Rattle.cube_state.specs.Moves.{moves_made, reached_behind, reached_by}
+use Rattle.cube_state.specs.Moves.{format_of, moves_made, reached_behind, reached_by}
 use Rattle.cube_state.specs.Session.{Stands}
 use Rattle.cube_state.specs.Visits.{GoesTo}
 use Rattle.cube_state.proofs.Answering.{OnlyNow, quiet}
@@ -26,7 +26,7 @@ use Rattle.cube_state.proofs.Told.{spares_none, tells_none}
 pub record OnlySays {S : Type 0} (T : Ghosts S) (command : Command) (state : State) (site : S) (text : List ℕ) : Type 0 where
   pub acts : IsTrue T.tells → (world : World) → Stands state (T.disk site) world → act world command ≡ (world, text)
   pub moves : IsTrue T.tells → (world : World) → Stands state (T.disk site) world → reached_behind world (reached_by state) command ≡ reached_by state
-  pub goes : IsTrue T.tells → (world : World) → Stands state (T.disk site) world → (numbers : List ℕ) → GoesTo (reached_by state).format world command numbers → ⊥
+  pub goes : IsTrue T.tells → (world : World) → Stands state (T.disk site) world → (numbers : List ℕ) → GoesTo (format_of state) world command numbers → ⊥
   pub gives : (files : Files) → Gives state files command text
   pub alone : (IsStep command → ⊥) → made_alone command (moves_made state) ≡ moves_made state
 

@@ -15,7 +15,7 @@ use Rattle.cube_state.specs.Session.{Attends, Stands}
 use Rattle.cube_state.specs.declared.state.State.{State}
 use Rattle.cube_state.specs.declared.state.State.TheVariants.{Empty, Idle, Hollow, Pending}
 
-live_root : (schema : Schema) (body : Body) (facts : List Fact) (files : Files) → IsLive schema body facts files → IsLiveBody body (files 0)
+pub live_root : (schema : Schema) (body : Body) (facts : List Fact) (files : Files) → IsLive schema body facts files → IsLiveBody body (files 0)
 live_root schema body facts files is = record { slot = is.slot; low = is.at.low; raised = is.at.raised; decodes = is.at.decodes; each = is.at.each }
 
 module _ (r : Begun) (disk : Disk) (warehouse : Warehouse) (batch : List Fact) where

@@ -18,7 +18,7 @@ use Rattle.cube_state.specs.Carried.{CarriesOut, IsReadyFor, IsStep, LeavesLive,
 use Rattle.cube_state.specs.Commands.{Costs, Gives, MakesNoCall, TellsDamage}
 use Rattle.cube_state.specs.Costs.{Cost, Spends}
 use Rattle.cube_state.specs.Frames.{IsQuiet, RunsOn}
-use Rattle.cube_state.specs.Moves.{made_behind, moves_made}
+use Rattle.cube_state.specs.Moves.{format_of, moves_made, reached_behind, reached_by}
 use Rattle.cube_state.specs.Session.{Between, IsAnswer, Stands}
 use Rattle.cube_state.specs.Stops.{IsNoDamage}
 use Rattle.cube_state.specs.Visits.{GoesFrom, GoesOver, GoesTo}
@@ -35,12 +35,12 @@ module _ {A E : Type 0} (P : Result A E → Type 0) (error : E) where
   at_error (Err e) same is = subst (λ (x : E). P (Err x)) (sym same) is
 
 -- a command that has no slice answered goes to no page
-pub goes_nowhere : (command : Command) → ((schema : Schema) → asked_by schema command ≡ None) → (world : World) (numbers : List ℕ) → GoesTo world command numbers → ⊥
-goes_nowhere command none world numbers goes = by world.kept goes
+pub goes_nowhere : (command : Command) → ((schema : Schema) → asked_by schema command ≡ None) → (format : ℕ) (world : World) (numbers : List ℕ) → GoesTo format world command numbers → ⊥
+goes_nowhere command none format world numbers goes = by world.kept goes
   where
-    by : (kept : Kept) → GoesFrom kept (asked_over kept command) numbers → ⊥
+    by : (kept : Kept) → GoesFrom format kept (asked_over kept command) numbers → ⊥
     by None is = is
-    by (Some warehouse) is = subst (λ (a : Option Slice). GoesOver warehouse.schema warehouse.facts a numbers) (none warehouse.schema) is
+    by (Some warehouse) is = subst (λ (a : Option Slice). GoesOver format warehouse.schema warehouse.facts a numbers) (none warehouse.schema) is
 
 -- ---- what is particular to an end of a command
 
@@ -51,12 +51,12 @@ ForEach T state site P = IsTrue T.tells → (world : World) → Stands state (T.
 -- however it ends
 pub record RunsFor {S : Type 0} (T : Ghosts S) (command : Command) (state : State) (old new : S) (world : World) : Type 0 where
   pub any_moment : Between (T.disk old) (T.disk new) world (act world command).0
-  pub cost : (cost : Cost) → Costs world (moves_made state) command cost → Spends T cost old new
+  pub cost : (cost : Cost) → Costs world (reached_by state) command cost → Spends T cost old new
 
 -- at a reply
 pub record Replies {S : Type 0} (T : Ghosts S) (command : Command) (state next : State) (old new : S) (reply : List ℕ) : Type 0 where
   pub answer : ForEach T state old (λ world. IsAnswer (T.disk new) (act world command) next reply)
-  pub moved : ForEach T state old (λ world. moves_made next ≡ made_behind world (moves_made state) command)
+  pub moved : ForEach T state old (λ world. reached_by next ≡ reached_behind world (reached_by state) command)
   pub uncalled : ForEach T state old (λ world. MakesNoCall world command → new ≡ old)
   pub answered : IsTrue T.tells → Gives state (T.disk old).files command reply
   pub runs : RunsOn T new next
@@ -100,8 +100,8 @@ module _ {S : Type 0} (T : Ghosts S) (command : Command) (none_asked : (schema :
       moved = is.moved t world stands;
       cost = (runs t world stands).cost;
       uncalled = is.uncalled t world stands;
-      saves = λ numbers goes. absurd (goes_nowhere command none_asked world numbers goes);
-      keeps = λ numbers goes. absurd (goes_nowhere command none_asked world numbers goes);
+      saves = λ numbers goes. absurd (goes_nowhere command none_asked (format_of state) world numbers goes);
+      keeps = λ numbers goes. absurd (goes_nowhere command none_asked (format_of state) world numbers goes);
     };
     any_files = λ t. record {
       damage = tt;
@@ -140,7 +140,7 @@ module _ {S : Type 0} (T : Ghosts S) (command : Command) (none_asked : (schema :
       moved = tt;
       cost = (runs t world stands).cost;
       uncalled = λ none. tt;
-      saves = λ numbers goes. absurd (goes_nowhere command none_asked world numbers goes);
+      saves = λ numbers goes. absurd (goes_nowhere command none_asked (format_of state) world numbers goes);
       keeps = λ numbers goes. tt;
     };
     any_files = λ t. record { damage = is.damage t; answered = tt; spared = is.spared t; looks = λ no. absurd (no may); fits = tt };

@@ -19,7 +19,7 @@ use Rattle.cube_state.specs.Cached.{Fits, KeepsUp, Saves, SideStays, kept_over, 
 use Rattle.cube_state.specs.Commands.{Costs, Gives, MakesNoCall, TellsDamage}
 use Rattle.cube_state.specs.Costs.{Cost, Spends}
 use Rattle.cube_state.specs.Frames.{IsQuiet, RunsOn}
-use Rattle.cube_state.specs.Moves.{moves_made, reached_behind, reached_by}
+use Rattle.cube_state.specs.Moves.{format_of, moves_made, reached_behind, reached_by}
 use Rattle.cube_state.specs.Session.{Between, IsAnswer, Stands}
 use Rattle.cube_state.specs.Stops.{IsNoDamage}
 use Rattle.cube_state.specs.Visits.{GoesTo, asks_pages}
@@ -45,8 +45,8 @@ pub record ByWorld {S : Type 0} (T : Ghosts S) (command : Command) (world : Worl
   pub cost : (cost : Cost) → Costs world (reached_by state) command cost → Spends T cost old new
   pub uncalled : MakesNoCall world command → OnOk result (new ≡ old)
   -- a slice reads of its pages those alone that are not kept, where there is room, and keeps them
-  pub saves : (numbers : List ℕ) → GoesTo (reached_by state).format world command numbers → Saves before (live_file (live_of state)) numbers (T.reads old) (T.reads new)
-  pub keeps : (numbers : List ℕ) → GoesTo (reached_by state).format world command numbers → OnOk result (KeepsUp before after (live_file (live_of state)) numbers)
+  pub saves : (numbers : List ℕ) → GoesTo (format_of state) world command numbers → Saves before (live_file (live_of state)) numbers (T.reads old) (T.reads new)
+  pub keeps : (numbers : List ℕ) → GoesTo (format_of state) world command numbers → OnOk result (KeepsUp before after (live_file (live_of state)) numbers)
 
 -- without a schema all files are the same, and with one the names and the live side
 abbrev pub SparesOf : Option Body → Files → Files → Type 0

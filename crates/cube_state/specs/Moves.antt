@@ -12,6 +12,7 @@ use Rattle.script_lang.specs.declared.command.Command.TheVariants as says
 use Rattle.plain_machine.specs.Machine.{act}
 use Rattle.plain_machine.specs.Keeps.{HasFormat}
 use Rattle.plain_machine.specs.World.{Kept, Warehouse, World}
+use Rattle.cube_state.specs.Cached.{live_of}
 use Rattle.cube_state.specs.declared.state.State.{State}
 use Rattle.cube_state.specs.declared.state.State.TheVariants.{Empty, Idle, Hollow, Pending}
 
@@ -46,12 +47,13 @@ abbrev pub reached_from : World → Reached → List Command → Reached
 reached_from world reached [] = reached
 reached_from world reached (command ∷ rest) = reached_from (act world command).0 (reached_behind world reached command) rest
 
--- the format of the pages that are live for a session; files without a schema count as format 1
+-- the format of the live pages; files without a schema count as format 1
+abbrev pub format_in : Option Body → ℕ
+format_in None = 1
+format_in (Some live) = live.format
+
 abbrev pub format_of : State → ℕ
-format_of Empty = 1
-format_of (Idle store) = store.forest.body.format
-format_of (Hollow store) = store.forest.body.format
-format_of (Pending refresh) = refresh.store.forest.body.format
+format_of state = format_in (live_of state)
 
 -- how many moves it has made
 abbrev pub moves_made : State → ℕ
