@@ -1,7 +1,5 @@
 -- Rows with their points in a view.
-use Rattle.std.specs.Prelude.{◌-◌, ◌==◌, ◌||◌, ℕ, Bool, not, List, [], get_or}
-use Rattle.std.specs.Ordering.{is_eq}
-use Rattle.cube_point.specs.Points.{point_cmp}
+use Rattle.std.specs.Prelude.{ℕ, List, [], get_or}
 use Rattle.view_points.specs.Points.{View}
 use Rattle.delta_agg.specs.declared.placed.Placed.{Placed}
 use Rattle.delta_agg.specs.Batch.{point_at}
@@ -13,7 +11,3 @@ placed_at view coded row = record { point = point_at view (get_or coded row []);
 -- what stands past the end
 abbrev pub no_placed : Placed
 no_placed = record { point = record { arity = 0; at = [] }; row = 0 }
-
--- another place than that of the row before begins there
-abbrev pub place_begins : List Placed → ℕ → Bool
-place_begins placed at = (at == 0) || not (is_eq (point_cmp (get_or placed (at - 1) no_placed).point.at (get_or placed at no_placed).point.at))

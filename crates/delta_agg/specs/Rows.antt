@@ -73,7 +73,3 @@ row_in key = key % 2 ^ 18
 -- the number of a key
 abbrev pub number_in : ℕ → ℕ
 number_in key = key / 2 ^ 18
-
--- another number than that of the key before begins there
-abbrev pub number_begins : List ℕ → ℕ → Bool
-number_begins keys at = (at == 0) || not (number_in (slice_index keys (at - 1)) == number_in (slice_index keys at))

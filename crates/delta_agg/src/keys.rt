@@ -1,77 +1,67 @@
-//! The rows of a batch in the order of a view whose places are few, by keys of 8 bytes: the number of a row's place, and behind it the row.
-ghost use Rattle.std.specs.Prelude.{◌≡◌, ◌<◌, ◌≤◌, ◌+◌, ◌*◌, ◌^◌, ℕ, List, IfOk, OnOk, map, length};
-ghost use Rattle.std.specs.List.{All, range_with_len};
-ghost use Rattle.std.specs.List.Sorted.{IsPermutation, IsSorted};
-ghost use Rattle.std.specs.Ordering.{nat_cmp};
-ghost use Rattle.delta_agg.specs.Rows.{HasDigit, cuts_by, number_begins, number_from, room, row_in, row_key};
+//! The rows of a batch in the order of their keys.
+ghost use Rattle.std.specs.Prelude.{◌≡◌, ◌<◌, ◌≤◌, ◌^◌, ℕ, Bool, List, IfOk, map, length};
+ghost use Rattle.std.specs.List.Sorted.{IsPermutation, IsSortedBy};
+ghost use Rattle.delta_agg.specs.Keys.{IsSortedOut, key_begins};
+ghost use Rattle.delta_agg.specs.Rows.{cuts_by};
 
-use crate::digits::Digit;
-use fact_batch::FlatRows;
-use fact_model::Memory;
+use crate::runs::Runs;
+use fact_model::{ListOf, Memory};
 use std::alloc::Global;
 
-/// The most rows that a key tells apart.
-const MOST_ROWS: u64 = 1 << 18;
+/// A row with what tells its place in a view.
+pub(crate) trait RowKey {
+    /// The row.
+    ghost row_of: { Self → ℕ };
 
-/// The most places that a key tells apart.
-pub(crate) const MOST_PLACES: u128 = 1 << 46;
+    /// Whether the first place comes before the second.
+    ghost before: { Self → Self → Bool };
 
-/// The key of a row with these coordinates.
-fn key(digits: &[Digit], coordinates: &[u32], row: usize) -> u64
-    requires few { room digits.now ≤ 2 ^ 46 }
-    requires under { All (HasDigit coordinates.now) digits.now }
-    requires row { row < 2 ^ 18 }
-    ensures { result ≡ number_from 0 digits.now coordinates.now * 2 ^ 18 + row }
-{
-    let mut number: u64 = 0;
-    for digit in digits {
-        number = number * digit.span + u64::from(coordinates[digit.attr as usize]);
-    }
-    number * MOST_ROWS + row as u64
+    /// Whether both have one place.
+    ghost same: { Self → Self → Bool };
+
+    /// The row.
+    fn row(&self) -> u32
+        ensures { result ≡ row_of self.now };
+
+    /// Whether both have one place.
+    fn has_place_of(&self, other: &Self) -> bool
+        ensures { result ≡ same self.now other.now };
+
+    /// Puts keys into ascending order. It takes no memory.
+    fn sort(keys: &mut [Self])
+        ensures moved { IsPermutation keys.old keys.new }
+        ensures sorted { IsSortedBy before keys.new };
 }
 
-/// Makes the keys of all rows. It takes memory where the list had less room before.
-pub(crate) fn make_keys(
-    keys: &mut Vec<u64>,
-    digits: &[Digit],
-    coded: &FlatRows<u32>,
-) -> Result<(), Memory>
-    requires few { room digits.now ≤ 2 ^ 46 }
-    requires under { All (λ (coordinates : List ℕ). All (HasDigit coordinates) digits.now) coded.now }
-    requires rows { length coded.now ≤ 2 ^ 18 }
-    ensures { OnOk result (keys.new.items ≡ map (row_key digits.now coded.now) (range_with_len 0 (length coded.now))) }
+/// The rows of keys in ascending order, cut where another place begins.
+pub(crate) fn runs_of_keys<K: RowKey>(alloc: Global, keys: &mut [K]) -> Result<Runs, Memory>
+    requires { length keys.old ≤ 2 ^ 18 }
+    ensures { IfOk result (λ runs. IsSortedOut K.row_of K.before K.same keys.old runs.order runs.cuts) }
 {
-    keys.clear();
-    keys.reserve(coded.len())?;
-    for row in 0..coded.len() {
-        keys.push(key(digits, coded.row(row), row))?;
-    }
-    Ok(())
-}
-
-/// Puts the keys into ascending order. It takes no memory.
-pub(crate) fn sort(keys: &mut Vec<u64>)
-    ensures moved { IsPermutation keys.old.items keys.new.items }
-    ensures sorted { IsSorted nat_cmp keys.new.items }
-{
-    keys.sort_unstable();
+    K::sort(keys);
+    let order = rows_of(alloc, keys)?;
+    let cuts = cuts_of(alloc, keys)?;
+    Ok(Runs {
+        order: ListOf::from_vec(order),
+        cuts: ListOf::from_vec(cuts),
+    })
 }
 
 /// The rows of keys.
-pub(crate) fn rows_of(alloc: Global, keys: &[u64]) -> Result<Vec<u32>, Memory>
-    ensures { IfOk result (λ rows. rows.items ≡ map row_in keys.now) }
+fn rows_of<K: RowKey>(alloc: Global, keys: &[K]) -> Result<Vec<u32>, Memory>
+    ensures { IfOk result (λ rows. rows.items ≡ map K.row_of keys.now) }
 {
     let mut rows = Vec::with_capacity(alloc, keys.len())?;
     for key in keys {
-        rows.push((*key % MOST_ROWS) as u32)?;
+        rows.push(key.row())?;
     }
     Ok(rows)
 }
 
-/// Where another number than that of the key before begins, and the end.
-pub(crate) fn cuts_of(alloc: Global, keys: &[u64]) -> Result<Vec<u32>, Memory>
+/// Where another place than that of the key before begins, and the end.
+fn cuts_of<K: RowKey>(alloc: Global, keys: &[K]) -> Result<Vec<u32>, Memory>
     requires { length keys.now ≤ 2 ^ 18 }
-    ensures { IfOk result (λ cuts. cuts.items ≡ cuts_by (number_begins keys.now) (length keys.now)) }
+    ensures { (past : K) → IfOk result (λ cuts. cuts.items ≡ cuts_by (key_begins K.same past keys.now) (length keys.now)) }
 {
     let mut cuts = Vec::with_capacity(alloc, count(keys) + 1)?;
     for at in 0..keys.len() {
@@ -83,8 +73,8 @@ pub(crate) fn cuts_of(alloc: Global, keys: &[u64]) -> Result<Vec<u32>, Memory>
     Ok(cuts)
 }
 
-/// How many numbers the keys have, where those of one number stand together.
-fn count(keys: &[u64]) -> usize
+/// How many places the keys have, where those of one place stand together.
+fn count<K: RowKey>(keys: &[K]) -> usize
     ensures { result ≤ length keys.now }
 {
     let mut count = 0;
@@ -96,13 +86,13 @@ fn count(keys: &[u64]) -> usize
     count
 }
 
-/// Whether another number than that of the key before begins at this place.
-fn begins(keys: &[u64], at: usize) -> bool
+/// Whether another place than that of the key before begins there.
+fn begins<K: RowKey>(keys: &[K], at: usize) -> bool
     requires { at < length keys.now }
-    ensures { result ≡ number_begins keys.now at }
+    ensures { (past : K) → result ≡ key_begins K.same past keys.now at }
 {
     if at == 0 {
         return true;
     }
-    keys[at - 1] / MOST_ROWS != keys[at] / MOST_ROWS
+    !keys[at - 1].has_place_of(&keys[at])
 }

@@ -2,12 +2,13 @@
 ghost use Rattle.std.specs.Prelude.{◌≡◌, ◌<◌, ◌≤◌, ◌^◌, IfOk, length};
 ghost use Rattle.std.specs.List.{All};
 ghost use Rattle.delta_agg.specs.Batch.{HasPlace};
-ghost use Rattle.delta_agg.specs.Rows.{IsOrdered, IsUnder, digits_of, room};
+ghost use Rattle.delta_agg.specs.Rows.{IsOrdered, IsUnder};
 
-use crate::digits::{Digit, digits_of, room_within};
+use crate::digits::{digits_of, room_within};
+use crate::keys::runs_of_keys;
+use crate::number::{Number, make_keys};
 use crate::placed::runs_by_places;
 use crate::runs::{Runs, ViewRuns};
-use crate::{keys, long_keys};
 use fact_batch::FlatRows;
 use fact_model::{ListOf, Memory};
 use std::alloc::Global;
@@ -70,67 +71,13 @@ fn ordered(
     ensures { IfOk result (λ runs. IsOrdered view.now coded.now runs.order runs.cuts) }
 {
     let digits = digits_of(alloc, view, tops)?;
-    if room_within(&digits, keys::MOST_PLACES) {
-        return by_keys(alloc, view, coded, tops, &digits, &mut keys.short);
+    if room_within(&digits, <u64 as Number>::MOST_PLACES) {
+        make_keys(&mut keys.short, &digits, coded)?;
+        return runs_of_keys(alloc, &mut keys.short);
     }
-    if room_within(&digits, long_keys::MOST_PLACES) {
-        return by_long_keys(alloc, view, coded, tops, &digits, &mut keys.long);
+    if room_within(&digits, <u128 as Number>::MOST_PLACES) {
+        make_keys(&mut keys.long, &digits, coded)?;
+        return runs_of_keys(alloc, &mut keys.long);
     }
     runs_by_places(alloc, view, coded)
-}
-
-/// The same by keys of 8 bytes.
-fn by_keys(
-    alloc: Global,
-    view: &[u32],
-    coded: &FlatRows<u32>,
-    tops: &[u32],
-    digits: &[Digit],
-    keys: &mut Vec<u64>,
-) -> Result<Runs, Memory>
-    requires arity { length view.now ≤ 8 }
-    requires places { All (HasPlace view.now) coded.now }
-    requires rows { length coded.now ≤ 2 ^ 18 }
-    requires declared { All (λ a. a < length tops.now) view.now }
-    requires under { All (IsUnder tops.now) coded.now }
-    requires digits { digits.now ≡ digits_of tops.now view.now }
-    requires few { room digits.now ≤ 2 ^ 46 }
-    ensures { IfOk result (λ runs. IsOrdered view.now coded.now runs.order runs.cuts) }
-{
-    keys::make_keys(keys, digits, coded)?;
-    keys::sort(keys);
-    let order = keys::rows_of(alloc, keys.as_slice())?;
-    let cuts = keys::cuts_of(alloc, keys.as_slice())?;
-    Ok(Runs {
-        order: ListOf::from_vec(order),
-        cuts: ListOf::from_vec(cuts),
-    })
-}
-
-/// The same by keys of 16 bytes.
-fn by_long_keys(
-    alloc: Global,
-    view: &[u32],
-    coded: &FlatRows<u32>,
-    tops: &[u32],
-    digits: &[Digit],
-    keys: &mut Vec<u128>,
-) -> Result<Runs, Memory>
-    requires arity { length view.now ≤ 8 }
-    requires places { All (HasPlace view.now) coded.now }
-    requires rows { length coded.now ≤ 2 ^ 18 }
-    requires declared { All (λ a. a < length tops.now) view.now }
-    requires under { All (IsUnder tops.now) coded.now }
-    requires digits { digits.now ≡ digits_of tops.now view.now }
-    requires few { room digits.now ≤ 2 ^ 110 }
-    ensures { IfOk result (λ runs. IsOrdered view.now coded.now runs.order runs.cuts) }
-{
-    long_keys::make_keys(keys, digits, coded)?;
-    long_keys::sort(keys);
-    let order = long_keys::rows_of(alloc, keys.as_slice())?;
-    let cuts = long_keys::cuts_of(alloc, keys.as_slice())?;
-    Ok(Runs {
-        order: ListOf::from_vec(order),
-        cuts: ListOf::from_vec(cuts),
-    })
 }

@@ -1,16 +1,17 @@
 //! The rows of a batch in the order of a view, by their places themselves.
 ghost use Rattle.std.specs.Prelude.{◌≡◌, ◌<◌, ◌≤◌, ◌^◌, IfOk, length, map};
 ghost use Rattle.std.specs.List.{All, range_with_len};
-ghost use Rattle.std.specs.List.Sorted.{IsPermutation, IsSortedBy};
-ghost use Rattle.cube_point.specs.Points.{comes_before};
+ghost use Rattle.std.specs.Ordering.{is_eq};
+ghost use Rattle.cube_point.specs.Points.{comes_before, point_cmp};
 ghost use Rattle.delta_agg.specs.Batch.{HasPlace, place_at, point_at};
-ghost use Rattle.delta_agg.specs.Placed.{placed_at, place_begins};
-ghost use Rattle.delta_agg.specs.Rows.{IsOrdered, cuts_by};
+ghost use Rattle.delta_agg.specs.Placed.{placed_at};
+ghost use Rattle.delta_agg.specs.Rows.{IsOrdered};
 
+use crate::keys::{RowKey, runs_of_keys};
 use crate::runs::Runs;
 use cube_point::{Point, compare};
 use fact_batch::FlatRows;
-use fact_model::{ListOf, Memory};
+use fact_model::Memory;
 use std::alloc::Global;
 
 /// A row with its point in a view.
@@ -20,6 +21,26 @@ pub(crate) struct Placed {
     pub(crate) point: Point,
     /// The row.
     pub(crate) row: u32,
+}
+
+impl RowKey for Placed {
+    ghost row_of = { λ p. p.row };
+
+    ghost before = { λ p q. comes_before p.point q.point };
+
+    ghost same = { λ p q. is_eq (point_cmp p.point.at q.point.at) };
+
+    fn row(&self) -> u32 {
+        self.row
+    }
+
+    fn has_place_of(&self, other: &Placed) -> bool {
+        compare(&self.point, &other.point).is_eq()
+    }
+
+    fn sort(keys: &mut [Placed]) {
+        keys.sort_unstable_by(|a, b| compare(&a.point, &b.point));
+    }
 }
 
 /// The place of the coordinates in the view.
@@ -59,13 +80,7 @@ pub(crate) fn runs_by_places(
     ensures { IfOk result (λ runs. IsOrdered view.now coded.now runs.order runs.cuts) }
 {
     let mut placed = placed_of(alloc, view, coded)?;
-    sort(&mut placed);
-    let order = rows_of(alloc, &placed)?;
-    let cuts = cuts_of(alloc, &placed)?;
-    Ok(Runs {
-        order: ListOf::from_vec(order),
-        cuts: ListOf::from_vec(cuts),
-    })
+    runs_of_keys(alloc, &mut placed)
 }
 
 /// All rows with their points.
@@ -83,62 +98,4 @@ fn placed_of(alloc: Global, view: &[u32], coded: &FlatRows<u32>) -> Result<Vec<P
         })?;
     }
     Ok(placed)
-}
-
-/// Puts the rows into the order of their points. It takes no memory.
-fn sort(placed: &mut Vec<Placed>)
-    ensures moved { IsPermutation placed.old.items placed.new.items }
-    ensures sorted { IsSortedBy (λ p q. comes_before p.point q.point) placed.new.items }
-{
-    placed.sort_unstable_by(|a, b| compare(&a.point, &b.point));
-}
-
-/// The rows alone.
-fn rows_of(alloc: Global, placed: &[Placed]) -> Result<Vec<u32>, Memory>
-    ensures { IfOk result (λ rows. rows.items ≡ map (λ p. p.row) placed.now) }
-{
-    let mut rows = Vec::with_capacity(alloc, placed.len())?;
-    for row in placed {
-        rows.push(row.row)?;
-    }
-    Ok(rows)
-}
-
-/// Where another place than that of the row before begins, and the end.
-fn cuts_of(alloc: Global, placed: &[Placed]) -> Result<Vec<u32>, Memory>
-    requires { length placed.now ≤ 2 ^ 18 }
-    ensures { IfOk result (λ cuts. cuts.items ≡ cuts_by (place_begins placed.now) (length placed.now)) }
-{
-    let mut cuts = Vec::with_capacity(alloc, count(placed) + 1)?;
-    for at in 0..placed.len() {
-        if begins(placed, at) {
-            cuts.push(at as u32)?;
-        }
-    }
-    cuts.push(placed.len() as u32)?;
-    Ok(cuts)
-}
-
-/// How many places there are.
-fn count(placed: &[Placed]) -> usize
-    ensures { result ≤ length placed.now }
-{
-    let mut count = 0;
-    for at in 0..placed.len() {
-        if begins(placed, at) {
-            count += 1;
-        }
-    }
-    count
-}
-
-/// Whether another place than that of the row before begins there.
-fn begins(placed: &[Placed], at: usize) -> bool
-    requires { at < length placed.now }
-    ensures { result ≡ place_begins placed.now at }
-{
-    if at == 0 {
-        return true;
-    }
-    !compare(&placed[at - 1].point, &placed[at].point).is_eq()
 }

@@ -3,7 +3,7 @@ use Rattle.std.proofs.lemmas.List.Sorted.{ranks_by, answers_always}
 use Rattle.cube_point.specs.Points.{comes_before}
 use Rattle.cube_point.proofs.PointOrder.{point-total}
 use Rattle.delta_agg.specs.declared.placed.Placed.{Placed}
-use Rattle.delta_agg.proofs.placed.sort.Goals as goal
+use Rattle.delta_agg.proofs.placed.PlacedRowKey.sort.Goals as goal
 
 pub returns-clause-sorted : goal.returns-clause-sorted
 returns-clause-sorted c =

@@ -1,6 +1,0 @@
-use Rattle.std.proofs.Common.{◌≤◌}
-use Rattle.delta_agg.proofs.placed.count.Given as goal
-
--- no more than the places passed
-abbrev pub invariant-loop-at : goal.invariant-loop-at
-invariant-loop-at l = l.count ≤ l.at
