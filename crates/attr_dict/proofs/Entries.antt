@@ -1,5 +1,5 @@
 -- One more text among entries, and its code.
-use Rattle.std.proofs.Common.{◌≡◌, ℕ, suc, ◌<◌, ◌&&◌, ◌||◌, Bool, true, false, cond, List, [], ◌∷◌, ◌++◌, Some, None, length, get_or, take, drop, min, refl, sym, ap, subst, ◌∙◌, ⊎_elim, arith, append-nil}
+use Rattle.std.proofs.Common.{◌≡◌, ℕ, suc, ◌<◌, ◌&&◌, ◌||◌, Bool, true, false, cond, List, [], ◌∷◌, ◌++◌, Some, None, length, get_or, take, drop, refl, sym, ap, subst, ◌∙◌, ⊎_elim, arith, append-nil}
 use Rattle.std.specs.Prelude.{is_some, option_map, unwrap_or}
 use Rattle.std.specs.List.{list_any, cons_option}
 use Rattle.std.specs.Str.{bytes_eq}
@@ -11,9 +11,8 @@ use Rattle.view_points.specs.Codes.{Text, admitted, place, same_entry, for_attr}
 use Rattle.view_points.specs.Points.{coord}
 use Rattle.view_points.proofs.Codes.{code-kept}
 use Rattle.view_points.proofs.Names.{admitted-for}
-use Rattle.view_points.proofs.Ranges.{place-below}
 use Rattle.attr_dict.specs.Admitting.{Grew, fresh, entry_text, entries_text}
-use Rattle.attr_dict.specs.Coding.{AreNamesOf, HasFew}
+use Rattle.attr_dict.specs.Coding.{AreNamesOf}
 
 abbrev Entry : Type 0
 Entry = ℕ × Text
@@ -86,10 +85,3 @@ pub code-later : (t : Text) (ns later : List Text) (code : ℕ) → Some code �
 code-later t ns later code is grew =
     let more = drop (length ns) later in
     ap (λ o. unwrap_or o 0) (is ∙ sym (code-kept ns more (Word t) (ap is_some (sym is)))) ∙ ap (λ names. coord names (Word t)) (sym (more-behind ns later grew))
-
--- and has 32 bits where these are few
-pub code-narrow : (t : Text) (ns later : List Text) (code : ℕ) → Some code ≡ option_map suc (place bytes_eq t ns) → Grew ns later → HasFew later → min code 4294967295 ≡ coord later (Word t)
-code-narrow t ns later code is grew few =
-    let same = code-later t ns later code is grew in
-    let low = place-below bytes_eq t later in
-    omega arith

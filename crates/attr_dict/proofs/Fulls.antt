@@ -2,14 +2,12 @@
 use Rattle.std.proofs.Common.{◌≡◌, ℕ, zero, suc, ◌+◌, ◌<◌, ◌≤◌, Bool, true, false, cond, List, [], Some, None, length, get_or, refl, sym, ap, ◌∙◌, ⊎_elim, arith}
 use Rattle.std.specs.Prelude.{find, nat_lt}
 use Rattle.std.specs.List.{range_with_len}
-use Rattle.std.proofs.lemmas.Bool.{cases_eq, cases_lt, lt-ltb, le-ltb, ltb-false, cond-true, cond-false}
-use Rattle.std.proofs.lemmas.List.{get_or_default, get_or_past, get_or_read}
+use Rattle.std.proofs.lemmas.Bool.{cases_eq, lt-ltb, le-ltb, ltb-false, cond-true, cond-false}
+use Rattle.std.proofs.lemmas.List.{get_or_default, get_or_read}
 use Rattle.cube_schema.specs.declared.Kind.{Kind}
 use Rattle.cube_schema.specs.declared.Kind.TheVariants as kind
 use Rattle.cube_schema.specs.Kinds.{max_of}
-use Rattle.view_points.specs.Agree.{name_limit}
 use Rattle.view_points.specs.Codes.{Text}
-use Rattle.attr_dict.specs.Coding.{HasFew}
 
 find-none : (p : ℕ → Bool) (a n : ℕ) → ((k : ℕ) → a ≤ k → k < a + n → p k ≡ false) → find p (range_with_len a n) ≡ None
 find-none p a zero none = refl
@@ -65,9 +63,3 @@ module _ (kinds : List Kind) (names : List (List Text)) where
   module _ (none : find is_full (range_with_len 0 (length kinds)) ≡ None) where
     pub none-within : (a : ℕ) → a < length kinds → length (get_or names a []) ≤ max_of (get_or kinds a kind.Number)
     none-within a lt = ltb-false (max_of (get_or kinds a kind.Number)) (length (get_or names a [])) (find-all is_full 0 (length kinds) none a (omega arith) (omega arith))
-
-    -- so no attribute has more names than 32 bits can tell
-    pub none-many : length names ≡ length kinds → ((a : ℕ) → max_of (get_or kinds a kind.Number) ≤ name_limit) → (a : ℕ) → HasFew (get_or names a [])
-    none-many same ranges a =
-        ⊎_elim (λ (lt : a < length kinds). (let within = none-within a lt in let range = ranges a in omega arith))
-        (λ (le : length kinds ≤ a). (let past = ap length (get_or_past names a [] (omega arith)) in omega arith)) (cases_lt a (length kinds))

@@ -1,5 +1,5 @@
 -- What is kept of accepted facts: their names, and a names file that grows at its end.
-use Rattle.std.proofs.Common.{inl, inr, ◌≡◌, ℕ, zero, suc, ◌^◌, ◌-◌, ◌<◌, ◌≤◌, true, false, cond, List, [], ◌∷◌, ◌++◌, Some, None, length, get_or, map, take, refl, sym, ap, subst, ◌∙◌, ⊎_elim, arith, append_assoc, append-nil}
+use Rattle.std.proofs.Common.{inl, inr, ◌≡◌, ℕ, zero, suc, ◌<◌, ◌≤◌, true, false, cond, List, [], ◌∷◌, ◌++◌, Some, None, length, get_or, map, take, refl, sym, ap, subst, ◌∙◌, ⊎_elim, arith, append_assoc, append-nil}
 use Rattle.std.specs.Prelude.{nat_lt, not, slice_set}
 use Rattle.std.specs.List.{All, AllZip, IsDistinct, list_any, cons_option}
 use Rattle.std.specs.Str.{bytes_eq}
@@ -21,14 +21,13 @@ use Rattle.cube_schema.specs.Kinds.{max_of}
 use Rattle.cube_schema.specs.Agreeing.{IsOfKind, Agrees as AgreesWith}
 use Rattle.cube_schema.specs.Lawful.{IsSchema}
 use Rattle.view_points.specs.Codes.{Text, admitted, text_in, texts_at, names_of, same_entry, named, names, for_attr}
-use Rattle.view_points.specs.Points.{coord}
-use Rattle.view_points.specs.Agree.{IsWithin, number_limit}
+use Rattle.view_points.specs.Agree.{name_limit}
 use Rattle.view_points.proofs.Codes.{admitted-more, names-append}
 use Rattle.view_points.proofs.Names.{distinct-admitted, names-more, names-for, names-distinct}
 use Rattle.view_points.proofs.Members.{every-right}
-use Rattle.view_points.proofs.Ranges.{coord-below}
+use Rattle.view_points.proofs.Ranges.{place-below}
 use Rattle.attr_dict.specs.Book.{Book, IsBook, IsShort, kind_at, names_at, none_yet, no_names}
-use Rattle.attr_dict.specs.Admitting.{Agrees, HasSmallCodes, names_with, first_full, entries_text, fresh, Lists}
+use Rattle.attr_dict.specs.Admitting.{Agrees, HasSmallCode, HasSmallCodes, names_with, first_full, entries_text, fresh, Lists}
 use Rattle.attr_dict.specs.Entering.{can_enter, entered, all_enter, after_entries}
 use Rattle.attr_dict.proofs.Books.{book-new, unnamed}
 use Rattle.attr_dict.proofs.Columns.{distinct-take, own-short, short-admitted, texts-short}
@@ -162,25 +161,22 @@ full-first b ys a some =
 
 -- ---- facts that agree
 
-kind-within : (k : Kind) (v : Value) → IsOfKind k v → IsWithin number_limit v
-kind-within (kind.Word max) (Word t) is = tt
-kind-within (kind.Word max) (Number n) is = absurd is
-kind-within kind.Number (Word t) is = absurd is
-kind-within kind.Number (Number n) is = omega (arith, is)
+-- a value of its kind has a small code where the names are few
+kind-small : (k : Kind) (names : List Text) (v : Value) → length names ≤ name_limit → IsOfKind k v → HasSmallCode names v
+kind-small (kind.Word max) names (Word t) few is = omega (arith, place-below bytes_eq t names)
+kind-small (kind.Word max) names (Number n) few is = absurd is
+kind-small kind.Number names (Word t) few is = absurd is
+kind-small kind.Number names (Number n) few is = is
 
-values-within : (kinds : List Kind) (x : Fact) → Agrees kinds x → (a : ℕ) → IsWithin number_limit (value_at x a)
-values-within kinds x agrees a =
-    ⊎_elim (λ (lt : a < length kinds). kind-within (get_or kinds a kind.Number) (value_at x a) (agrees.each a lt))
-    (λ (le : length kinds ≤ a). (let size = agrees.values in subst (IsWithin number_limit) (sym (get_or_past x.values a (Number 0) (omega arith))) (omega arith)))
-    (cases_lt a (length kinds))
-
--- the coordinates of a fact that agrees have 32 bits
-pub codes-narrow : (b : Book) (x : Fact) → IsBook b → Agrees b.kinds x → (a : ℕ) → coord (names_at b a) (value_at x a) ≤ 2 ^ 32 - 1
-codes-narrow b x book agrees a =
+-- the codes of a fact that agrees are small
+pub codes-small : (b : Book) (x : Fact) → IsBook b → Agrees b.kinds x → HasSmallCodes (names_at b) x
+codes-small b x book agrees a =
     let within = book.within a in
     let range = book.ranges a in
-    let below = coord-below (names_at b a) (value_at x a) (omega arith) (values-within b.kinds x agrees a) in
-    omega arith
+    let few : length (names_at b a) ≤ name_limit = omega arith in
+    ⊎_elim (λ (lt : a < length b.kinds). kind-small (get_or b.kinds a kind.Number) (names_at b a) (value_at x a) few (agrees.each a lt))
+    (λ (le : length b.kinds ≤ a). (let size = agrees.values in subst (HasSmallCode (names_at b a)) (sym (get_or_past x.values a (Number 0) (omega arith))) (omega arith)))
+    (cases_lt a (length b.kinds))
 
 kinds-each : (attrs : List Attr) (values : List Value) → AllZip (λ (attr : Attr) value. IsOfKind attr.kind value) attrs values → (a : ℕ) → a < length attrs
     → IsOfKind (get_or (map (λ (attr : Attr). attr.kind) attrs) a kind.Number) (get_or values a (Number 0))
@@ -217,10 +213,10 @@ book-taken b names facts book same within are agree = record {
   short = λ a. subst (All IsShort) (sym (are a)) (short-admitted (names_at b a) (texts_at a facts) (book.short a) (texts-short b.kinds facts a agree));
 }
 
--- and the coordinates that it gives to facts that agree have 32 bits
-pub taken-narrow : (b : Book) (names : List (List Text)) (facts : List Fact) → IsBook (booked b.kinds names) → All (Agrees b.kinds) facts
+-- and the codes that it gives to facts that agree are small
+pub taken-small : (b : Book) (names : List (List Text)) (facts : List Fact) → IsBook (booked b.kinds names) → All (Agrees b.kinds) facts
     → All (HasSmallCodes (λ a. get_or names a [])) facts
-taken-narrow b names facts book agree = λ i d low. λ a. codes-narrow (booked b.kinds names) (get_or facts i d) book (agree i d low) a
+taken-small b names facts book agree = λ i d low. codes-small (booked b.kinds names) (get_or facts i d) book (agree i d low)
 
 -- names that are cut make a book again
 pub book-cut : (kinds : List Kind) (names cut : List (List Text)) (counts : List ℕ) → IsBook (booked kinds names) → length cut ≡ length names → ((a : ℕ) → get_or cut a [] ≡ take (get_or counts a 0) (get_or names a []))

@@ -1,14 +1,18 @@
 -- What admitting facts makes of names, and the entries of the names file for the new ones.
-use Rattle.std.specs.Prelude.{◌≡◌, ℕ, ◌-◌, ◌^◌, ◌<◌, ◌≤◌, Bool, cond, List, [], ◌∷◌, ◌++◌, length, get_or, take, map, flat_map, find, nat_lt, Option}
+use Rattle.std.specs.Prelude.{◌≡◌, ℕ, ◌<◌, ◌≤◌, Bool, cond, List, [], ◌∷◌, ◌++◌, length, get_or, take, map, flat_map, find, nat_lt, Option}
 use Rattle.std.specs.List.{list_any, range_with_len}
 use Rattle.std.specs.Str.{bytes_eq}
 use Rattle.fact_model.specs.declared.fact.Fact.{Fact}
+use Rattle.fact_model.specs.declared.fact.Value.{Value}
+use Rattle.fact_model.specs.declared.fact.Value.TheVariants.{Word, Number}
 use Rattle.fact_model.specs.Fact.{value_at}
+use Rattle.fact_model.specs.Limits.{number_limit}
 use Rattle.cube_schema.specs.declared.Kind.{Kind}
 use Rattle.cube_schema.specs.declared.Kind.TheVariants as kind
 use Rattle.cube_schema.specs.Kinds.{max_of}
 use Rattle.cube_schema.specs.Agreeing.{IsOfKind}
 use Rattle.view_points.specs.Codes.{Text, admitted, texts_at, for_attr}
+use Rattle.view_points.specs.Agree.{name_limit}
 use Rattle.view_points.specs.Points.{Names, coord}
 use Rattle.attr_dict.specs.Book.{Book, kind_at, names_at}
 
@@ -49,6 +53,11 @@ fresh same seen (x ∷ xs) = cond (list_any (same x) seen) (fresh same seen xs) 
 abbrev pub Lists : Book → List (ℕ × Text) → Type 0
 Lists b es = (a : ℕ) → for_attr a es ≡ names_at b a
 
--- all codes of the fact are within 32 bits
+-- the code of a text is at most the limit of names, and a number is within its limit
+abbrev pub HasSmallCode : List Text → Value → Type 0
+HasSmallCode names (Word t) = coord names (Word t) ≤ name_limit
+HasSmallCode names (Number n) = n ≤ number_limit
+
+-- all codes of the fact are within the limits of names and of numbers
 abbrev pub HasSmallCodes : Names → Fact → Type 0
-HasSmallCodes names x = (a : ℕ) → coord (names a) (value_at x a) ≤ 2 ^ 32 - 1
+HasSmallCodes names x = (a : ℕ) → HasSmallCode (names a) (value_at x a)

@@ -11,7 +11,8 @@ use Rattle.cube_schema.specs.declared.Kind.TheVariants as kind
 use Rattle.cube_schema.specs.declared.Schema.{Schema}
 use Rattle.cube_schema.specs.Kinds.{max_of}
 use Rattle.view_points.specs.Codes.{Text, place, value_in, names_of}
-use Rattle.view_points.specs.Agree.{name_limit, number_limit}
+use Rattle.view_points.specs.Agree.{name_limit}
+use Rattle.fact_model.specs.Limits.{number_limit}
 
 -- the kind and the names of each attribute; a number attribute has no names
 pub record Book : Type 0 where

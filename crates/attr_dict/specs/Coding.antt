@@ -1,5 +1,5 @@
 -- Entries of the names file, while facts are coded.
-use Rattle.std.specs.Prelude.{◌≡◌, ℕ, ◌-◌, ◌^◌, ◌≤◌, List, [], ◌∷◌, length, get_or}
+use Rattle.std.specs.Prelude.{◌≡◌, ℕ, List, [], ◌∷◌, get_or}
 use Rattle.fact_model.specs.declared.fact.Value.{Value}
 use Rattle.fact_model.specs.declared.fact.Value.TheVariants.{Word, Number}
 use Rattle.view_points.specs.Codes.{Text, for_attr}
@@ -12,7 +12,3 @@ entry_in a (Number n) = []
 -- the names of each attribute are the texts of its entries
 abbrev pub AreNamesOf : List (ℕ × Text) → List (List Text) → Type 0
 AreNamesOf es names = (a : ℕ) → for_attr a es ≡ get_or names a []
-
--- no more names than 32 bits can tell
-abbrev pub HasFew : List Text → Type 0
-HasFew names = length names ≤ 2 ^ 32 - 1

@@ -2,7 +2,7 @@
 use Rattle.std.specs.Prelude.{◌≤◌, length}
 use Rattle.fact_model.specs.declared.fact.Value.{Value}
 use Rattle.fact_model.specs.declared.fact.Value.TheVariants.{Word, Number}
-use Rattle.view_points.specs.Agree.{number_limit}
+use Rattle.fact_model.specs.Limits.{number_limit}
 
 -- a text has at most 255 bytes, and a number is within its limit
 abbrev pub IsSmall : Value → Type 0

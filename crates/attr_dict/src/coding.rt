@@ -8,7 +8,7 @@ ghost use Rattle.fact_batch.specs.Values.{shown};
 ghost use Rattle.view_points.specs.Codes.{Text, admitted, texts_at, same_entry, named};
 ghost use Rattle.view_points.specs.Points.{coord};
 ghost use Rattle.attr_dict.specs.Admitting.{Grew, codes_of, entries_text, entry_text, fresh};
-ghost use Rattle.attr_dict.specs.Coding.{HasFew, AreNamesOf, entry_in};
+ghost use Rattle.attr_dict.specs.Coding.{AreNamesOf, entry_in};
 ghost use Rattle.attr_dict.specs.Sizes.{IsSmall};
 
 use crate::names::Names;
@@ -21,7 +21,7 @@ use std::mem::replace;
 #[derive(Drop)]
 pub struct Admitted {
     /// The coordinates of each fact, one for each attribute.
-    pub coded: FlatRows<u32>,
+    pub coded: FlatRows<u64>,
     /// The entries of the names file for the new names.
     pub names: Text,
 }
@@ -47,8 +47,7 @@ fn refilled(alloc: Global, room: &mut Vec<u8>, bytes: &[u8]) -> Result<Text, Mem
     Ok(Text::from_vec(text))
 }
 
-/// The code of a text, which is admitted, and whose entry is written where it is new. A code that 32 bits cannot tell becomes the
-/// greatest that they can.
+/// The code of a text, which is admitted, and whose entry is written where it is new.
 fn code_text(
     alloc: Global,
     names: &mut Names,
@@ -56,11 +55,11 @@ fn code_text(
     bytes: &[u8],
     room: &mut Vec<u8>,
     entries: &mut Vec<u8>,
-) -> Result<u32, Memory>
+) -> Result<u64, Memory>
     requires attr { attr < 256 }
     requires short { length bytes.now ≤ 255 }
     ensures names { OnOk result (names.new ≡ admitted bytes_eq names.old (bytes.now ∷ [])) }
-    ensures code { (later : List Text) → Grew names.new later → HasFew later → IfOk result (λ code. code ≡ coord later (Word bytes.now)) }
+    ensures code { (later : List Text) → Grew names.new later → IfOk result (λ code. code ≡ coord later (Word bytes.now)) }
     ensures entries { OnOk result (entries.new.items ≡ entries.old.items ++ (if list_any (bytes_eq bytes.now) names.old then [] else entry_text (attr, bytes.now))) }
     ensures grew { Grew names.old names.new }
 {
@@ -70,7 +69,7 @@ fn code_text(
     if fresh {
         push_entry(entries, attr, bytes)?;
     }
-    Ok(code.min(u64::from(u32::MAX)) as u32)
+    Ok(code)
 }
 
 /// The code of a value. A text is admitted, and its entry written where it is new.
@@ -81,13 +80,13 @@ fn code_value(
     value: LentValue<'_>,
     room: &mut Vec<u8>,
     entries: &mut Vec<u8>,
-) -> Result<u32, Memory>
+) -> Result<u64, Memory>
     requires attr { attr < 256 }
     requires there { attr < length names.old.items }
     requires small { IsSmall (shown value) }
     ensures same { length names.new.items ≡ length names.old.items }
     ensures names { (seen : List (ℕ × Text)) → AreNamesOf seen names.old.items → OnOk result (AreNamesOf (admitted same_entry seen (entry_in attr (shown value.entry))) names.new.items) }
-    ensures code { (later : List (List Text)) → ((a : ℕ) → Grew (get_or names.new.items a []) (get_or later a [])) → ((a : ℕ) → HasFew (get_or later a [])) → IfOk result (λ code. code ≡ coord (get_or later attr []) (shown value.entry)) }
+    ensures code { (later : List (List Text)) → ((a : ℕ) → Grew (get_or names.new.items a []) (get_or later a [])) → IfOk result (λ code. code ≡ coord (get_or later attr []) (shown value.entry)) }
     ensures entries { (seen : List (ℕ × Text)) → AreNamesOf seen names.old.items → OnOk result (entries.new.items ≡ entries.old.items ++ entries_text (fresh same_entry seen (entry_in attr (shown value.entry)))) }
     ensures grew { (a : ℕ) → Grew (get_or names.old.items a []) (get_or names.new.items a []) }
 {
@@ -105,8 +104,8 @@ fn behind(attr: usize, width: usize) -> usize
     if attr + 1 == width { 0 } else { attr + 1 }
 }
 
-/// Admits the texts of the facts, and gives the coordinates of all facts and the entries of the new names. The coordinates are right
-/// where then no attribute has more names than 32 bits can tell. After `Memory` new names may stand behind the old.
+/// Admits the texts of the facts, and gives the coordinates of all facts and the entries of the new names. After `Memory` new names
+/// may stand behind the old.
 pub(crate) fn code_batch(
     alloc: Global,
     names: &mut Vec<Names>,
@@ -117,7 +116,7 @@ pub(crate) fn code_batch(
     requires small { All (λ (x : Fact). All IsSmall x.values) facts.now }
     ensures same { length names.new.items ≡ length names.old.items }
     ensures names { OnOk result ((a : ℕ) → get_or names.new.items a [] ≡ admitted bytes_eq (get_or names.old.items a []) (texts_at a facts.now)) }
-    ensures coded { ((a : ℕ) → HasFew (get_or names.new.items a [])) → IfOk result (λ admitted. admitted.coded ≡ map (codes_of names.new.items) facts.now) }
+    ensures coded { IfOk result (λ admitted. admitted.coded ≡ map (codes_of names.new.items) facts.now) }
     ensures entries { (seen : List (ℕ × Text)) → AreNamesOf seen names.old.items → IfOk result (λ admitted. admitted.names ≡ entries_text (fresh same_entry seen (named facts.now))) }
     ensures grew { (a : ℕ) → Grew (get_or names.old.items a []) (get_or names.new.items a []) }
 {

@@ -5,7 +5,8 @@ ghost use Rattle.cube_schema.specs.Lawful.{IsSchema};
 ghost use Rattle.std.specs.List.{zip};
 ghost use Rattle.view_points.specs.Deltas.{CodedBy};
 ghost use Rattle.view_points.specs.Points.{View};
-ghost use Rattle.view_points.specs.Agree.{IsWithin, IsCoded, number_limit};
+ghost use Rattle.fact_model.specs.Limits.{IsWithin, number_limit};
+ghost use Rattle.view_points.specs.Agree.{IsCoded};
 ghost use Rattle.view_points.specs.Codes.{Text, same_entry, named};
 ghost use Rattle.attr_dict.specs.Admitting.{Agrees, HasSmallCodes, names_with, first_full, codes_of, entries_text, fresh, Lists};
 ghost use Rattle.attr_dict.specs.Full.{IsFull};
@@ -23,12 +24,9 @@ use crate::read::{NamesStop, read_entries};
 use crate::take::take_in;
 use cube_schema::{Attr, Kind, Schema};
 use fact_batch::Batch;
-use fact_model::{Memory, Text, Value};
+use fact_model::{GREATEST_NUMBER, Memory, Text, Value};
 use std::alloc::Global;
 use std::marker::Model;
-
-/// The greatest number that has a coordinate.
-const GREATEST_NUMBER: u64 = 4_294_967_293;
 
 /// A value that is lent.
 #[derive(Clone, Copy, Debug, PartialEq, Eq)]

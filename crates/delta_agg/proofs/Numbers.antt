@@ -14,7 +14,7 @@ use Rattle.cube_point.specs.Points.{point_cmp}
 use Rattle.view_points.proofs.Members.{every-from_All}
 use Rattle.delta_agg.specs.declared.digits.Digit.{Digit}
 use Rattle.delta_agg.specs.Batch.{place_at}
-use Rattle.delta_agg.specs.Rows.{HasDigit, digit_of, digits_of, number_from, number_in, room}
+use Rattle.delta_agg.specs.Rows.{HasDigit, digit_of, digits_of, number_from, number_in, room, span}
 
 -- ---- they fit
 
@@ -35,10 +35,10 @@ digit-left n c s r most low left =
 
 pub room-some : (coordinates : List ℕ) (digits : List Digit) → AllByRecursion (HasDigit coordinates) digits → 1 ≤ room digits
 room-some coordinates [] has = omega arith
-room-some coordinates (d ∷ digits) has = omega (arith, mul-le 1 1 d.span (room digits) (omega (arith, has.0.1)) (room-some coordinates digits has.1))
+room-some coordinates (d ∷ digits) has = omega (arith, mul-le 1 1 (span d) (room digits) (omega (arith, has.0.1)) (room-some coordinates digits has.1))
 
-pub room-more : (r : ℕ) (d : Digit) (digits : List Digit) → (r * d.span) * room digits ≡ r * room (d ∷ digits)
-room-more r d digits = together r d.span (room digits)
+pub room-more : (r : ℕ) (d : Digit) (digits : List Digit) → (r * span d) * room digits ≡ r * room (d ∷ digits)
+room-more r d digits = together r (span d) (room digits)
 
 -- ---- the order
 
@@ -158,16 +158,16 @@ module _ (digits : List Digit) (coordinates : List ℕ) (i n most : ℕ) (d : Di
   abbrev digit : Digit
   digit = get_or digits i d
 
-  here : (n + 1) * (digit.span * room (drop (i + 1) digits)) ≤ most
+  here : (n + 1) * (span digit * room (drop (i + 1) digits)) ≤ most
   here = subst (λ ds. (n + 1) * room ds ≤ most) (drop_more digits i d low) left
 
-  pub more-fits : n * digit.span + slice_index coordinates digit.attr < most
-  more-fits = digit-fits n (slice_index coordinates digit.attr) digit.span (room (drop (i + 1) digits)) most (has i d low).1 (room-some coordinates (drop (i + 1) digits) (every-left (HasDigit coordinates) digits (i + 1) has)) here
+  pub more-fits : n * span digit + slice_index coordinates digit.attr < most
+  more-fits = digit-fits n (slice_index coordinates digit.attr) (span digit) (room (drop (i + 1) digits)) most (has i d low).1 (room-some coordinates (drop (i + 1) digits) (every-left (HasDigit coordinates) digits (i + 1) has)) here
 
-  pub more-left : (n * digit.span + slice_index coordinates digit.attr + 1) * room (drop (i + 1) digits) ≤ most
-  more-left = digit-left n (slice_index coordinates digit.attr) digit.span (room (drop (i + 1) digits)) most (has i d low).1 here
+  pub more-left : (n * span digit + slice_index coordinates digit.attr + 1) * room (drop (i + 1) digits) ≤ most
+  more-left = digit-left n (slice_index coordinates digit.attr) (span digit) (room (drop (i + 1) digits)) most (has i d low).1 here
 
-  pub more-whole : number_from (n * digit.span + slice_index coordinates digit.attr) (drop (i + 1) digits) coordinates ≡ number_from n (drop i digits) coordinates
+  pub more-whole : number_from (n * span digit + slice_index coordinates digit.attr) (drop (i + 1) digits) coordinates ≡ number_from n (drop i digits) coordinates
   more-whole = sym (at_drop_more (λ ds. number_from n ds coordinates) digits i d low)
 
 -- no digit is left

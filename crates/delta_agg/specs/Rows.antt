@@ -42,7 +42,11 @@ IsUnder tops coordinates = (a : ℕ) → a < length tops → slice_index coordin
 
 -- the digit of an attribute
 abbrev pub digit_of : List ℕ → ℕ → Digit
-digit_of tops a = record { attr = a; span = slice_index tops a + 1 }
+digit_of tops a = record { attr = a; top = slice_index tops a }
+
+-- how many coordinates a digit tells apart, from 0 on
+abbrev pub span : Digit → ℕ
+span d = d.top + 1
 
 -- the digits of a view, the last attribute first
 abbrev pub digits_of : List ℕ → View → List Digit
@@ -51,16 +55,16 @@ digits_of tops view = map (digit_of tops) (reverse view)
 -- how many numbers digits make
 abbrev pub room : List Digit → ℕ
 room [] = 1
-room (d ∷ digits) = d.span * room digits
+room (d ∷ digits) = span d * room digits
 
 -- a number with digits behind it
 abbrev pub number_from : ℕ → List Digit → List ℕ → ℕ
 number_from number [] coordinates = number
-number_from number (d ∷ digits) coordinates = number_from (number * d.span + slice_index coordinates d.attr) digits coordinates
+number_from number (d ∷ digits) coordinates = number_from (number * span d + slice_index coordinates d.attr) digits coordinates
 
 -- the coordinate is positive and below the span
 abbrev pub HasDigit : List ℕ → Digit → Type 0
-HasDigit coordinates d = (1 ≤ slice_index coordinates d.attr) × (slice_index coordinates d.attr < d.span)
+HasDigit coordinates d = (1 ≤ slice_index coordinates d.attr) × (slice_index coordinates d.attr < span d)
 
 -- the number of a row's place, and behind it the row
 abbrev pub row_key : List Digit → List (List ℕ) → ℕ → ℕ

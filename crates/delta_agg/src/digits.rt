@@ -13,16 +13,16 @@ use std::alloc::Global;
 pub(crate) struct Digit {
     /// The attribute whose coordinate it is.
     pub(crate) attr: u32,
-    /// How many coordinates there may be, from 0 on.
-    pub(crate) span: u64,
+    /// The greatest coordinate that there may be.
+    pub(crate) top: u64,
 }
 
 /// The greatest coordinate of each attribute.
 pub(crate) fn tops_of(
     alloc: Global,
     attrs: usize,
-    coded: &FlatRows<u32>,
-) -> Result<Vec<u32>, Memory>
+    coded: &FlatRows<u64>,
+) -> Result<Vec<u64>, Memory>
     requires attrs { attrs ≤ 16 }
     requires coordinates { All (HasCoordinates attrs) coded.now }
     ensures long { IfOk result (λ tops. length tops.items ≡ attrs) }
@@ -36,7 +36,7 @@ pub(crate) fn tops_of(
 }
 
 /// Raises each top that is below the coordinate of its attribute.
-fn raise(tops: &mut Vec<u32>, coordinates: &[u32])
+fn raise(tops: &mut Vec<u64>, coordinates: &[u64])
     requires attrs { length tops.old.items ≤ 16 }
     requires coordinates { HasCoordinates (length tops.old.items) coordinates.now }
     ensures long { length tops.new.items ≡ length tops.old.items }
@@ -49,15 +49,17 @@ fn raise(tops: &mut Vec<u32>, coordinates: &[u32])
 }
 
 /// The digits of a view, the last attribute first.
-pub(crate) fn digits_of(alloc: Global, view: &[u32], tops: &[u32]) -> Result<Vec<Digit>, Memory>
+pub(crate) fn digits_of(alloc: Global, view: &[u32], tops: &[u64]) -> Result<Vec<Digit>, Memory>
     requires declared { All (λ a. a < length tops.now) view.now }
     ensures { IfOk result (λ digits. digits.items ≡ digits_of tops.now view.now) }
 {
     let mut digits = Vec::with_capacity(alloc, view.len())?;
     for skipped in 0..view.len() {
         let attr = view[view.len() - 1 - skipped];
-        let span = u64::from(tops[attr as usize]) + 1;
-        digits.push(Digit { attr, span })?;
+        digits.push(Digit {
+            attr,
+            top: tops[attr as usize],
+        })?;
     }
     Ok(digits)
 }
@@ -68,7 +70,7 @@ pub(crate) fn room_within(digits: &[Digit], most: u128) -> bool
 {
     let mut room: u128 = 1;
     for digit in digits {
-        match room.checked_mul(u128::from(digit.span)) {
+        match room.checked_mul(u128::from(digit.top) + 1) {
             Some(more) => room = more,
             None => return false,
         }

@@ -9,7 +9,7 @@ use cube_point::{Entry, Point};
 use fact_batch::FlatRows;
 
 /// The point of the run at this place.
-pub(crate) fn point_of(coded: &FlatRows<u32>, view: &ViewRuns, at: usize) -> Point
+pub(crate) fn point_of(coded: &FlatRows<u64>, view: &ViewRuns, at: usize) -> Point
     requires runs { IsRuns coded.now view.now }
     requires at { at < run_count view.now }
     ensures { (measures : ℕ) (numbers : List (List ℤ)) → result ≡ (entry_at measures coded.now numbers view.now at).point }
@@ -21,7 +21,7 @@ pub(crate) fn point_of(coded: &FlatRows<u32>, view: &ViewRuns, at: usize) -> Poi
 /// The entry of the run at this place.
 pub(crate) fn entry_of(
     measures: u8,
-    coded: &FlatRows<u32>,
+    coded: &FlatRows<u64>,
     numbers: &FlatRows<i128>,
     view: &ViewRuns,
     at: usize,

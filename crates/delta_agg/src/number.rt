@@ -26,10 +26,10 @@ pub(crate) trait Number: RowKey + Copy {
     fn zero() -> Self
         ensures { number result ≡ 0 };
 
-    /// The number with a digit behind it.
-    fn with_digit(self, span: u64, coordinate: u32) -> Self
-        requires { number self * span + coordinate < MOST_PLACES }
-        ensures { number result ≡ number self * span + coordinate };
+    /// The number with a digit behind it, which is at most `top`.
+    fn with_digit(self, top: u64, coordinate: u64) -> Self
+        requires { number self * (top + 1) + coordinate < MOST_PLACES }
+        ensures { number result ≡ number self * (top + 1) + coordinate };
 
     /// The key of a place of this number.
     fn with_row(self, row: usize) -> Self
@@ -69,8 +69,8 @@ impl Number for u64 {
         0
     }
 
-    fn with_digit(self, span: u64, coordinate: u32) -> u64 {
-        self * span + u64::from(coordinate)
+    fn with_digit(self, top: u64, coordinate: u64) -> u64 {
+        self * top + (self + coordinate)
     }
 
     fn with_row(self, row: usize) -> u64 {
@@ -109,8 +109,8 @@ impl Number for u128 {
         0
     }
 
-    fn with_digit(self, span: u64, coordinate: u32) -> u128 {
-        self * u128::from(span) + u128::from(coordinate)
+    fn with_digit(self, top: u64, coordinate: u64) -> u128 {
+        self * u128::from(top) + (self + u128::from(coordinate))
     }
 
     fn with_row(self, row: usize) -> u128 {
@@ -122,7 +122,7 @@ impl Number for u128 {
 pub(crate) fn make_keys<K: Number>(
     keys: &mut Vec<K>,
     digits: &[Digit],
-    coded: &FlatRows<u32>,
+    coded: &FlatRows<u64>,
 ) -> Result<(), Memory>
     requires few { room digits.now ≤ K.MOST_PLACES }
     requires under { All (λ (coordinates : List ℕ). All (HasDigit coordinates) digits.now) coded.now }
@@ -138,7 +138,7 @@ pub(crate) fn make_keys<K: Number>(
 }
 
 /// The key of a row with these coordinates.
-fn key<K: Number>(digits: &[Digit], coordinates: &[u32], row: usize) -> K
+fn key<K: Number>(digits: &[Digit], coordinates: &[u64], row: usize) -> K
     requires few { room digits.now ≤ K.MOST_PLACES }
     requires under { All (HasDigit coordinates.now) digits.now }
     requires row { row < 2 ^ 18 }
@@ -146,7 +146,7 @@ fn key<K: Number>(digits: &[Digit], coordinates: &[u32], row: usize) -> K
 {
     let mut number = K::zero();
     for digit in digits {
-        number = number.with_digit(digit.span, coordinates[digit.attr as usize]);
+        number = number.with_digit(digit.top, coordinates[digit.attr as usize]);
     }
     number.with_row(row)
 }

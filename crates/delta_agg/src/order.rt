@@ -34,8 +34,8 @@ impl Keys {
 pub(crate) fn runs_of(
     alloc: Global,
     view: &[u32],
-    coded: &FlatRows<u32>,
-    tops: &[u32],
+    coded: &FlatRows<u64>,
+    tops: &[u64],
     keys: &mut Keys,
 ) -> Result<ViewRuns, Memory>
     requires arity { length view.now ≤ 8 }
@@ -59,8 +59,8 @@ pub(crate) fn runs_of(
 fn ordered(
     alloc: Global,
     view: &[u32],
-    coded: &FlatRows<u32>,
-    tops: &[u32],
+    coded: &FlatRows<u64>,
+    tops: &[u64],
     keys: &mut Keys,
 ) -> Result<Runs, Memory>
     requires arity { length view.now ≤ 8 }

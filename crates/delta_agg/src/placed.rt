@@ -44,20 +44,20 @@ impl RowKey for Placed {
 }
 
 /// The place of the coordinates in the view.
-pub(crate) fn place(view: &[u32], coordinates: &[u32]) -> [u64; 8]
+pub(crate) fn place(view: &[u32], coordinates: &[u64]) -> [u64; 8]
     requires arity { length view.now ≤ 8 }
     requires place { HasPlace view.now coordinates.now }
     ensures { result ≡ place_at view.now coordinates.now }
 {
     let mut at = [0; 8];
     for (i, attr) in view.iter().enumerate() {
-        at[i] = u64::from(coordinates[*attr as usize]);
+        at[i] = coordinates[*attr as usize];
     }
     at
 }
 
 /// The point of the coordinates in the view.
-pub(crate) fn point(view: &[u32], coordinates: &[u32]) -> Point
+pub(crate) fn point(view: &[u32], coordinates: &[u64]) -> Point
     requires arity { length view.now ≤ 8 }
     requires place { HasPlace view.now coordinates.now }
     ensures { result ≡ point_at view.now coordinates.now }
@@ -72,7 +72,7 @@ pub(crate) fn point(view: &[u32], coordinates: &[u32]) -> Point
 pub(crate) fn runs_by_places(
     alloc: Global,
     view: &[u32],
-    coded: &FlatRows<u32>,
+    coded: &FlatRows<u64>,
 ) -> Result<Runs, Memory>
     requires arity { length view.now ≤ 8 }
     requires places { All (HasPlace view.now) coded.now }
@@ -84,7 +84,7 @@ pub(crate) fn runs_by_places(
 }
 
 /// All rows with their points.
-fn placed_of(alloc: Global, view: &[u32], coded: &FlatRows<u32>) -> Result<Vec<Placed>, Memory>
+fn placed_of(alloc: Global, view: &[u32], coded: &FlatRows<u64>) -> Result<Vec<Placed>, Memory>
     requires arity { length view.now ≤ 8 }
     requires places { All (HasPlace view.now) coded.now }
     requires rows { length coded.now ≤ 2 ^ 18 }

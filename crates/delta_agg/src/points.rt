@@ -15,7 +15,7 @@ use std::marker::Model;
 #[derive(Drop)]
 pub struct Points<'a> {
     measures: u8,
-    coded: &'a FlatRows<u32>,
+    coded: &'a FlatRows<u64>,
     numbers: &'a FlatRows<i128>,
     views: &'a [ViewRuns],
     count: usize,
@@ -37,7 +37,7 @@ impl<'a> Points<'a> {
     /// The points of these views.
     pub(crate) fn new(
         measures: u8,
-        coded: &'a FlatRows<u32>,
+        coded: &'a FlatRows<u64>,
         numbers: &'a FlatRows<i128>,
         views: &'a [ViewRuns],
     ) -> Points<'a>
@@ -87,7 +87,7 @@ impl<'a> Points<'a> {
 }
 
 /// How many points the views have together.
-fn count_of(coded: &FlatRows<u32>, views: &[ViewRuns]) -> usize
+fn count_of(coded: &FlatRows<u64>, views: &[ViewRuns]) -> usize
     requires few { length coded.now ≤ 262144 }
     requires tree { IsTree coded.now views.now }
     ensures { result ≡ sum_by run_count views.now }

@@ -7,7 +7,7 @@ use crate::values::{Slot, Values};
 use std::marker::Model;
 
 /// The facts of a batch, which contracts see as the list of the facts. They have as many values and numbers each, which lie one behind the
-/// other, 8 bytes a value beside the bytes of the texts, and 16 bytes a number.
+/// other, 16 bytes a value beside the bytes of the texts, and 16 bytes a number.
 #[derive(Drop)]
 pub struct Batch {
     pub(crate) width: usize,

@@ -63,7 +63,7 @@ impl BatchBuilder {
     }
 
     /// A number as the next value of the fact that is being made. After `Memory` nothing is said of that fact.
-    pub fn push_value(&mut self, number: u32) -> Result<(), Memory>
+    pub fn push_value(&mut self, number: u64) -> Result<(), Memory>
         ensures { OnOk result (self.new ≡ record self.old { values = self.old.values ++ Number number ∷ [] }) }
     {
         Ok(self.slots.push(Slot::Number(number))?)

@@ -10,7 +10,7 @@ pub enum Slot {
     /// A text of so many bytes.
     Word(u8),
     /// A number.
-    Number(u32),
+    Number(u64),
 }
 
 /// A value that is lent.
@@ -19,7 +19,7 @@ pub enum LentValue<'a> {
     /// The bytes of a text.
     Word(&'a [u8]),
     /// A number.
-    Number(u32),
+    Number(u64),
 }
 
 /// The values of facts that are still to come, which are lent one after the other.

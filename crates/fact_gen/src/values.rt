@@ -52,7 +52,7 @@ fn draw_value(
             write_text(drawn % u64::from(max.min(MOST_TEXTS)), text)?;
             builder.push_text(text.as_slice())
         }
-        Kind::Number => builder.push_value((drawn % NUMBERS) as u32),
+        Kind::Number => builder.push_value(drawn % NUMBERS),
     }
 }
 

@@ -3,6 +3,7 @@ pub mod Defaults
 pub mod Digits
 pub mod DistinctLemmas
 pub mod Folds
+pub mod Limits
 pub mod Masses
 pub mod RowsParts
 pub mod ValueOrder

@@ -2,6 +2,7 @@ pub mod Cell
 pub mod Distinct
 pub mod Fact
 pub mod Groups
+pub mod Limits
 pub mod Number
 pub mod Numbers
 pub mod Rows

@@ -28,7 +28,7 @@ loop-value-init c =
       small = subst (All IsSmall) (sym same) (values-small facts c.requires.small);
       count = omega (arith, ap length same, ap length c.in_ok-codes.ensures.items);
       grew = λ a. grew-not (get_or c.args.names.now.items a []);
-      coded = λ later grew few. (λ i. c.in_ok-codes.ensures.items i ++ codes_in later (around width 0 (same i)));
+      coded = λ later grew. (λ i. c.in_ok-codes.ensures.items i ++ codes_in later (around width 0 (same i)));
       onward = λ seen are.
           subst (λ (vs : List Value). Onward c.args.names.now.items c.new-entries.result.items seen (texts_in (around width 0 (values_in facts))) (texts_in (around width 0 vs))) (sym same)
           (onward-start c.args.names.now.items c.new-entries.result.items seen (texts_in (around width 0 (values_in facts))) c.new-entries.ensures.items are);
@@ -55,10 +55,10 @@ loop-value-preserved c =
       small = All-tail IsSmall v rest (subst (All IsSmall) next c.loop-value.invariant.small);
       count = (let before = c.loop-value.invariant.count in omega (arith, ap length c.in_ok-push.ensures.items, length-append c.loop-value.codes.items (c.in_ok-code_value.field-0 ∷ [])));
       grew = λ a. grew-on (get_or c.args.names.now.items a []) (get_or old a []) (get_or names a []) (c.loop-value.invariant.grew a) (c.code_value.ensures.grew a);
-      coded = λ later grew few.
+      coded = λ later grew.
           codes-step later width attr c.behind-attr.result v c.loop-value.values rest c.loop-value.codes.items c.push.new.self.items (codes_in later (around width 0 (values_in c.args.facts.now))) c.in_ok-code_value.field-0
-          next turn c.in_ok-push.ensures.items (c.in_ok-code_value.ensures.code later grew few)
-          (c.loop-value.invariant.coded later (λ a. grew-on (get_or old a []) (get_or names a []) (get_or later a []) (c.code_value.ensures.grew a) (grew a)) few);
+          next turn c.in_ok-push.ensures.items (c.in_ok-code_value.ensures.code later grew)
+          (c.loop-value.invariant.coded later (λ a. grew-on (get_or old a []) (get_or names a []) (get_or later a []) (c.code_value.ensures.grew a) (grew a)));
       onward = λ seen are.
           subst (λ b. Onward names c.code_value.new.entries.items seen all (texts_in (around width b rest))) (sym turn)
           (onward-step old names c.loop-value.entries.items c.code_value.new.entries.items seen all (entry_in attr v) (texts_in (around width (behind width attr) rest))
@@ -94,15 +94,15 @@ returns-clause-names c = λ a.
     ∙ (λ i. admitted bytes_eq (listed-names old a i) (named-for a facts i)))
 
 pub returns-clause-coded : goal.returns-clause-coded
-returns-clause-coded c = λ few.
-    (let width = c.len-width.result in
+returns-clause-coded c =
+    let width = c.len-width.result in
     let names = c.loop-value.names.items in
     let codes = c.loop-value.codes.items in
     let all = codes_in names (around width 0 (values_in c.args.facts.now)) in
     let whole : codes ≡ all =
     sym (append-nil codes)
-    ∙ subst (λ (vs : List Value). codes ++ codes_in names (around width c.loop-value.attr vs) ≡ all) (c.in_default.ensures.end refl) (c.loop-value.invariant.coded names (λ a. grew-not (get_or names a [])) few) in
-    c.from_vec.ensures ∙ rows-coded names width c.len-rows.result c.args.facts.now codes (λ k d lt. (let here = c.requires.values k d lt in omega (arith, here))) c.len-rows.ensures whole)
+    ∙ subst (λ (vs : List Value). codes ++ codes_in names (around width c.loop-value.attr vs) ≡ all) (c.in_default.ensures.end refl) (c.loop-value.invariant.coded names (λ a. grew-not (get_or names a []))) in
+    c.from_vec.ensures ∙ rows-coded names width c.len-rows.result c.args.facts.now codes (λ k d lt. (let here = c.requires.values k d lt in omega (arith, here))) c.len-rows.ensures whole
 
 pub returns-clause-entries : goal.returns-clause-entries
 returns-clause-entries c = λ seen are. c.from_vec-2.ensures ∙ onward-written c.loop-value.names.items c.loop-value.entries.items seen (named c.args.facts.now) (passed c seen are)

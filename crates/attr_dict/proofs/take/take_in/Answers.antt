@@ -1,9 +1,8 @@
-use Rattle.std.proofs.Common.{◌<◌, ◌≤◌, ℕ, List, [], length, get_or, sym, ap, subst, ◌∙◌}
+use Rattle.std.proofs.Common.{◌<◌, ◌≤◌, ℕ, List, [], length, get_or, sym, subst}
 use Rattle.cube_schema.specs.declared.Kind.TheVariants as kind
 use Rattle.cube_schema.specs.Kinds.{max_of}
 use Rattle.view_points.specs.Codes.{Text}
-use Rattle.attr_dict.specs.Coding.{HasFew}
-use Rattle.attr_dict.proofs.Fulls.{none-many, none-within}
+use Rattle.attr_dict.proofs.Fulls.{none-within}
 use Rattle.attr_dict.proofs.take.take_in.Goals as goal
 
 pub returns-in-None-clause-within : goal.returns-in-None-clause-within
@@ -11,9 +10,3 @@ returns-in-None-clause-within c =
     let kinds = c.args.kinds.now in
     subst (λ (names : List (List Text)). (a : ℕ) → a < length kinds → length (get_or names a []) ≤ max_of (get_or kinds a kind.Number)) c.as_slice.ensures.value
     (none-within kinds c.as_slice.result.now (sym c.in-None.ensures))
-
-pub returns-in-None-clause-coded : goal.returns-in-None-clause-coded
-returns-in-None-clause-coded c =
-    c.in_ok-admitted.ensures.coded
-    (subst (λ (names : List (List Text)). (a : ℕ) → HasFew (get_or names a [])) c.as_slice.ensures.value
-    (none-many c.args.kinds.now c.as_slice.result.now (sym c.in-None.ensures) (ap length c.as_slice.ensures.value ∙ c.code_batch.ensures.same ∙ c.requires.same) c.requires.ranges))

@@ -1,5 +1,6 @@
 use Rattle.std.proofs.Common.{◌≡◌, ◌+◌, ◌-◌, ◌<◌, ◌++◌, ◌∷◌, [], ℕ, List, get_or, length, map, reverse, take, sym, ◌∙◌, ap, arith}
 use Rattle.std.proofs.lemmas.List.{get_or-reverse, length-reverse, map-append, take_more}
+use Rattle.delta_agg.specs.declared.digits.Digit.{Digit}
 use Rattle.delta_agg.specs.Rows.{digit_of}
 use Rattle.delta_agg.proofs.digits.digits_of.Goals as goal
 
@@ -17,5 +18,5 @@ loop-skipped-preserved c =
     let k = c.loop-skipped.skipped in
     let attr : ℕ = get_or view (length view - 1 - k) 0 in
     c.in_ok-push.ensures.items
-    ∙ ((λ j. c.loop-skipped.invariant j ++ (record { attr = attr; span = c.from-span.ensures j + 1 }) ∷ [])
+    ∙ (ap (λ (digits : List Digit). digits ++ digit_of c.args.tops.now attr ∷ []) c.loop-skipped.invariant
     ∙ sym (digits-more view c.args.tops.now k c.loop-skipped-test.true))

@@ -9,7 +9,7 @@ pub loop-digit-preserved : goal.loop-digit-preserved
 loop-digit-preserved c =
     let digits = c.args.digits.now in
     let i = c.loop-digit.digit-index in
-    let d : Digit = record { attr = 0; span = 0 } in
-    ap (λ r. r * room (drop (i + 1) digits)) (c.in-Some.ensures.1 ∙ ap (λ s. c.loop-digit.room * s) c.from.ensures)
+    let d : Digit = record { attr = 0; top = 0 } in
+    ap (λ r. r * room (drop (i + 1) digits)) (c.in-Some.ensures.1 ∙ ap (λ s. c.loop-digit.room * (s + 1)) c.from.ensures)
     ∙ (room-more c.loop-digit.room (get_or digits i d) (drop (i + 1) digits)
     ∙ (ap (λ r. c.loop-digit.room * r) (sym (at_drop_more room digits i d c.loop-digit-test.true)) ∙ c.loop-digit.invariant))

@@ -6,7 +6,7 @@ use Rattle.delta_agg.proofs.number.key.Goals as goal
 
 pub with_digit-number-requires : goal.with_digit-number-requires
 with_digit-number-requires g c =
-    more-fits c.args.digits.now c.args.coordinates.now c.loop-digit.digit-index (g.K.Number.number c.loop-digit.number) g.K.Number.MOST_PLACES (record { attr = 0; span = 0 })
+    more-fits c.args.digits.now c.args.coordinates.now c.loop-digit.digit-index (g.K.Number.number c.loop-digit.number) g.K.Number.MOST_PLACES (record { attr = 0; top = 0 })
     c.requires.under c.loop-digit-test.true c.loop-digit.invariant.fits
 
 pub loop-digit-preserved : goal.loop-digit-preserved
@@ -16,7 +16,7 @@ loop-digit-preserved g c =
     let i = c.loop-digit.digit-index in
     let n = g.K.Number.number c.loop-digit.number in
     let most = g.K.Number.MOST_PLACES in
-    let d : Digit = record { attr = 0; span = 0 } in
+    let d : Digit = record { attr = 0; top = 0 } in
     let whole = more-whole digits coordinates i n most d c.requires.under c.loop-digit-test.true c.loop-digit.invariant.fits in
     let fits = more-left digits coordinates i n most d c.requires.under c.loop-digit-test.true c.loop-digit.invariant.fits in
     record {

@@ -10,7 +10,7 @@ use Rattle.attr_dict.specs.Book.{Book, names_at}
 use Rattle.attr_dict.specs.Admitting.{Agrees}
 use Rattle.attr_dict.specs.Room.{entries_len, entries_limit}
 use Rattle.attr_dict.proofs.Coords.{facts-coded, facts-have_codes, facts-placed}
-use Rattle.attr_dict.proofs.Kept.{book-taken, taken-narrow}
+use Rattle.attr_dict.proofs.Kept.{book-taken, taken-small}
 use Rattle.attr_dict.proofs.Lens.{admitted-len, len-limit}
 use Rattle.attr_dict.proofs.Takes.{names-back}
 use Rattle.attr_dict.proofs.dicts.Dicts.admit.Goals as goal
@@ -58,7 +58,7 @@ invariant_of-self c =
 
 pub returns-in-Ok-clause-narrow : goal.returns-in-Ok-clause-narrow
 returns-in-Ok-clause-narrow c =
-    taken-narrow (record { kinds = c.self.inside.kinds.items; names = c.self.inside.names.items }) c.take_in-taken.new.names.items c.args.facts.now (invariant_of-self c) (agree-here c)
+    taken-small (record { kinds = c.self.inside.kinds.items; names = c.self.inside.names.items }) c.take_in-taken.new.names.items c.args.facts.now (invariant_of-self c) (agree-here c)
 
 pub returns-in-Ok-clause-len : goal.returns-in-Ok-clause-len
 returns-in-Ok-clause-len c =
