@@ -2,7 +2,6 @@
 use Rattle.cube_session.proofs.Names.{Vec, Global, List, sym, subst, ap, Some, ◌∙◌, None, ◌≡◌, ℕ, [], ◌++◌, length, take, drop, inr, refl, append-nil, arith, Ok, IsTrue, Err, take-append-drop, goes_on}
 use Rattle.cube_session.proofs.Names.{wider, Emits, RoseOnce, Disk, Files, LeavesOnly, Ghosts, Cache, Keeps, Command, reply_some, act, Meanwhile, World, emits_left, fit_on, stands_on, stands_left}
 use Rattle.cube_session.proofs.Names.{tells_none, Saves, Fits, live_file, live_of, ByWorld, CarriesOut, MayWrite, Costs, Cost, Spends, moves_made, Between, KeepsEither, Stands, GoesTo, State, Stop}
-use Rattle.cube_session.proofs.Names.stops
 use Rattle.cube_session.specs.Session.{Answers}
 
 -- ---- what a stop within it leaves
@@ -106,10 +105,10 @@ module _ {S : Type 0} (T : Ghosts S) (command : Command) (state next : State) (o
     }
 
     -- the output failed
-    pub unheard : RoseOnce (T.told_faults mid) (T.told_faults new) → Answers T command state None old new before after (Err stops.Output)
+    pub unheard : RoseOnce (T.told_faults mid) (T.told_faults new) → Answers T command state None old new before after (Err Stop.Output)
     unheard rose = record {
       by_world = λ t world stands. assumption (moment t world stands, costs t world stands, saves t world stands);
-      any_files = λ t. assumption (tells_none state (T.disk old).files command stops.Output tt, looks_on t);
+      any_files = λ t. assumption (tells_none state (T.disk old).files command Stop.Output tt, looks_on t);
       goes_on = assumption (
         is.goes_on,
         unwritten_on,
