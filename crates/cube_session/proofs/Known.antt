@@ -1,7 +1,7 @@
 -- Commands that only answer: what they reply, by what the session has.
 use Rattle.cube_session.proofs.Names.{is_declared, long_line, open_block, is_unknown, Option, List, sym, subst, ap, Some, ◌∙◌, None, ◌≡◌, ℕ, length, refl, arith, IsTrue, IfErr, length-append, IfOk}
 use Rattle.cube_session.proofs.Names.{Disk, Ghosts, Fact, Slice, Schema, Cache, batch_size, Block, Command, line, facts_text, pending_text, act_long_line, act_open_block, act_schema, act_status}
-use Rattle.cube_session.proofs.Names.{act_unknown, Answer, asked_by, asked_over, declare_over, status_over, status_text, empty, size, Kept, Knows, World, bare, OnlyNow, OnlySays, says_or_out}
+use Rattle.cube_session.proofs.Names.{act_unknown, Answer, asked_by, asked_over, declare_over, status_over, status_text, Kept, Knows, World, bare, OnlyNow, OnlySays, says_or_out}
 use Rattle.cube_session.proofs.Names.{CarriesOut, IsReadyFor, Reply, SchemaGives, Stands, state_text, GoesFrom, GoesOver, State, Empty, Idle, Hollow, Pending, Stop}
 
 pub some_none : {A : Type 0} {x : A} → Some x ≡ None → ⊥

@@ -1,9 +1,9 @@
 -- The names of other rooms that the proofs of this one use, in one place.
 pub use Rattle.cube_slices.proofs.Names.{Vec, Global, Option, Result, List, sym, subst, ap, Some, ◌∙◌, None, ◌≡◌, ℕ, [], length, inr, refl, arith, Bool, true, cond, inl, Ok, IsTrue, Err, IfErr, ◌≤◌}
 pub use Rattle.cube_slices.proofs.Names.{◌+◌, IfOk, OnOk, IsErrOf, HasCauseWhere, Disk, Files, Ghosts, Fact, Slice, Schema, Cache, Store, IsStoreOf, Command, line, Answer, act, asked_by, asked_over}
-pub use Rattle.cube_slices.proofs.Names.{Kept, World, OnlyNow, OnlySays, KeepsUp, Saves, Fits, live_file, live_of, ByWorld, CarriesOut, IsReadyFor, Reply, Cost, Spends, free, IsQuiet, Belongs, Stands}
-pub use Rattle.cube_slices.proofs.Names.{IsAnswer, IsNoDamage, GoesFrom, GoesOver, GoesTo, State, Empty, Idle, Hollow, Pending, Stop}
-pub use Rattle.std.proofs.Common.{◌++◌, take, drop, append-nil, length-append, ◌^◌, IfSome, ◌⊎◌, nat_lt, ⊎_elim, subst₂}
+pub use Rattle.cube_slices.proofs.Names.{Kept, World, OnlyNow, kept_same, OnlySays, KeepsUp, Saves, Fits, live_file, live_of, ByWorld, CarriesOut, IsReadyFor, Reply, Cost, Spends, free, IsQuiet}
+pub use Rattle.cube_slices.proofs.Names.{Belongs, Stands, IsAnswer, IsNoDamage, GoesFrom, GoesOver, GoesTo, State, Empty, Idle, Hollow, Pending, Stop, subst₂}
+pub use Rattle.std.proofs.Common.{◌++◌, take, drop, append-nil, length-append, ◌^◌, IfSome, ◌⊎◌, nat_lt, ⊎_elim}
 pub use Rattle.std.proofs.lemmas.List.{take-append-drop}
 pub use Rattle.std.specs.Prelude.{◌≢◌}
 pub use Rattle.std.specs.Result.{IsErrAnd}
@@ -35,7 +35,7 @@ pub use Rattle.plain_machine.proofs.Acts.{act_long_line, act_open_block, act_sch
 pub use Rattle.plain_machine.specs.Machine.{declare, declare_over, status_over, status_text, declared, empty}
 pub use Rattle.plain_machine.specs.Stages.{Meanwhile, makes_stage, size}
 pub use Rattle.plain_machine.specs.World.{Knows, bare}
-pub use Rattle.cube_state.proofs.Cached.{kept_same, none_fit}
+pub use Rattle.cube_state.proofs.Cached.{none_fit}
 pub use Rattle.cube_state.proofs.Carried.{says_or_out}
 pub use Rattle.cube_state.proofs.Looking.{quiet_out}
 pub use Rattle.cube_state.proofs.Standing.{emits_left, fit_on, stands_on, stands_left}

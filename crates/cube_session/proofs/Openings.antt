@@ -1,7 +1,7 @@
 -- What opening the files makes of a session.
 use Rattle.cube_session.proofs.Names.{Option, Result, List, sym, subst, ap, Some, ◌∙◌, None, ◌≡◌, ℕ, [], length, refl, Ok, IsTrue, Err, IfErr, ◌≤◌, ◌+◌, ◌^◌, IfSome, IfOk, OnOk, ◌≢◌, IsErrOf}
 use Rattle.cube_session.proofs.Names.{stable_holds, Settles, Stays, HasCauseWhere, Files, CallsOnly, IsStable, Ghosts, Fact, IsSchema, Schema, Keeps, BreaksAt, IsWarehouse, MayBeOpened, NamesPlace}
-use Rattle.cube_session.proofs.Names.{Place, names_pages, OpenStop, NoneRaised, Store, AreAccepted, KeepsFacts, names_text, IsStoreOf, IsWhole, empty, Kept, bare, none_fit, live_of, RunsOn, moves_made}
+use Rattle.cube_session.proofs.Names.{Place, names_pages, OpenStop, NoneRaised, Store, AreAccepted, KeepsFacts, names_text, IsStoreOf, IsWhole, Kept, bare, none_fit, live_of, RunsOn, moves_made}
 use Rattle.cube_session.proofs.Names.{Stands, open_stop, State, Stop, IsOpenUndamaged, TellsOpenBreak}
 use Rattle.cube_session.specs.Costs.{open_cost}
 use Rattle.cube_session.specs.Session.{Runs, StandsFor, Starts, moves_for, opened_state}

@@ -3,10 +3,10 @@ use Rattle.cube_slices.proofs.Names.{RepliesAlone, no_schema, SideStays, Vec, Gl
 use Rattle.cube_slices.proofs.Names.{refl, arith, Bool, true, false, cond, inl, true≢false, Ok, IsTrue, Err, IfErr, ◌≤◌, ◌+◌, IfOk, OnOk, cases_Bool, IfOk-weaker, ◌↔◌, IsErrOf, HasCauseWhere, Disk}
 use Rattle.cube_slices.proofs.Names.{Files, Looks, Ghosts, rows, Fact, Row, Slice, Schema, Picks, covers, Cache, HasRoom, Keeps, Body, Store, side_of, IsStoreOf, Command, same-cost, IsJudged}
 use Rattle.cube_slices.proofs.Names.{IsUncovered, visits_of, AnswerStop, slice_of, SliceRefusal, answer_text, line, not_covered, act_slice, Answer, act, asked_by, asked_over, asked_slice, slice_over}
-use Rattle.cube_slices.proofs.Names.{slice_reply, covered, is_covered, Kept, Warehouse, World, OnlyNow, fit_rests, resting, stands_rests, holds, OnlySays, runs_out_as, only_replies, attends_belongs}
-use Rattle.cube_slices.proofs.Names.{spares_same, AreLive, KeepsUp, Saves, Fits, FitsLive, live_file, live_of, ByWorld, CarriesOut, IsReadyFor, OverAnyFiles, Reply, Spares, Gives, Cost, Spends}
-use Rattle.cube_slices.proofs.Names.{IsQuiet, Belongs, Stands, IsAnswer, GivesRead, TellsSpoilt, SliceGives, SliceTells, IsNoDamage, GoesFrom, GoesOver, GoesTo, ReadsFor, ReadsFrom, asked_from}
-use Rattle.cube_slices.proofs.Names.{asks_pages, is_asked, store_of, State, Empty, Idle, Hollow, Pending, Stop, IsUndamaged}
+use Rattle.cube_slices.proofs.Names.{slice_reply, covered, is_covered, Kept, Warehouse, World, OnlyNow, fit_rests, resting, stands_rests, holds, kept_same, OnlySays, runs_out_as, only_replies}
+use Rattle.cube_slices.proofs.Names.{attends_belongs, spares_same, AreLive, KeepsUp, Saves, Fits, FitsLive, live_file, live_of, ByWorld, CarriesOut, IsReadyFor, OverAnyFiles, Reply, Spares, Gives}
+use Rattle.cube_slices.proofs.Names.{Cost, Spends, IsQuiet, Belongs, Stands, IsAnswer, GivesRead, TellsSpoilt, SliceGives, SliceTells, IsNoDamage, GoesFrom, GoesOver, GoesTo, ReadsFor, ReadsFrom}
+use Rattle.cube_slices.proofs.Names.{asked_from, asks_pages, is_asked, store_of, State, Empty, Idle, Hollow, Pending, Stop, subst₂, IsUndamaged}
 use Rattle.cube_slices.specs.Told.{Tells, answer_stop}
 use Rattle.cube_slices.proofs.Costs.{none-covers, some-covers}
 
@@ -190,8 +190,8 @@ module _ {S : Type 0} (T : Ghosts S) (old new : S) (state : State) (store : Stor
   refuses : is_covered store.forest.schema s ≡ false → Tells answer result → CarriesOut T its state state old new before after result
   refuses not told =
       let none = is.uncovered.1 (none-covers store.forest.schema s not) in
-      subst (λ (n : S). CarriesOut T its state state old n before after result) (sym (is.untouched none))
-      (subst (λ (c : Cache). CarriesOut T its state state old old before c result) (sym (is.unasked none)) (by result (subst (λ (a : Result (List Row) AnswerStop). Tells a result) none told)))
+      subst₂ (λ (n : S) (c : Cache). CarriesOut T its state state old n before c result) (sym (is.untouched none)) (sym (is.unasked none))
+      (by result (subst (λ (a : Result (List Row) AnswerStop). Tells a result) none told))
     where
       by : (result : Reply) → Tells (Err AnswerStop.NotCovered) result → CarriesOut T its state state old old before before result
       by (Ok reply) told = only_replies T its state old before only (line not_covered) reply ready
@@ -203,8 +203,8 @@ module _ {S : Type 0} (T : Ghosts S) (old new : S) (state : State) (store : Stor
     asked : asked_by store.forest.schema its ≡ Some s
     asked = ap (covered store.forest.schema) read ∙ ap (λ (b : Bool). cond b (Some s) None) covers
 
-    asks : asks_pages state its ≡ true
-    asks = ap (λ (k : Option Store). is_asked (asked_from k its)) has ∙ ap is_asked asked
+    asks : asks_pages state its ≡ false → after ≡ before
+    asks none = absurd (true≢false (sym (ap (λ (k : Option Store). is_asked (asked_from k its)) has ∙ ap is_asked asked) ∙ none))
 
     -- what is spent, saved and kept over the pages that it goes to
     abbrev Pages : Option Body → List ℕ → Type 0
@@ -269,9 +269,6 @@ module _ {S : Type 0} (T : Ghosts S) (old new : S) (state : State) (store : Stor
       fits = holds result (fits t);
     }
 
-    unasked_not : asks_pages state its ≡ false → after ≡ before
-    unasked_not none = absurd (true≢false (sym asks ∙ none))
-
     said_never : RepliesAlone its → (files : Files) → IfOk result (λ (reply : Vec ℕ Global). Gives state files its reply.items)
     said_never alone files = absurd alone
 
@@ -285,12 +282,12 @@ module _ {S : Type 0} (T : Ghosts S) (old new : S) (state : State) (store : Stor
       any_files = any_files;
       goes_on = record {
         runs = holds result (record { running = ready.runs.running; fit = λ t. fit_rests state (T.disk old) (T.disk new) (is.looks.disk t) (ready.runs.fit t) });
-        cache = λ none. absurd (true≢false (sym asks ∙ none));
+        cache = λ none. holds result (asks none ∙ sym (kept_same (live_of state) (live_of state) before refl));
         capacity = is.capacity;
         unwritten = λ none. is.looks.writes;
         quiet = ends.quiet;
       };
-      leaves = search (holds, fits, unasked_not, said_never, side_stays, absurd);
+      leaves = search (holds, fits, asks, said_never, side_stays, absurd);
     }
 
   -- the answer is told

@@ -1,6 +1,6 @@
 -- The names of other rooms that the proofs of this one use, in one place.
 pub use Rattle.std.proofs.Common.{Vec, Option, Result, List, sym, subst, ap, Some, ◌∙◌, None, ◌≡◌, ℕ, [], length, inr, refl, arith, ◌<◌, Bool, true, false, cond, get_or, inl, true≢false, Ok, IsTrue}
-pub use Rattle.std.proofs.Common.{Err, IfErr, ◌≤◌, ◌+◌, IfOk, OnOk, zero, suc}
+pub use Rattle.std.proofs.Common.{Err, IfErr, ◌≤◌, ◌+◌, IfOk, OnOk, zero, suc, subst₂}
 pub use Rattle.std.specs.declared.alloc.Global.{Global}
 pub use Rattle.std.proofs.lemmas.List.Folds.{Any-from_list_any, list_any_at}
 pub use Rattle.std.proofs.lemmas.Bool.{cases_Bool}
@@ -42,7 +42,7 @@ pub use Rattle.plain_machine.proofs.Acts.{act_slice}
 pub use Rattle.plain_machine.specs.Machine.{Answer, act, asked_by, asked_over, asked_slice, slice_over, slice_reply, covered, is_covered}
 pub use Rattle.plain_machine.specs.World.{Kept, Warehouse, World}
 pub use Rattle.cube_state.proofs.Answering.{OnlyNow, fit_rests, resting, stands_rests}
-pub use Rattle.cube_state.proofs.Cached.{holds}
+pub use Rattle.cube_state.proofs.Cached.{holds, kept_same}
 pub use Rattle.cube_state.proofs.Carried.{OnlySays, runs_out_as, says as only_replies}
 pub use Rattle.cube_state.proofs.Standing.{attends_belongs}
 pub use Rattle.cube_state.proofs.Told.{spares_same}
