@@ -5,14 +5,11 @@ use Rattle.cube_session.proofs.Names.{Keeps, none_accepted, InitStop, KeepsNothi
 use Rattle.cube_session.proofs.Names.{declare_over, declared, empty, makes_stage, size, Kept, World, bare, kept_same, none_fit, quiet_out, spares_none, schema_cost, KeepsUp, Saves, kept_over}
 use Rattle.cube_session.proofs.Names.{CarriesOut, IsReadyFor, Reply, Cost, Spends, free, IsQuiet, RunsOn, Belongs, Between, KeepsEither, Stands, IsAnswer, IsNoDamage, init_stop, GoesTo, State, Empty}
 use Rattle.cube_session.proofs.Names.{Idle, Stop, ⊎_elim, subst₂}
-use Rattle.cube_session.proofs.Names.inits
-use Rattle.cube_session.proofs.Names.says
-use Rattle.cube_session.proofs.Names.stops
 use Rattle.cube_session.proofs.Known.{goes_nowhere, some_none}
 
 -- ---- what the call promises
 
-memory_no_disk : {A : Type 0} → IsErrOf {T = A} (Err inits.Memory) inits.Disk → ⊥
+memory_no_disk : {A : Type 0} → IsErrOf {T = A} (Err InitStop.Memory) InitStop.Disk → ⊥
 memory_no_disk same = absurd (cc)
 
 vain : {P : Type 0} → (Unit {0} → ⊥) → P
@@ -29,15 +26,15 @@ module _ {S : Type 0} (T : Ghosts S) (schema : Schema) (old new : S) where
     pub opened : IsTrue T.tells → IfOk answer (λ store. IsOpened store.forest.body (T.disk new))
     pub stable : IsTrue T.tells → OnOk answer (IsStable (T.disk new))
     pub told : IsTrue T.tells → (T.disk new).told ≡ (T.disk old).told
-    pub calls : CallsOnly T (HasCauseWhere inits.Disk) 1 5 old new answer
+    pub calls : CallsOnly T (HasCauseWhere InitStop.Disk) 1 5 old new answer
 
-  pub stopped_so : (why : InitStop) → Inits (Err why) → IsQuiet {A = Vec ℕ Global} T old new (Err (init_stop why))
-  stopped_so inits.Disk is = record { told = is.told; cause = ((is.calls.cause.failed refl, is.calls.cause.once), is.calls.told_faults); disk_faults = tt; told_faults = is.calls.told_faults }
-  stopped_so inits.Memory is = record { told = is.told; cause = (is.calls.cause.other memory_no_disk, is.calls.told_faults); disk_faults = tt; told_faults = is.calls.told_faults }
+  stopped_so : (why : InitStop) → Inits (Err why) → IsQuiet {A = Vec ℕ Global} T old new (Err (init_stop why))
+  stopped_so InitStop.Disk is = record { told = is.told; cause = ((is.calls.cause.failed refl, is.calls.cause.once), is.calls.told_faults); disk_faults = tt; told_faults = is.calls.told_faults }
+  stopped_so InitStop.Memory is = record { told = is.told; cause = (is.calls.cause.other memory_no_disk, is.calls.told_faults); disk_faults = tt; told_faults = is.calls.told_faults }
 
-pub undamaged : (why : InitStop) → IsNoDamage (init_stop why)
-undamaged inits.Disk = tt
-undamaged inits.Memory = tt
+undamaged : (why : InitStop) → IsNoDamage (init_stop why)
+undamaged InitStop.Disk = tt
+undamaged InitStop.Memory = tt
 
 -- no facts keep all limits
 empty_lawful : (schema : Schema) → IsSchema schema → IsLawful (empty schema)
@@ -46,9 +43,9 @@ empty_lawful schema lawful = record { schema = lawful; accepted = none_accepted 
 -- ---- the command
 
 module _ {S : Type 0} (T : Ghosts S) (schema : Schema) (lawful : IsSchema schema) (bytes : List ℕ) (read : schema_of bytes ≡ Ok schema) (old new : S) (cache : Cache)
-    (answer : Result Store InitStop) (is : Inits T schema old new answer) (ready : IsReadyFor T old cache Empty) where
+    (answer : Result Store InitStop) (is : Inits T schema old new answer) (command : Command) (state : State) (said : command ≡ Command.Schema (Whole bytes)) (was : state ≡ Empty) where
   abbrev its : Command
-  its = says.Schema (Whole bytes)
+  its = Command.Schema (Whole bytes)
 
   acts : (world : World) → world.kept ≡ None → act world its ≡ declared world (Ok schema)
   acts world none = act_schema world (Whole bytes) ∙ ap (λ (kept : Kept). declare_over world kept (Whole bytes)) none ∙ ap (declared world) read
@@ -89,12 +86,19 @@ module _ {S : Type 0} (T : Ghosts S) (schema : Schema) (lawful : IsSchema schema
     leaves = search (no_damage, vain, absurd);
   }
 
-  pub fails_as : (stop : Stop) → IsNoDamage stop → IsQuiet {A = Vec ℕ Global} T old new (Err stop) → (next : State) (result : Reply) → IsErrAnd result (λ s. s ≡ stop)
-      → CarriesOut T its Empty next old new cache cache result
-  fails_as stop no_damage quiet next (Ok reply) same = absurd same
-  fails_as stop no_damage quiet next (Err other) same = subst (λ (s : Stop). CarriesOut T its Empty next old new cache cache (Err s)) (sym same) (fails next stop no_damage quiet)
+  by_said : (next : State) (result : Reply) → CarriesOut T its Empty next old new cache cache result → CarriesOut T command state next old new cache cache result
+  by_said next result done = subst₂ (λ (k : Command) (s : State). CarriesOut T k s next old new cache cache result) (sym said) (sym was) done
 
-  module _ (store : Store) (at : Inits T schema old new (Ok store)) where
+  stops_with : (stop : Stop) → IsNoDamage stop → IsQuiet {A = Vec ℕ Global} T old new (Err stop) → (next : State) (result : Reply) → IsErrAnd result (λ s. s ≡ stop)
+      → CarriesOut T its Empty next old new cache cache result
+  stops_with stop no_damage quiet next (Ok reply) same = absurd same
+  stops_with stop no_damage quiet next (Err other) same = subst (λ (s : Stop). CarriesOut T its Empty next old new cache cache (Err s)) (sym same) (fails next stop no_damage quiet)
+
+  pub fails_as : (why : InitStop) → answer ≡ Err why → (result : Reply) → IsErrAnd result (λ stop. stop ≡ init_stop why) → CarriesOut T command state state old new cache cache result
+  fails_as why failed result stop = by_said state result
+      (stops_with (init_stop why) (undamaged why) (stopped_so T schema old new why (subst (Inits T schema old new) failed is)) state result stop)
+
+  module _ (ready : IsReadyFor T old cache state) (store : Store) (at : Inits T schema old new (Ok store)) where
     belongs : IsTrue T.tells → Belongs store (T.disk new) (empty schema)
     belongs t = record {
       lawful = empty_lawful schema lawful;
@@ -109,15 +113,15 @@ module _ {S : Type 0} (T : Ghosts S) (schema : Schema) (lawful : IsSchema schema
 
     -- it is declared
     declares : (reply : Vec ℕ Global) → reply.items ≡ line declared_text → CarriesOut T its Empty (Idle store) old new cache cache (Ok reply)
-    declares reply said =
-        let gives : reply.items ≡ (declare (bare None) (Whole bytes)).1 = said ∙ ap (λ (r : Result Schema SchemaRefusal). (declared (bare None) r).1) (sym read) in
+    declares reply text =
+        let gives : reply.items ≡ (declare (bare None) (Whole bytes)).1 = text ∙ ap (λ (r : Result Schema SchemaRefusal). (declared (bare None) r).1) (sym read) in
         let runs : RunsOn T new (Idle store) = record { running = at.whole; fit = at.opened } in
         let cached : cache ≡ kept_over None (Some store.forest.body) cache = sym (kept_same None (Some store.forest.body) cache at.first) in
         record {
           by_world = λ t world stands.
               let is : IsAnswer (T.disk new) (act world its) (Idle store) reply.items = record {
                 stands = subst (λ (a : Answer). Stands (Idle store) (T.disk new) a.0) (sym (acts world stands.0.kept)) (empty schema, record { kept = refl; pending = stands.0.pending }, belongs t);
-                said = said ∙ ap (λ (a : Answer). a.1) (sym (acts world stands.0.kept));
+                said = text ∙ ap (λ (a : Answer). a.1) (sym (acts world stands.0.kept));
               } in
               assumption (
                 is,
@@ -127,18 +131,16 @@ module _ {S : Type 0} (T : Ghosts S) (schema : Schema) (lawful : IsSchema schema
                 no_pages (λ numbers. Saves cache 2 numbers (T.reads old) (T.reads new)) world,
                 no_pages (KeepsUp cache cache 2) world,
               );
-          any_files = λ t. search (gives, none_fit (Some store.forest.body) (T.disk new).files cache (ready.fits t), vain);
+          any_files = λ t. search (gives, none_fit (Some store.forest.body) (T.disk new).files cache ((subst (IsReadyFor T old cache) was ready).fits t), vain);
           goes_on = search (runs, cached, quiet reply, vain);
           leaves = search (gives, vain, absurd);
         }
 
     -- and memory may run out for the reply
-    pub declares_or_out : (result : Reply) → IfOk result (λ reply. reply.items ≡ line declared_text) → IfErr result (λ stop. stop ≡ stops.Memory) → CarriesOut T its Empty (Idle store) old new cache cache result
-    declares_or_out (Ok reply) said memory = declares reply said
-    declares_or_out (Err stop) said memory = fails_as stops.Memory tt (quiet_out (quiet store)) (Idle store) (Err stop) memory
+    declares_or_out : (result : Reply) → IfOk result (λ reply. reply.items ≡ line declared_text) → IfErr result (λ stop. stop ≡ Stop.Memory) → CarriesOut T its Empty (Idle store) old new cache cache result
+    declares_or_out (Ok reply) text memory = declares reply text
+    declares_or_out (Err stop) text memory = stops_with Stop.Memory tt (quiet_out (quiet store)) (Idle store) (Err stop) memory
 
--- of a session that has no schema
-pub as_said : {S : Type 0} (T : Ghosts S) (command its : Command) (state next other : State) (old new : S) (cache : Cache) (result : Reply) → command ≡ its → state ≡ Empty → next ≡ other
-    → CarriesOut T its Empty other old new cache cache result → CarriesOut T command state next old new cache cache result
-as_said T command its state next other old new cache result is empty same done = subst (λ (k : Command). CarriesOut T k state next old new cache cache result) (sym is)
-    (subst₂ (λ (s n : State). CarriesOut T its s n old new cache cache result) (sym empty) (sym same) done)
+    pub declares_as : (next : State) → next ≡ Idle store → (result : Reply) → IfOk result (λ reply. reply.items ≡ line declared_text) → IfErr result (λ stop. stop ≡ Stop.Memory)
+        → CarriesOut T command state next old new cache cache result
+    declares_as next same result text memory = by_said next result (subst (λ (n : State). CarriesOut T its Empty n old new cache cache result) (sym same) (declares_or_out result text memory))

@@ -1,11 +1,8 @@
 -- Commands that only answer: what they reply, by what the session has.
-use Rattle.cube_session.proofs.Names.{is_declared, long_line, open_block, is_unknown, Option, List, sym, subst, ap, Some, ◌∙◌, None, ◌≡◌, ℕ, length, refl, arith, Bool, true, false, true≢false, IsTrue}
-use Rattle.cube_session.proofs.Names.{IfErr, length-append, IfOk, option_copied, Disk, Ghosts, Fact, Slice, Schema, Cache, batch_size, Block, Command, line, facts_text, pending_text, act_long_line}
-use Rattle.cube_session.proofs.Names.{act_open_block, act_schema, act_status, act_unknown, Answer, asked_by, asked_over, declare_over, status_over, status_text, Kept, Knows, World, bare, OnlyNow}
-use Rattle.cube_session.proofs.Names.{OnlySays, says_or_out, CarriesOut, IsReadyFor, Reply, SchemaGives, Stands, state_text, GoesFrom, GoesOver, store_of, State, Empty, Idle, Hollow, Pending, is_some}
-use Rattle.cube_session.proofs.Names.{Bor}
-use Rattle.cube_session.proofs.Names.says
-use Rattle.cube_session.proofs.Names.stops
+use Rattle.cube_session.proofs.Names.{is_declared, long_line, open_block, is_unknown, Option, List, sym, subst, ap, Some, ◌∙◌, None, ◌≡◌, ℕ, length, refl, arith, IsTrue, IfErr, length-append, IfOk}
+use Rattle.cube_session.proofs.Names.{Disk, Ghosts, Fact, Slice, Schema, Cache, batch_size, Block, Command, line, facts_text, pending_text, act_long_line, act_open_block, act_schema, act_status}
+use Rattle.cube_session.proofs.Names.{act_unknown, Answer, asked_by, asked_over, declare_over, status_over, status_text, Kept, Knows, World, bare, OnlyNow, OnlySays, says_or_out}
+use Rattle.cube_session.proofs.Names.{CarriesOut, IsReadyFor, Reply, SchemaGives, Stands, state_text, GoesFrom, GoesOver, State, Empty, Idle, Hollow, Pending, Stop}
 
 pub some_none : {A : Type 0} {x : A} → Some x ≡ None → ⊥
 some_none same = absurd (cc)
@@ -33,65 +30,51 @@ status_known (Pending r) disk world is =
 -- ---- they only answer
 
 module _ {S : Type 0} (T : Ghosts S) (state : State) (site : S) where
-  pub status_says : OnlySays T says.Status state site (state_text state)
+  pub status_says : OnlySays T Command.Status state site (state_text state)
   status_says = record {
     acts = λ t world stands. act_status world ∙ ap (λ text. (world, text)) (sym (status_known state (T.disk site) world stands));
     moves = λ t world stands. refl;
-    goes = λ t world stands. goes_nowhere world.kept says.Status (λ schema. refl);
+    goes = λ t world stands. goes_nowhere world.kept Command.Status (λ schema. refl);
     gives = λ files. refl;
     alone = λ none. refl;
   }
 
-  pub long_line_says : OnlySays T says.LongLine state site (line long_line)
+  pub long_line_says : OnlySays T Command.LongLine state site (line long_line)
   long_line_says = search (act_long_line, goes_nowhere)
 
-  pub open_block_says : OnlySays T says.OpenBlock state site (line open_block)
+  pub open_block_says : OnlySays T Command.OpenBlock state site (line open_block)
   open_block_says = search (act_open_block, goes_nowhere)
 
-  pub unknown_says : OnlySays T says.Unknown state site (line is_unknown)
+  pub unknown_says : OnlySays T Command.Unknown state site (line is_unknown)
   unknown_says = search (act_unknown, goes_nowhere)
 
   -- a schema is declared only where there is none
   schema_says : (block : Block) (text : List ℕ) → ((world : World) → Stands state (T.disk site) world → declare_over world world.kept block ≡ (world, text)) → SchemaGives state block text
-      → OnlySays T (says.Schema block) state site text
+      → OnlySays T (Command.Schema block) state site text
   schema_says block text declares gives = record {
     acts = λ t world stands. act_schema world block ∙ declares world stands;
     moves = λ t world stands. refl;
-    goes = λ t world stands. goes_nowhere world.kept (says.Schema block) (λ schema. refl);
+    goes = λ t world stands. goes_nowhere world.kept (Command.Schema block) (λ schema. refl);
     gives = λ files. gives;
     alone = λ none. refl;
   }
 
 -- there is one
-pub declared_says : {S : Type 0} (T : Ghosts S) (state : State) (site : S) (block : Block) → is_some (store_of state) ≡ true → OnlySays T (says.Schema block) state site (line is_declared)
-declared_says T Empty site block has = absurd (true≢false (sym has))
-declared_says T (Idle store) site block has = schema_says T (Idle store) site block (line is_declared) (λ world stands. ap (λ (kept : Kept). declare_over world kept block) stands.1.kept) refl
-declared_says T (Hollow store) site block has = schema_says T (Hollow store) site block (line is_declared) (λ world stands. ap (λ (kept : Kept). declare_over world kept block) stands.1.kept) refl
-declared_says T (Pending r) site block has = schema_says T (Pending r) site block (line is_declared) (λ world stands. ap (λ (kept : Kept). declare_over world kept block) stands.2.kept) refl
+pub declared_says : {S : Type 0} (T : Ghosts S) (state : State) (site : S) (block : Block) → (state ≡ Empty → ⊥) → OnlySays T (Command.Schema block) state site (line is_declared)
+declared_says T Empty site block some = absurd (some refl)
+declared_says T (Idle store) site block some = schema_says T (Idle store) site block (line is_declared) (λ world stands. ap (λ (kept : Kept). declare_over world kept block) stands.1.kept) refl
+declared_says T (Hollow store) site block some = schema_says T (Hollow store) site block (line is_declared) (λ world stands. ap (λ (kept : Kept). declare_over world kept block) stands.1.kept) refl
+declared_says T (Pending r) site block some = schema_says T (Pending r) site block (line is_declared) (λ world stands. ap (λ (kept : Kept). declare_over world kept block) stands.2.kept) refl
 
 -- or the block gives none
-pub refused_says : {S : Type 0} (T : Ghosts S) (state : State) (site : S) (block : Block) (text : List ℕ) → is_some (store_of state) ≡ false
-    → ((world : World) → declare_over world None block ≡ (world, text)) → OnlySays T (says.Schema block) state site text
-refused_says T Empty site block text none refuses = schema_says T Empty site block text
-    (λ world stands. ap (λ (kept : Kept). declare_over world kept block) stands.0.kept ∙ refuses world) (sym (ap (λ (a : Answer). a.1) (refuses (bare None))))
-refused_says T (Idle store) site block text none refuses = absurd (true≢false none)
-refused_says T (Hollow store) site block text none refuses = absurd (true≢false none)
-refused_says T (Pending r) site block text none refuses = absurd (true≢false none)
-
--- whether there is a store, as the code tests it
-pub stored : {A : Type 0} {kept : Option A} {test is : Bool} (lent : Option (Bor A)) → option_copied lent ≡ kept → test ≡ is_some lent → test ≡ is → is_some kept ≡ is
-stored None same tests is = ap is_some (sym same) ∙ (sym tests ∙ is)
-stored (Some x) same tests is = ap is_some (sym same) ∙ (sym tests ∙ is)
-
-pub none_empty : (state : State) → is_some (store_of state) ≡ false → state ≡ Empty
-none_empty Empty none = refl
-none_empty (Idle store) none = absurd (true≢false none)
-none_empty (Hollow store) none = absurd (true≢false none)
-none_empty (Pending r) none = absurd (true≢false none)
+pub refused_says : {S : Type 0} (T : Ghosts S) (state : State) (site : S) (block : Block) (text : List ℕ) → state ≡ Empty → ((world : World) → declare_over world None block ≡ (world, text))
+    → OnlySays T (Command.Schema block) state site text
+refused_says T state site block text empty refuses = subst (λ (s : State). OnlySays T (Command.Schema block) s site text) (sym empty) (schema_says T Empty site block text
+    (λ world stands. ap (λ (kept : Kept). declare_over world kept block) stands.0.kept ∙ refuses world) (sym (ap (λ (a : Answer). a.1) (refuses (bare None)))))
 
 -- and memory may run out for the reply
 pub only_answers : {S : Type 0} (T : Ghosts S) (site : S) (state : State) (cache : Cache) (command its : Command) (text : List ℕ) (result : Reply) → (IsTrue T.tells → OnlyNow (T.disk site))
-    → IsReadyFor T site cache state → command ≡ its → OnlySays T its state site text → IfOk result (λ reply. reply.items ≡ text) → IfErr result (λ stop. stop ≡ stops.Memory)
+    → IsReadyFor T site cache state → command ≡ its → OnlySays T its state site text → IfOk result (λ reply. reply.items ≡ text) → IfErr result (λ stop. stop ≡ Stop.Memory)
     → CarriesOut T command state state site site cache cache result
 only_answers T site state cache command its text result now ready is only said memory = subst (λ (k : Command). CarriesOut T k state state site site cache cache result) (sym is)
-    (says_or_out T its state site cache now text result ready only said (λ stop err. subst (λ (r : Reply). IfErr r (λ s. s ≡ stops.Memory)) err memory))
+    (says_or_out T its state site cache now text result ready only said (λ stop err. subst (λ (r : Reply). IfErr r (λ s. s ≡ Stop.Memory)) err memory))

@@ -1,12 +1,8 @@
 -- What opening the files makes of a session.
 use Rattle.cube_session.proofs.Names.{Option, Result, List, sym, subst, ap, Some, ◌∙◌, None, ◌≡◌, ℕ, [], length, refl, Ok, IsTrue, Err, IfErr, ◌≤◌, ◌+◌, ◌^◌, IfSome, IfOk, OnOk, ◌≢◌, IsErrOf}
 use Rattle.cube_session.proofs.Names.{stable_holds, Settles, Stays, HasCauseWhere, Files, CallsOnly, IsStable, Ghosts, Fact, IsSchema, Schema, Keeps, BreaksAt, IsWarehouse, MayBeOpened, NamesPlace}
-use Rattle.cube_session.proofs.Names.{Place, names_pages, OpenStop, NoneRaised, Store, AreAccepted, KeepsFacts, names_text, IsStoreOf, IsWhole, empty, Kept, bare, none_fit, live_of, RunsOn, moves_made}
-use Rattle.cube_session.proofs.Names.{Stands, open_stop, State, Stop}
-use Rattle.cube_session.proofs.Names.breaks
-use Rattle.cube_session.proofs.Names.judging
-use Rattle.cube_session.proofs.Names.opens
-use Rattle.cube_session.proofs.Names.stops
+use Rattle.cube_session.proofs.Names.{Place, names_pages, OpenStop, NoneRaised, Store, AreAccepted, KeepsFacts, names_text, IsStoreOf, IsWhole, Kept, bare, none_fit, live_of, RunsOn, moves_made}
+use Rattle.cube_session.proofs.Names.{Stands, open_stop, State, Stop, IsOpenUndamaged, TellsOpenBreak}
 use Rattle.cube_session.specs.Costs.{open_cost}
 use Rattle.cube_session.specs.Session.{Runs, StandsFor, Starts, moves_for, opened_state}
 use Rattle.cube_session.specs.declared.session.Session.{Session}
@@ -21,19 +17,19 @@ by_kept : (P : Kept → Type 0) (files : Files) (kept : Kept) → Keeps files ke
 by_kept P files None keeps none some = none keeps
 by_kept P files (Some warehouse) keeps none some = some warehouse.schema warehouse.facts warehouse.last keeps.lawful.schema keeps.lawful.accepted keeps.kept
 
-damaged_no_disk : {A : Type 0} (file offset : ℕ) → IsErrOf {T = A} (Err (opens.Damaged file offset)) opens.Disk → ⊥
+damaged_no_disk : {A : Type 0} (file offset : ℕ) → IsErrOf {T = A} (Err (OpenStop.Damaged file offset)) OpenStop.Disk → ⊥
 damaged_no_disk file offset same = absurd (cc)
 
-memory_no_disk : {A : Type 0} → IsErrOf {T = A} (Err opens.Memory) opens.Disk → ⊥
+memory_no_disk : {A : Type 0} → IsErrOf {T = A} (Err OpenStop.Memory) OpenStop.Disk → ⊥
 memory_no_disk same = absurd (cc)
 
-ok_no_output : {A : Type 0} (x : A) → IsErrOf (Ok x) stops.Output → ⊥
+ok_no_output : {A : Type 0} (x : A) → IsErrOf (Ok x) Stop.Output → ⊥
 ok_no_output x same = absurd (cc)
 
-no_output : {A : Type 0} (why : OpenStop) → IsErrOf {T = A} (Err (open_stop why)) stops.Output → ⊥
-no_output opens.Disk same = absurd (cc)
-no_output (opens.Damaged file offset) same = absurd (cc)
-no_output opens.Memory same = absurd (cc)
+no_output : {A : Type 0} (why : OpenStop) → IsErrOf {T = A} (Err (open_stop why)) Stop.Output → ⊥
+no_output OpenStop.Disk same = absurd (cc)
+no_output (OpenStop.Damaged file offset) same = absurd (cc)
+no_output OpenStop.Memory same = absurd (cc)
 
 module _ {S : Type 0} (T : Ghosts S) (old new : S) where
   abbrev KeptBefore : (Schema → List Fact → ℕ → Type 0) → Type 0
@@ -42,16 +38,16 @@ module _ {S : Type 0} (T : Ghosts S) (old new : S) where
   -- what it promises
   pub record Opens (answer : Result (Option Store) OpenStop) : Type 0 where
     pub warehouse : KeptBefore (λ schema facts last. IfOk answer (IsWarehouse schema facts last (T.disk new).files))
-    pub undamaged : KeptBefore (λ schema facts last. IfErr answer judging.IsNoDamage)
-    pub none : IsTrue T.tells → NoneRaised ((T.disk old).files 0) → IfOk answer (λ found. found ≡ None) × IfErr answer judging.IsNoDamage
+    pub undamaged : KeptBefore (λ schema facts last. IfErr answer IsOpenUndamaged)
+    pub none : IsTrue T.tells → NoneRaised ((T.disk old).files 0) → IfOk answer (λ found. found ≡ None) × IfErr answer IsOpenUndamaged
     pub broken : IsTrue T.tells → (place : Place) → BreaksAt (T.disk old).files place → IfErr answer (NamesPlace place) × OnOk answer ⊥
-    pub damaged : IsTrue T.tells → IfErr answer (breaks.TellsBreak (T.disk old).files)
+    pub damaged : IsTrue T.tells → IfErr answer (TellsOpenBreak (T.disk old).files)
     pub opened : IsTrue T.tells → IfOk answer (λ found. MayBeOpened found (T.disk new))
     pub whole : IfOk answer (λ found. IfSome found IsWhole)
     pub stable : IsTrue T.tells → OnOk answer (IsStable (T.disk new))
     pub disk : IsTrue T.tells → Settles Stays (T.disk old) (T.disk new) answer
-    pub unchanged : IsTrue T.tells → IfErr answer (λ stop. stop ≢ opens.Disk → (T.disk new).files ≡ (T.disk old).files)
-    pub calls : CallsOnly T (HasCauseWhere opens.Disk) (1 + 2 ^ 36) 0 old new answer
+    pub unchanged : IsTrue T.tells → IfErr answer (λ stop. stop ≢ OpenStop.Disk → (T.disk new).files ≡ (T.disk old).files)
+    pub calls : CallsOnly T (HasCauseWhere OpenStop.Disk) (1 + 2 ^ 36) 0 old new answer
     pub reads : IsTrue T.tells → (schema : Schema) (facts : List Fact) (last : ℕ) → KeepsFacts schema facts last (T.disk old).files → T.reads new ≤ T.reads old + (1 + names_pages (length (names_text schema facts)))
     pub reads_none : IsTrue T.tells → NoneRaised ((T.disk old).files 0) → T.reads new ≤ T.reads old + 1
     pub writes : T.writes new ≡ T.writes old
@@ -101,41 +97,41 @@ module _ {S : Type 0} (T : Ghosts S) (old new : S) where
   -- ---- it fails
 
   module _ (why : OpenStop) (is : Opens (Err why)) where
-    undamaged : IsTrue T.tells → (kept : Kept) → Keeps (T.disk old).files kept → judging.IsNoDamage why
-    undamaged t kept keeps = by_kept (λ k. judging.IsNoDamage why) (T.disk old).files kept keeps (λ none. (is.none t none).1) (is.undamaged t)
+    undamaged : IsTrue T.tells → (kept : Kept) → Keeps (T.disk old).files kept → IsOpenUndamaged why
+    undamaged t kept keeps = by_kept (λ k. IsOpenUndamaged why) (T.disk old).files kept keeps (λ none. (is.none t none).1) (is.undamaged t)
 
     settled : IsTrue T.tells → Settles {A = Session} {E = Stop} Stays (T.disk old) (T.disk new) (Err (open_stop why))
     settled t = assumption (is.disk t)
 
-    unchanged : IsTrue T.tells → open_stop why ≢ stops.Disk → (T.disk new).files ≡ (T.disk old).files
+    unchanged : IsTrue T.tells → open_stop why ≢ Stop.Disk → (T.disk new).files ≡ (T.disk old).files
     unchanged t other = is.unchanged t (λ same. other (ap open_stop same))
 
     told : IsTrue T.tells → (T.disk new).told ≡ (T.disk old).told
     told t = (is.disk t).told
 
-    faults : (IsErrOf {T = Option Store} (Err why) opens.Disk → ⊥) → (T.disk_faults new ≡ T.disk_faults old) × (T.told_faults new ≡ T.told_faults old)
+    faults : (IsErrOf {T = Option Store} (Err why) OpenStop.Disk → ⊥) → (T.disk_faults new ≡ T.disk_faults old) × (T.told_faults new ≡ T.told_faults old)
     faults other = (is.calls.cause.other other, is.calls.told_faults)
 
   pub starts_not : (most : ℕ) (why : OpenStop) → Opens (Err why) → Starts T most old new (Err (open_stop why))
-  starts_not most opens.Disk is = assumption (
-    settled opens.Disk is,
-    costs (Err opens.Disk) is,
-    unchanged opens.Disk is,
-    told opens.Disk is,
-    no_output {A = Session} opens.Disk,
+  starts_not most OpenStop.Disk is = assumption (
+    settled OpenStop.Disk is,
+    costs (Err OpenStop.Disk) is,
+    unchanged OpenStop.Disk is,
+    told OpenStop.Disk is,
+    no_output {A = Session} OpenStop.Disk,
     is.calls.cause.failed refl,
     is.calls.cause.once,
     is,
   )
-  starts_not most (opens.Damaged file offset) is =
-      let why : OpenStop = opens.Damaged file offset in
+  starts_not most (OpenStop.Damaged file offset) is =
+      let why : OpenStop = OpenStop.Damaged file offset in
       assumption (undamaged why is, settled why is, costs (Err why) is, unchanged why is, told why is, no_output {A = Session} why, faults why is (damaged_no_disk file offset), is)
-  starts_not most opens.Memory is = assumption (
-    settled opens.Memory is,
-    costs (Err opens.Memory) is,
-    unchanged opens.Memory is,
-    told opens.Memory is,
-    no_output {A = Session} opens.Memory,
-    faults opens.Memory is memory_no_disk,
+  starts_not most OpenStop.Memory is = assumption (
+    settled OpenStop.Memory is,
+    costs (Err OpenStop.Memory) is,
+    unchanged OpenStop.Memory is,
+    told OpenStop.Memory is,
+    no_output {A = Session} OpenStop.Memory,
+    faults OpenStop.Memory is memory_no_disk,
     is,
   )

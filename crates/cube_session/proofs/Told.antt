@@ -1,8 +1,8 @@
 -- A command that was carried out and its reply told.
 use Rattle.cube_session.proofs.Names.{Vec, Global, List, sym, subst, ap, Some, ◌∙◌, None, ◌≡◌, ℕ, [], ◌++◌, length, take, drop, inr, refl, append-nil, arith, Ok, IsTrue, Err, take-append-drop, goes_on}
 use Rattle.cube_session.proofs.Names.{wider, Emits, RoseOnce, Disk, Files, LeavesOnly, Ghosts, Cache, Keeps, Command, reply_some, act, Meanwhile, World, emits_left, fit_on, stands_on, stands_left}
-use Rattle.cube_session.proofs.Names.{tells_none, Saves, Fits, live_file, live_of, ByWorld, CarriesOut, MayWrite, Costs, Cost, Spends, moves_made, Between, KeepsEither, Stands, GoesTo, State, Stop}
-use Rattle.cube_session.proofs.Names.stops
+use Rattle.cube_session.proofs.Names.{tells_none, Saves, Fits, live_file, live_of, ByWorld, CarriesOut, MayWrite, Costs, Cost, Spends, RunsOn, moves_made, Between, KeepsEither, Stands, GoesTo, State}
+use Rattle.cube_session.proofs.Names.{Stop}
 use Rattle.cube_session.specs.Session.{Answers}
 
 -- ---- what a stop within it leaves
@@ -89,27 +89,20 @@ module _ {S : Type 0} (T : Ghosts S) (command : Command) (state next : State) (o
             saves t world stands,
           );
       any_files = λ t. record { damage = tt; answered = record { reply = reply.items; told = told_on t (told t); right = (is.any_files t).answered }; spared = tt; looks = looks_on t };
-      goes_on = record {
-        stopped = tt;
-        runs = record {
-          runs = record {
+      goes_on =
+          let runs : RunsOn T new next = record {
             running = is.goes_on.runs.running;
             fit = λ t. fit_on (T.disk mid) (T.disk new) (emits t).files (emits_left bytes (T.disk mid) (T.disk new) (emits t)) next (is.goes_on.runs.fit t);
-          };
-          fits = λ t. subst (λ (files : Files). Fits next files after) (sym (emits t).files) (is.any_files t).fits;
-        };
-        cache = is.goes_on.cache;
-        capacity = is.goes_on.capacity;
-        unwritten = unwritten_on;
-        stops = record { cause = tt; disk_faults = disk_faults ∙ is.goes_on.quiet.disk_faults; told_faults = told_faults ∙ is.goes_on.quiet.told_faults };
-      };
+          } in
+          let fits : IsTrue T.tells → Fits next (T.disk new).files after = λ t. subst (λ (files : Files). Fits next files after) (sym (emits t).files) (is.any_files t).fits in
+          assumption (is.goes_on, runs, fits, unwritten_on, disk_faults ∙ is.goes_on.quiet.disk_faults, told_faults ∙ is.goes_on.quiet.told_faults);
     }
 
     -- the output failed
-    pub unheard : RoseOnce (T.told_faults mid) (T.told_faults new) → Answers T command state None old new before after (Err stops.Output)
+    pub unheard : RoseOnce (T.told_faults mid) (T.told_faults new) → Answers T command state None old new before after (Err Stop.Output)
     unheard rose = record {
       by_world = λ t world stands. assumption (moment t world stands, costs t world stands, saves t world stands);
-      any_files = λ t. assumption (tells_none state (T.disk old).files command stops.Output tt, looks_on t);
+      any_files = λ t. assumption (tells_none state (T.disk old).files command Stop.Output tt, looks_on t);
       goes_on = assumption (
         is.goes_on,
         unwritten_on,

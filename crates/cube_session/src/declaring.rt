@@ -21,9 +21,9 @@ pub fn declare<T: Site>(
     requires runs { RunsOn T.Site site.old state.old }
     ensures carried { CarriesOutAlone T.Site (says.Schema block) state.old state.new site.old site.new result }
 {
-    if state.store().is_some() {
+    let State::Empty = state else {
         return plain(alloc, "refused declared");
-    }
+    };
     let Block::Whole(text) = block else {
         return plain(alloc, "refused schema block");
     };

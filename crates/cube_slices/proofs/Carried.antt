@@ -1,16 +1,12 @@
 -- A slice is carried out: it is only answered, or it goes to the pages of a view.
-use Rattle.cube_slices.proofs.Names.{RepliesAlone, no_schema, SideStays, Vec, Global, Agrees, LiesIn, GivesFound, StopCause, IsUndamaged, Option, Result, List, sym, subst, ap, Some, ◌∙◌, None, ◌≡◌, ℕ}
-use Rattle.cube_slices.proofs.Names.{length, inr, refl, arith, Bool, true, false, cond, inl, true≢false, Ok, IsTrue, Err, IfErr, ◌≤◌, ◌+◌, IfOk, OnOk, cases_Bool, IfOk-weaker, ◌↔◌, IsErrOf}
-use Rattle.cube_slices.proofs.Names.{HasCauseWhere, Disk, Files, Looks, Ghosts, rows, Fact, Row, Slice, Schema, Picks, covers, Cache, HasRoom, Keeps, Body, Store, side_of, IsStoreOf, Command}
-use Rattle.cube_slices.proofs.Names.{same-cost, IsJudged, IsUncovered, visits_of, AnswerStop, slice_of, SliceRefusal, answer_text, line, not_covered, act_slice, Answer, act, asked_by, asked_over}
-use Rattle.cube_slices.proofs.Names.{asked_slice, slice_over, slice_reply, covered, is_covered, Kept, Warehouse, World, OnlyNow, fit_rests, resting, stands_rests, holds, OnlySays, attends_belongs}
-use Rattle.cube_slices.proofs.Names.{spares_same, AreLive, KeepsUp, Saves, Fits, FitsLive, live_file, live_of, ByWorld, CarriesOut, IsReadyFor, OverAnyFiles, Reply, Spares, Gives, Cost, Spends}
-use Rattle.cube_slices.proofs.Names.{IsQuiet, Belongs, Stands, IsAnswer, GivesRead, TellsSpoilt, SliceGives, SliceTells, IsNoDamage, GoesFrom, GoesOver, GoesTo, ReadsFor, ReadsFrom, asked_from}
-use Rattle.cube_slices.proofs.Names.{asks_pages, is_asked, store_of, State, Empty, Idle, Hollow, Pending, Stop}
-use Rattle.cube_slices.proofs.Names.answers
-use Rattle.cube_slices.proofs.Names.carried
-use Rattle.cube_slices.proofs.Names.says
-use Rattle.cube_slices.proofs.Names.stops
+use Rattle.cube_slices.proofs.Names.{RepliesAlone, no_schema, SideStays, Vec, Global, Agrees, LiesIn, GivesFound, StopCause, Option, Result, List, sym, subst, ap, Some, ◌∙◌, None, ◌≡◌, ℕ, length, inr}
+use Rattle.cube_slices.proofs.Names.{refl, arith, Bool, true, false, cond, inl, true≢false, Ok, IsTrue, Err, IfErr, ◌≤◌, ◌+◌, IfOk, OnOk, cases_Bool, IfOk-weaker, ◌↔◌, IsErrOf, HasCauseWhere, Disk}
+use Rattle.cube_slices.proofs.Names.{Files, Looks, Ghosts, rows, Fact, Row, Slice, Schema, Picks, covers, Cache, HasRoom, Keeps, Body, Store, side_of, IsStoreOf, Command, same-cost, IsJudged}
+use Rattle.cube_slices.proofs.Names.{IsUncovered, visits_of, AnswerStop, slice_of, SliceRefusal, answer_text, line, not_covered, act_slice, Answer, act, asked_by, asked_over, asked_slice, slice_over}
+use Rattle.cube_slices.proofs.Names.{slice_reply, covered, is_covered, Kept, Warehouse, World, OnlyNow, fit_rests, resting, stands_rests, holds, kept_same, OnlySays, runs_out_as, only_replies}
+use Rattle.cube_slices.proofs.Names.{attends_belongs, spares_same, AreLive, KeepsUp, Saves, Fits, FitsLive, live_file, live_of, ByWorld, CarriesOut, IsReadyFor, OverAnyFiles, Reply, Spares, Gives}
+use Rattle.cube_slices.proofs.Names.{Cost, Spends, IsQuiet, Belongs, Stands, IsAnswer, GivesRead, TellsSpoilt, SliceGives, SliceTells, IsNoDamage, GoesFrom, GoesOver, GoesTo, ReadsFor, ReadsFrom}
+use Rattle.cube_slices.proofs.Names.{asked_from, asks_pages, is_asked, store_of, State, Empty, Idle, Hollow, Pending, Stop, subst₂, IsUndamaged}
 use Rattle.cube_slices.specs.Told.{Tells, answer_stop}
 use Rattle.cube_slices.proofs.Costs.{none-covers, some-covers}
 
@@ -69,10 +65,10 @@ goes_nowhere (Some warehouse) numbers goes = goes
 
 module _ {S : Type 0} (T : Ghosts S) (site : S) (state : State) (text reply : List ℕ) where
   only_says : (k : Option Store) → store_of state ≡ k
-      → ((world : World) → KeptBy k (T.disk site) world → (slice_over world.kept text ≡ reply) × (asked_slice world (says.Slice text) ≡ None))
-      → ((files : Files) → SliceGives k files text reply) → OnlySays T (says.Slice text) state site reply
+      → ((world : World) → KeptBy k (T.disk site) world → (slice_over world.kept text ≡ reply) × (asked_slice world (Command.Slice text) ≡ None))
+      → ((files : Files) → SliceGives k files text reply) → OnlySays T (Command.Slice text) state site reply
   only_says k has over gives =
-      let its : (world : World) → Stands state (T.disk site) world → (slice_over world.kept text ≡ reply) × (asked_slice world (says.Slice text) ≡ None)
+      let its : (world : World) → Stands state (T.disk site) world → (slice_over world.kept text ≡ reply) × (asked_slice world (Command.Slice text) ≡ None)
       = λ world stands. over world (kept_over state k (T.disk site) world has stands) in
       record {
         acts = λ t world stands. act_slice world text ∙ ap (λ (r : List ℕ). (world, r)) (its world stands).0;
@@ -83,26 +79,26 @@ module _ {S : Type 0} (T : Ghosts S) (site : S) (state : State) (text reply : Li
       }
 
   -- without a schema
-  pub schemaless : store_of state ≡ None → reply ≡ line no_schema → OnlySays T (says.Slice text) state site reply
+  pub schemaless : store_of state ≡ None → reply ≡ line no_schema → OnlySays T (Command.Slice text) state site reply
   schemaless none is = only_says None none
-      (λ world kept. (ap (λ (k : Kept). slice_over k text) kept ∙ sym is, ap (λ (k : Kept). asked_over k (says.Slice text)) kept)) (λ files. is)
+      (λ world kept. (ap (λ (k : Kept). slice_over k text) kept ∙ sym is, ap (λ (k : Kept). asked_over k (Command.Slice text)) kept)) (λ files. is)
 
   -- and over a store
   pub unasked : (store : Store) (read : Result Slice SliceRefusal) → store_of state ≡ Some store → slice_of store.forest.schema text ≡ read → covered store.forest.schema read ≡ None
-      → ((facts : List Fact) → slice_reply store.forest.schema facts read ≡ reply) → ((files : Files) → GivesRead store files read reply) → OnlySays T (says.Slice text) state site reply
+      → ((facts : List Fact) → slice_reply store.forest.schema facts read ≡ reply) → ((files : Files) → GivesRead store files read reply) → OnlySays T (Command.Slice text) state site reply
   unasked store read has is none replies gives = only_says (Some store) has
       (λ world its. (
         ap (λ (k : Kept). slice_over k text) its.kept ∙ (ap (slice_reply store.forest.schema its.facts) is ∙ replies its.facts),
-        ap (λ (k : Kept). asked_over k (says.Slice text)) its.kept ∙ (ap (covered store.forest.schema) is ∙ none),
+        ap (λ (k : Kept). asked_over k (Command.Slice text)) its.kept ∙ (ap (covered store.forest.schema) is ∙ none),
       ))
       (λ files. subst (λ (r : Result Slice SliceRefusal). GivesRead store files r reply) (sym is) (gives files))
 
 -- ---- it goes to pages
 
-damaged_no_fault : {A : Type 0} (file offset : ℕ) → IsErrOf {T = A} (Err (answers.Damaged file offset)) answers.Disk → ⊥
+damaged_no_fault : {A : Type 0} (file offset : ℕ) → IsErrOf {T = A} (Err (AnswerStop.Damaged file offset)) AnswerStop.Disk → ⊥
 damaged_no_fault file offset is = cc
 
-memory_no_fault : {A : Type 0} → IsErrOf {T = A} (Err answers.Memory) answers.Disk → ⊥
+memory_no_fault : {A : Type 0} → IsErrOf {T = A} (Err AnswerStop.Memory) AnswerStop.Disk → ⊥
 memory_no_fault is = cc
 
 module _ {S : Type 0} (T : Ghosts S) (old new : S) (store : Store) (before after : Cache) (s : Slice) where
@@ -119,17 +115,17 @@ module _ {S : Type 0} (T : Ghosts S) (old new : S) (store : Store) (before after
   pub record Answers (answer : Result (List Row) AnswerStop) : Type 0 where
     pub rows : Stored (λ facts. IfOk answer (λ found. found ≡ rows facts s))
     pub undamaged : Stored (λ facts. IfErr answer IsUndamaged)
-    pub uncovered : IsErrOf answer answers.NotCovered ↔ IsUncovered store.forest.schema s
+    pub uncovered : IsErrOf answer AnswerStop.NotCovered ↔ IsUncovered store.forest.schema s
     pub visits : Visited (λ numbers. T.reads new ≤ T.reads old + length numbers)
     pub saves : Visited (λ numbers. Saves before (side_of store.forest.body) numbers (T.reads old) (T.reads new))
     pub keeps : Visited (λ numbers. HasRoom before (side_of store.forest.body) numbers → OnOk answer (Keeps before after (side_of store.forest.body) numbers))
     pub agrees : Known (Agrees (T.disk new).files after)
     pub judged : Known ((view : ℕ) → Picks store.forest.schema.views store.forest.body.counts s view → IsJudged store s view (T.disk old).files answer)
-    pub untouched : IsErrOf answer answers.NotCovered → new ≡ old
-    pub unasked : IsErrOf answer answers.NotCovered → after ≡ before
+    pub untouched : IsErrOf answer AnswerStop.NotCovered → new ≡ old
+    pub unasked : IsErrOf answer AnswerStop.NotCovered → after ≡ before
     pub lies : LiesIn (side_of store.forest.body) before → LiesIn (side_of store.forest.body) after
     pub capacity : after.capacity ≡ before.capacity
-    pub looks : Looks T (HasCauseWhere answers.Disk) old new answer
+    pub looks : Looks T (HasCauseWhere AnswerStop.Disk) old new answer
 
   -- what is told of it, where some view covers the slice
   record Ends (result : Reply) : Type 0 where
@@ -147,18 +143,18 @@ module _ {S : Type 0} (T : Ghosts S) (old new : S) (store : Store) (before after
       assumption (undamaged, damage, quiet)
 
   module _ (covers : is_covered store.forest.schema s ≡ true) where
-    not_uncovered : Answers (Err answers.NotCovered) → ⊥
+    not_uncovered : Answers (Err AnswerStop.NotCovered) → ⊥
     not_uncovered is = let some = some-covers store.forest.schema s covers in is.uncovered.0 refl some.0 some.1
 
     stop_ends : (answer : Result (List Row) AnswerStop) → Answers answer → Ends (Err (answer_stop answer))
-    stop_ends (Ok found) is = stops_by (Ok found) is stops.Memory (is.looks.cause.ok, is.looks.told_faults) (λ t agree facts stored. tt) (λ t agree. tt)
-    stop_ends (Err answers.NotCovered) is = absurd (not_uncovered is)
-    stop_ends (Err answers.Disk) is =
-        stops_by (Err answers.Disk) is stops.Disk ((is.looks.cause.failed refl, is.looks.cause.once), is.looks.told_faults) (λ t agree facts stored. tt) (λ t agree. tt)
-    stop_ends (Err (answers.Damaged file offset)) is =
-        stops_by (Err (answers.Damaged file offset)) is (stops.Damaged file offset) (is.looks.cause.other (damaged_no_fault file offset), is.looks.told_faults) is.undamaged is.judged
-    stop_ends (Err answers.Memory) is =
-        stops_by (Err answers.Memory) is stops.Memory (is.looks.cause.other memory_no_fault, is.looks.told_faults) (λ t agree facts stored. tt) (λ t agree. tt)
+    stop_ends (Ok found) is = stops_by (Ok found) is Stop.Memory (is.looks.cause.ok, is.looks.told_faults) (λ t agree facts stored. tt) (λ t agree. tt)
+    stop_ends (Err AnswerStop.NotCovered) is = absurd (not_uncovered is)
+    stop_ends (Err AnswerStop.Disk) is =
+        stops_by (Err AnswerStop.Disk) is Stop.Disk ((is.looks.cause.failed refl, is.looks.cause.once), is.looks.told_faults) (λ t agree facts stored. tt) (λ t agree. tt)
+    stop_ends (Err (AnswerStop.Damaged file offset)) is =
+        stops_by (Err (AnswerStop.Damaged file offset)) is (Stop.Damaged file offset) (is.looks.cause.other (damaged_no_fault file offset), is.looks.told_faults) is.undamaged is.judged
+    stop_ends (Err AnswerStop.Memory) is =
+        stops_by (Err AnswerStop.Memory) is Stop.Memory (is.looks.cause.other memory_no_fault, is.looks.told_faults) (λ t agree facts stored. tt) (λ t agree. tt)
 
     ends_by : (answer : Result (List Row) AnswerStop) → Answers answer → (result : Reply) → Tells answer result → Ends result
     ends_by answer is (Err stop) told = subst (λ (e : Stop). Ends (Err e)) (sym told) (stop_ends answer is)
@@ -170,7 +166,7 @@ module _ {S : Type 0} (T : Ghosts S) (old new : S) (store : Store) (before after
       answered = λ t agree. (Some found, (covers, is.judged t agree), sym (same_in told));
       quiet = record { told = λ t. (is.looks.disk t).told; cause = tt; disk_faults = is.looks.cause.ok; told_faults = is.looks.told_faults };
     }
-    ends_by (Err answers.NotCovered) is (Ok reply) told = absurd (not_uncovered is)
+    ends_by (Err AnswerStop.NotCovered) is (Ok reply) told = absurd (not_uncovered is)
     ends_by (Err _) is (Ok reply) told = absurd (none_some told)
 
 -- ---- it is carried out
@@ -179,7 +175,7 @@ module _ {S : Type 0} (T : Ghosts S) (old new : S) (state : State) (store : Stor
     (is : Answers T old new store before after s answer) (has : store_of state ≡ Some store) (read : slice_of store.forest.schema text ≡ Ok s)
     (ready : IsReadyFor T old before state) (only : IsTrue T.tells → OnlyNow (T.disk old)) (result : Reply) where
   abbrev its : Command
-  its = says.Slice text
+  its = Command.Slice text
 
   live : live_of state ≡ Some store.forest.body
   live = live_as state store has
@@ -194,21 +190,21 @@ module _ {S : Type 0} (T : Ghosts S) (old new : S) (state : State) (store : Stor
   refuses : is_covered store.forest.schema s ≡ false → Tells answer result → CarriesOut T its state state old new before after result
   refuses not told =
       let none = is.uncovered.1 (none-covers store.forest.schema s not) in
-      subst (λ (n : S). CarriesOut T its state state old n before after result) (sym (is.untouched none))
-      (subst (λ (c : Cache). CarriesOut T its state state old old before c result) (sym (is.unasked none)) (by result (subst (λ (a : Result (List Row) AnswerStop). Tells a result) none told)))
+      subst₂ (λ (n : S) (c : Cache). CarriesOut T its state state old n before c result) (sym (is.untouched none)) (sym (is.unasked none))
+      (by result (subst (λ (a : Result (List Row) AnswerStop). Tells a result) none told))
     where
-      by : (result : Reply) → Tells (Err answers.NotCovered) result → CarriesOut T its state state old old before before result
-      by (Ok reply) told = carried.says T its state old before only (line not_covered) reply ready
+      by : (result : Reply) → Tells (Err AnswerStop.NotCovered) result → CarriesOut T its state state old old before before result
+      by (Ok reply) told = only_replies T its state old before only (line not_covered) reply ready
           (unasked T old state text (line not_covered) store (Ok s) has read (ap (λ (b : Bool). cond b (Some s) None) not)
           (λ facts. ap (λ (b : Bool). cond b (answer_text (rows facts s)) (line not_covered)) not) (λ files. (None, not, refl))) (sym (same_in told))
-      by (Err stop) told = carried.runs_out_as T its state old before only ready state (Err stop) told
+      by (Err stop) told = runs_out_as T its state old before only ready state (Err stop) told
 
   module _ (covers : is_covered store.forest.schema s ≡ true) (ends : Ends T old new store before after s result) where
     asked : asked_by store.forest.schema its ≡ Some s
     asked = ap (covered store.forest.schema) read ∙ ap (λ (b : Bool). cond b (Some s) None) covers
 
-    asks : asks_pages state its ≡ true
-    asks = ap (λ (k : Option Store). is_asked (asked_from k its)) has ∙ ap is_asked asked
+    asks : asks_pages state its ≡ false → after ≡ before
+    asks none = absurd (true≢false (sym (ap (λ (k : Option Store). is_asked (asked_from k its)) has ∙ ap is_asked asked) ∙ none))
 
     -- what is spent, saved and kept over the pages that it goes to
     abbrev Pages : Option Body → List ℕ → Type 0
@@ -273,9 +269,6 @@ module _ {S : Type 0} (T : Ghosts S) (old new : S) (state : State) (store : Stor
       fits = holds result (fits t);
     }
 
-    unasked_not : asks_pages state its ≡ false → after ≡ before
-    unasked_not none = absurd (true≢false (sym asks ∙ none))
-
     said_never : RepliesAlone its → (files : Files) → IfOk result (λ (reply : Vec ℕ Global). Gives state files its reply.items)
     said_never alone files = absurd alone
 
@@ -289,12 +282,12 @@ module _ {S : Type 0} (T : Ghosts S) (old new : S) (state : State) (store : Stor
       any_files = any_files;
       goes_on = record {
         runs = holds result (record { running = ready.runs.running; fit = λ t. fit_rests state (T.disk old) (T.disk new) (is.looks.disk t) (ready.runs.fit t) });
-        cache = λ none. absurd (true≢false (sym asks ∙ none));
+        cache = λ none. holds result (asks none ∙ sym (kept_same (live_of state) (live_of state) before refl));
         capacity = is.capacity;
         unwritten = λ none. is.looks.writes;
         quiet = ends.quiet;
       };
-      leaves = search (holds, fits, unasked_not, said_never, side_stays, absurd);
+      leaves = search (holds, fits, asks, said_never, side_stays, absurd);
     }
 
   -- the answer is told

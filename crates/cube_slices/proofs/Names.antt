@@ -1,6 +1,6 @@
 -- The names of other rooms that the proofs of this one use, in one place.
 pub use Rattle.std.proofs.Common.{Vec, Option, Result, List, sym, subst, ap, Some, ◌∙◌, None, ◌≡◌, ℕ, [], length, inr, refl, arith, ◌<◌, Bool, true, false, cond, get_or, inl, true≢false, Ok, IsTrue}
-pub use Rattle.std.proofs.Common.{Err, IfErr, ◌≤◌, ◌+◌, IfOk, OnOk, zero, suc}
+pub use Rattle.std.proofs.Common.{Err, IfErr, ◌≤◌, ◌+◌, IfOk, OnOk, zero, suc, subst₂}
 pub use Rattle.std.specs.declared.alloc.Global.{Global}
 pub use Rattle.std.proofs.lemmas.List.Folds.{Any-from_list_any, list_any_at}
 pub use Rattle.std.proofs.lemmas.Bool.{cases_Bool}
@@ -15,7 +15,6 @@ pub use Rattle.view_route.specs.Routes.{is_fewer, IsCovering, Picks, Routes, cov
 pub use Rattle.page_cache.specs.Keeping.{Agrees, LiesIn, HasRoom, Keeps}
 pub use Rattle.cube_state.specs.Slices.{GivesFound, GivesRead, TellsSpoilt, SliceGives, SliceTells}
 pub use Rattle.cube_state.specs.Stops.{StopCause, IsNoDamage}
-pub use Rattle.slice_exec.specs.Answers.{IsNoDamage as IsUndamaged, IsJudged, IsUncovered, visits_of}
 pub use Rattle.site_core.specs.Causes.{HasCauseWhere}
 pub use Rattle.site_core.specs.Disk.{Disk, Files}
 pub use Rattle.site_core.specs.Frames.{Looks}
@@ -34,6 +33,7 @@ pub use Rattle.forest_store.specs.Sides.{side_of}
 pub use Rattle.forest_store.specs.Stored.{IsStoreOf}
 pub use Rattle.script_lang.specs.declared.command.Command.{Command}
 pub use Rattle.slice_exec.proofs.Costs.{same-cost}
+pub use Rattle.slice_exec.specs.Answers.{IsJudged, IsUncovered, visits_of, IsNoDamage as IsUndamaged}
 pub use Rattle.slice_exec.specs.Costs.{visits_over}
 pub use Rattle.slice_exec.specs.declared.stop.AnswerStop.{AnswerStop}
 pub use Rattle.slice_lang.specs.Reading.{slice_of}
@@ -42,8 +42,8 @@ pub use Rattle.plain_machine.proofs.Acts.{act_slice}
 pub use Rattle.plain_machine.specs.Machine.{Answer, act, asked_by, asked_over, asked_slice, slice_over, slice_reply, covered, is_covered}
 pub use Rattle.plain_machine.specs.World.{Kept, Warehouse, World}
 pub use Rattle.cube_state.proofs.Answering.{OnlyNow, fit_rests, resting, stands_rests}
-pub use Rattle.cube_state.proofs.Cached.{holds}
-pub use Rattle.cube_state.proofs.Carried.{OnlySays}
+pub use Rattle.cube_state.proofs.Cached.{holds, kept_same}
+pub use Rattle.cube_state.proofs.Carried.{OnlySays, runs_out_as, says as only_replies}
 pub use Rattle.cube_state.proofs.Standing.{attends_belongs}
 pub use Rattle.cube_state.proofs.Told.{spares_same}
 pub use Rattle.cube_state.specs.Commands.{Gives}
@@ -54,7 +54,3 @@ pub use Rattle.cube_state.specs.Visits.{GoesFrom, GoesOver, GoesTo, ReadsFor, Re
 pub use Rattle.cube_state.specs.declared.state.State.{State}
 pub use Rattle.cube_state.specs.declared.state.State.TheVariants.{Empty, Idle, Hollow, Pending}
 pub use Rattle.cube_state.specs.declared.stop.Stop.{Stop}
-pub use Rattle.slice_exec.specs.declared.stop.AnswerStop.TheVariants as answers
-pub use Rattle.cube_state.proofs.Carried as carried
-pub use Rattle.script_lang.specs.declared.command.Command.TheVariants as says
-pub use Rattle.cube_state.specs.declared.stop.Stop.TheVariants as stops
