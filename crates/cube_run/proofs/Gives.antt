@@ -1,32 +1,26 @@
 -- Each reply that a command gives has a byte.
 use Rattle.std.proofs.Common.{◌≡◌, ◌<◌, ℕ, inl, inr, List, [], ◌∷◌, length, Option, Some, None, Result, Ok, Err, codes, decimal, sym, subst}
-use Rattle.site_core.specs.Disk.{Files}
+use Rattle.cube_run.proofs.Names.{Command, Files, State, bare}
 use Rattle.cube_schema.specs.declared.schema.Schema.{Schema}
 use Rattle.cube_schema.specs.Kinds.{name_at, measure_name_at}
 use Rattle.fact_model.specs.declared.fact.Fact.{Fact}
-use Rattle.fact_model.specs.declared.slice.Row.{Row}
 use Rattle.fact_model.specs.declared.slice.Slice.{Slice}
 use Rattle.forest_refresh.specs.Begun.{batch_size}
 use Rattle.forest_refresh.specs.declared.stop.BeginStop.{BeginStop}
 use Rattle.forest_refresh.specs.declared.stop.BeginStop.TheVariants as begins
 use Rattle.forest_root.specs.declared.forest.Store.{Store}
-use Rattle.reply_text.specs.Replies.{abandoned_text, begun_text, committed_text, is_declared, is_pending, is_unknown, line, long_line, no_schema, none_pending, not_covered, open_block, stepped_text, too_many_facts, unopened}
-use Rattle.script_lang.specs.declared.command.Block.{Block}
-use Rattle.script_lang.specs.declared.command.Command.{Command}
+use Rattle.reply_text.specs.Replies.{abandoned_text, begun_text, is_declared, is_pending, is_unknown, line, long_line, no_schema, none_pending, not_covered, open_block, stepped_text, too_many_facts, unopened}
 use Rattle.script_lang.specs.declared.command.Command.TheVariants as says
 use Rattle.slice_lang.specs.declared.refusal.SliceRefusal.{SliceRefusal}
 use Rattle.slice_lang.specs.Reading.{slice_of}
 use Rattle.plain_machine.specs.declared.batch_source.BatchSource.{BatchSource}
 use Rattle.plain_machine.specs.declared.batch_source.BatchSource.TheVariants.{Rows, Numbered, Generator}
 use Rattle.plain_machine.specs.Machine.{Given}
-use Rattle.plain_machine.specs.World.{bare}
 use Rattle.plain_machine.proofs.Acts.{HasByte, HasReply, answer_some, behind, declare_some, refused_some, some_line, some_number, source_has}
-use Rattle.cube_state.specs.declared.state.State.{State}
 use Rattle.cube_state.specs.declared.state.State.TheVariants.{Empty, Idle, Hollow, Pending}
-use Rattle.cube_state.specs.Batches.{BeginGives, FinishGives, GivesBatch, GivesBegun, GivesGiven, IsRefused, LoadGives, given_to, pending_line, refusal_text}
-use Rattle.cube_state.specs.Commands.{Gives, SchemaGives}
-use Rattle.cube_state.specs.Session.{state_text}
-use Rattle.cube_state.specs.Slices.{GivesRead, SliceGives, found_text}
+use Rattle.cube_state.specs.Batches.{GivesBatch, GivesBegun, GivesGiven, IsRefused, LoadGives, given_to, pending_line, refusal_text}
+use Rattle.cube_state.specs.Commands.{Gives}
+use Rattle.cube_state.specs.Slices.{GivesRead, SliceGives}
 use Rattle.cube_state.specs.Visits.{store_of}
 
 -- by the text that it is
@@ -35,9 +29,6 @@ as_text text reply is some = subst (λ (l : List ℕ). 0 < length l) (sym is) so
 
 as_line : (text reply : List ℕ) → reply ≡ line text → 0 < length reply
 as_line text reply is = as_text (line text) reply is (some_line text)
-
-committed_some : (count : ℕ) → 0 < length (committed_text count)
-committed_some count = some_number (codes "committed ") count
 
 limit_byte : (schema : Schema) (why : BeginStop) → HasByte (refusal_text schema why)
 limit_byte schema begins.FactsFull = some_line too_many_facts
@@ -49,22 +40,19 @@ limit_byte schema begins.Disk = tt
 limit_some : (store : Store) (reply : List ℕ) → IsRefused store reply → 0 < length reply
 limit_some store reply is = subst HasByte is.1 (limit_byte store.forest.schema is.0)
 
-found_some : (found : Option (List Row)) → 0 < length (found_text found)
-found_some (Some rows) = answer_some rows
-found_some None = some_line not_covered
-
 read_some : (store : Store) (files : Files) (read : Result Slice SliceRefusal) (reply : List ℕ) → GivesRead store files read reply → 0 < length reply
 read_some store files (Err refusal) reply is = as_text _ reply is (refused_some refusal)
-read_some store files (Ok s) reply is = as_text _ reply is.2 (found_some is.0)
+read_some store files (Ok s) reply (Some rows, right, said) = as_text _ reply said (answer_some rows)
+read_some store files (Ok s) reply (None, right, said) = as_text _ reply said (some_line not_covered)
 
 slice_some : (store : Option Store) (files : Files) (text reply : List ℕ) → SliceGives store files text reply → 0 < length reply
 slice_some None files text reply is = as_line no_schema reply is
 slice_some (Some store) files text reply is = read_some store files (slice_of store.forest.schema text) reply is
 
 batch_some : (store : Store) (files : Files) (batch : List Fact) (reply : List ℕ) → GivesBatch store files batch reply → 0 < length reply
-batch_some store files [] reply is = as_text _ reply is (committed_some store.forest.body.facts)
+batch_some store files [] reply is = as_text _ reply is (some_number (codes "committed ") store.forest.body.facts)
 batch_some store files (x ∷ xs) reply (inl refused) = limit_some store reply refused
-batch_some store files (x ∷ xs) reply (inr taken) = as_text _ reply taken.said (committed_some taken.count)
+batch_some store files (x ∷ xs) reply (inr taken) = as_text _ reply taken.said (some_number (codes "committed ") taken.count)
 
 given_some : (store : Store) (files : Files) (given : Given) (reply : List ℕ) → HasReply given → GivesGiven store files given reply → 0 < length reply
 given_some store files (Err text) reply some is = as_text text reply is some
@@ -72,57 +60,39 @@ given_some store files (Ok given) reply some is = batch_some store files given.0
 
 load_some : (state : State) (files : Files) (source : BatchSource) (reply : List ℕ) → LoadGives state files source reply → 0 < length reply
 load_some Empty files source reply is = as_line no_schema reply is
-load_some (Idle store) files source reply is =
-    given_some store files (given_to store source) reply (source_has store.forest.schema store.forest.body.last source) is
-load_some (Hollow store) files source reply is = as_line is_pending reply is
-load_some (Pending r) files source reply is = as_line is_pending reply is
+load_some (Idle store) files source reply is = given_some store files (given_to store source) reply (source_has store.forest.schema store.forest.body.last source) is
+load_some _ files source reply is = as_line is_pending reply is
 
 begun_some : (store : Store) (given : Given) (reply : List ℕ) → HasReply given → GivesBegun store given reply → 0 < length reply
 begun_some store (Err text) reply some is = as_text text reply is some
 begun_some store (Ok given) reply some (inl refused) = limit_some store reply refused
 begun_some store (Ok given) reply some (inr begun) = as_line begun_text reply begun
 
-begin_some : (state : State) (block : Block) (reply : List ℕ) → BeginGives state block reply → 0 < length reply
-begin_some Empty block reply is = as_line no_schema reply is
-begin_some (Idle store) block reply is = begun_some store (given_to store (Rows block)) reply (source_has store.forest.schema store.forest.body.last (Rows block)) is
-begin_some (Hollow store) block reply is = as_line is_pending reply is
-begin_some (Pending r) block reply is = as_line is_pending reply is
-
-finish_some : (state : State) (files : Files) (reply : List ℕ) → FinishGives state files reply → 0 < length reply
-finish_some Empty files reply is = as_line none_pending reply is
-finish_some (Idle store) files reply is = as_line none_pending reply is
-finish_some (Hollow store) files reply is = as_text _ reply is (committed_some store.forest.body.facts)
-finish_some (Pending r) files reply is = as_text _ reply is.said (committed_some r.next.facts)
-
-schema_some : (state : State) (block : Block) (reply : List ℕ) → SchemaGives state block reply → 0 < length reply
-schema_some Empty block reply is = as_text _ reply is (declare_some (bare None) None block)
-schema_some (Idle store) block reply is = as_line is_declared reply is
-schema_some (Hollow store) block reply is = as_line is_declared reply is
-schema_some (Pending r) block reply is = as_line is_declared reply is
-
-status_some : (state : State) → 0 < length (state_text state)
-status_some Empty = some_line unopened
-status_some (Idle store) = some_number (codes "facts ") store.forest.body.facts
-status_some (Hollow store) = behind (codes "facts ") _ (behind (decimal store.forest.body.facts) _ (some_number (codes " pending ") 0))
-status_some (Pending r) =
-    behind (codes "facts ") _ (behind (decimal r.store.forest.body.facts) _ (some_number (codes " pending ") (batch_size r)))
-
 pending_some : (state : State) (text : List ℕ) → 0 < length (pending_line state text)
-pending_some Empty text = some_line none_pending
-pending_some (Idle store) text = some_line none_pending
 pending_some (Hollow store) text = some_line text
 pending_some (Pending r) text = some_line text
+pending_some _ text = some_line none_pending
 
 pub gives_some : (state : State) (files : Files) (command : Command) (reply : List ℕ) → Gives state files command reply → 0 < length reply
-gives_some state files (says.Schema block) reply is = schema_some state block reply is
+gives_some Empty files (says.Schema block) reply is = as_text _ reply is (declare_some (bare None) None block)
+gives_some state files (says.Schema block) reply is = as_line is_declared reply is
 gives_some state files (says.Load block) reply is = load_some state files (Rows block) reply is
 gives_some state files (says.LoadNumbered number block) reply is = load_some state files (Numbered number block) reply is
 gives_some state files (says.Generate start rows) reply is = load_some state files (Generator start rows) reply is
 gives_some state files (says.Slice text) reply is = slice_some (store_of state) files text reply is
-gives_some state files says.Status reply is = as_text _ reply is (status_some state)
-gives_some state files (says.Begin block) reply is = begin_some state block reply is
+gives_some Empty files says.Status reply is = as_text _ reply is (some_line unopened)
+gives_some (Idle store) files says.Status reply is = as_text _ reply is (some_number (codes "facts ") store.forest.body.facts)
+gives_some (Hollow store) files says.Status reply is =
+    as_text _ reply is (behind (codes "facts ") _ (behind (decimal store.forest.body.facts) _ (some_number (codes " pending ") 0)))
+gives_some (Pending r) files says.Status reply is =
+    as_text _ reply is (behind (codes "facts ") _ (behind (decimal r.store.forest.body.facts) _ (some_number (codes " pending ") (batch_size r))))
+gives_some Empty files (says.Begin block) reply is = as_line no_schema reply is
+gives_some (Idle store) files (says.Begin block) reply is = begun_some store (given_to store (Rows block)) reply (source_has store.forest.schema store.forest.body.last (Rows block)) is
+gives_some state files (says.Begin block) reply is = as_line is_pending reply is
 gives_some state files (says.Step n) reply is = as_text _ reply is (pending_some state stepped_text)
-gives_some state files says.Finish reply is = finish_some state files reply is
+gives_some (Hollow store) files says.Finish reply is = as_text _ reply is (some_number (codes "committed ") store.forest.body.facts)
+gives_some (Pending r) files says.Finish reply is = as_text _ reply is.said (some_number (codes "committed ") r.next.facts)
+gives_some state files says.Finish reply is = as_line none_pending reply is
 gives_some state files says.Abandon reply is = as_text _ reply is (pending_some state abandoned_text)
 gives_some state files says.LongLine reply is = as_line long_line reply is
 gives_some state files says.OpenBlock reply is = as_line open_block reply is

@@ -1,8 +1,11 @@
--- How a session goes on from command to command.
-use Rattle.std.proofs.Common.{◌≡◌, ◌∙◌, ◌++◌, ℕ, IsTrue, Option, Some, None, List, [], ◌∷◌, Result, Ok, Err, IfSome, ap, refl, sym, subst, append-nil, append_assoc, arith}
-use Rattle.cube_run.proofs.Names.{Answers, AnswersByWorld, Cache, Command, Cost, CostTogether, Costs, Disk, Files, Finished, Ghosts, HasGone, HasMovedTo, HasStopped, IsWithin, Keeps, OnlyNow, Onward, Runs, StandsFor, State, Stop}
-use Rattle.cube_run.proofs.Names.{StopCause, World, act, at_rest, both, carried_more, carried_none, carried_then, during, joined, made_behind, made_from, moves_for, moves_made, one_costs, stands_left, stands_moved, stands_read, started, wider}
-use Rattle.cube_run.proofs.Replied.{one_replied, then_replied}
+-- How a session goes on from command to command, up to a stop or to where no command is whole.
+use Rattle.std.proofs.Common.{◌≡◌, ◌∙◌, ◌++◌, ℕ, IsTrue, false, Option, Some, None, option_to_list, List, [], ◌∷◌, Result, Ok, Err, IfSome, ap, refl, sym, subst, append-nil, append_assoc}
+use Rattle.std.proofs.Common.{length-append, arith}
+use Rattle.cube_run.proofs.Names.{Answers, AnswersByWorld, Cache, CarriesOn, Command, Cost, CostTogether, Costs, Disk, Files, Finished, Ghosts, Gives, HasGone, HasMovedTo, HasReplied, HasStopped}
+use Rattle.cube_run.proofs.Names.{IsErrAnd, IsFirstWhole, IsLeft, IsWithin, Keeps, OnlyNow, Onward, Reading, Reads, Replied, RepliesTo, Runs, Spends, StandsFor, State, Stop, World, act, at_rest}
+use Rattle.cube_run.proofs.Names.{carried_command, carried_start, carried_then, during, joined, made_behind, made_from, moves_for, moves_made, one_costs, ready, stands_left, stands_moved}
+use Rattle.cube_run.proofs.Names.{stands_read, started, to_come, whole_with, wider}
+use Rattle.cube_run.proofs.Gives.{gives_some}
 use Rattle.cube_state.specs.declared.stop.Stop.TheVariants as stops
 
 -- what a session that stands tells of the files: what they keep, also after a stop, and the moves made
@@ -11,23 +14,26 @@ stood : (session : Option State) (d : Disk) (w : World) → StandsFor session d 
 stood None d w is = absurd is
 stood (Some state) d w is = (stands_read state d w is, stands_left state d w is, stands_moved state d w is)
 
--- what the first of some commands costs, and the others
-first_costs : (w : World) (made : ℕ) (c : Command) (rest : List Command) (all : Cost) → CostTogether w made (c ∷ rest) all
-    → (one : Cost) × (others : Cost) × Costs w made c one × CostTogether (act w c).0 (made_behind w made c) rest others × (all ≡ both one others)
-first_costs w made c rest all (one_costs one others own more) = (one, others, own, more, refl)
+-- ---- replies
 
--- why it stops, from a moment on up to which nothing failed
-cause_from : (disk disk_mid disk_now told told_mid told_now : ℕ) (stop : Stop) → disk_mid ≡ disk → told_mid ≡ told → StopCause disk_mid disk_now told_mid told_now stop
-    → StopCause disk disk_now told told_now stop
-cause_from disk disk_mid disk_now told told_mid told_now stop one two cause =
-    subst (λ (n : ℕ). StopCause n disk_now told told_now stop) one (subst (λ (n : ℕ). StopCause disk_mid disk_now n told_now stop) two cause)
+both_replied : (first second : List Command) (one two : List ℕ) → Replied first one → Replied second two → Replied (first ++ second) (one ++ two)
+both_replied [] second one two is then = subst (λ (l : List ℕ). Replied second (l ++ two)) (sym is) then
+both_replied (c ∷ cs) second one two is then =
+    (is.0, is.1 ++ two, ap (λ (l : List ℕ). l ++ two) is.2 ∙ append_assoc is.0 is.1 two, is.3, is.4, both_replied cs second is.1 two is.5 then)
 
-pub not_none : {A : Type 0} (x : A) (xs : List A) → x ∷ xs ≡ [] → ⊥
-not_none x xs none = cc
+then_replied : (first second : List Command) (before mid now : List ℕ) → HasReplied first before mid → HasReplied second mid now → HasReplied (first ++ second) before now
+then_replied first second before mid now one two = record {
+  replies = one.replies ++ two.replies;
+  told = two.told ∙ ap (λ (l : List ℕ). l ++ two.replies) one.told ∙ append_assoc before one.replies two.replies;
+  each = both_replied first second one.replies two.replies one.each two.each;
+}
 
-pub last_none : {A : Type 0} (one two : List A) → one ++ two ≡ [] → two ≡ []
-last_none [] two none = none
-last_none (x ∷ xs) two none = absurd (not_none x (xs ++ two) none)
+one_replied : (c : Command) (state : State) (files : Files) (before now : List ℕ) → RepliesTo state files c before now → HasReplied (c ∷ []) before now
+one_replied c state files before now is = record {
+  replies = is.reply;
+  told = is.told;
+  each = (is.reply, [], sym (append-nil is.reply), gives_some state files c is.reply is.right, (state, files, is.right), refl);
+}
 
 module _ {S : Type 0} (T : Ghosts S) where
   -- ---- by the world that the session stands for
@@ -36,51 +42,45 @@ module _ {S : Type 0} (T : Ghosts S) where
   onward_none site had w cs stands only = record {
     now = w;
     stands = stands;
-    carried = carried_none w cs _ _ refl;
+    carried = carried_start w cs _ _ refl;
     moved = refl;
     spent = λ all costs. record { left = all; costs = costs; reads = omega arith; writes = omega arith };
     any_moment = started _ _ (λ told files left. let now = only told files left in at_rest w cs _ told files now.0 ((stood had _ w stands).1 files now.1));
   }
 
+  spends_left : {old new : S} {now : World} {made : ℕ} {rest : List Command} {all : Cost} → IsLeft T old new now made rest all → Spends T all old new
+  spends_left is = record { reads = omega (arith, is.reads); writes = omega (arith, is.writes) }
+
   -- one command
+  left_one : (old new : S) (w : World) (made : ℕ) (c : Command) (rest : List Command) (all : Cost) → ((one : Cost) → Costs w made c one → Spends T one old new)
+      → CostTogether w made (c ∷ rest) all → IsLeft T old new (act w c).0 (made_behind w made c) rest all
+  left_one old new w made c rest all call (one_costs one others own more) =
+      let spent = call one own in record { left = others; costs = more; reads = omega (arith, spent.reads); writes = omega (arith, spent.writes) }
+
   module _ (c : Command) (w : World) (state : State) (then : Option State) (old new : S) (before after : Cache) (rest : List Command) where
     within_one : (result : Result (Unit {0}) Stop) → AnswersByWorld T c w state then old new before after result → IsWithin T (Some state) w (c ∷ rest) old new
     within_one result is = record {
       any_moment = wider _ _ _ _ (during w c rest _) is.any_moment;
-      cost = λ all costs.
-          let split = first_costs w (moves_made state) c rest all costs in
-          let spent = is.cost split.0 split.2 in
-          record { reads = omega (arith, spent.reads, ap (λ (x : Cost). x.reads) split.4); writes = omega (arith, spent.writes, ap (λ (x : Cost). x.writes) split.4) };
+      cost = λ all costs. spends_left (left_one old new w (moves_made state) c rest all is.cost costs);
     }
 
     onward_one : (x : Unit {0}) → AnswersByWorld T c w state then old new before after (Ok x) → Onward T (Some state) then w (c ∷ rest) rest old new
     onward_one x is = record {
       now = (act w c).0;
       stands = is.stands;
-      carried = carried_more w (c ∷ rest) _ w c rest (c ∷ rest) _ _ (carried_none w (c ∷ rest) _ _ refl) refl is.told;
+      carried = carried_command w (c ∷ rest) _ w c rest (c ∷ rest) _ _ (carried_start w (c ∷ rest) _ _ refl) refl is.told;
       moved = ap (λ (m : ℕ). made_from (act w c).0 m rest) (sym is.moved);
-      spent = λ all costs.
-          let split = first_costs w (moves_made state) c rest all costs in
-          let spent = is.cost split.0 split.2 in
-          record {
-            left = split.1;
-            costs = subst (λ (m : ℕ). CostTogether (act w c).0 m rest split.1) (sym is.moved) split.3;
-            reads = omega (arith, spent.reads, ap (λ (x : Cost). x.reads) split.4);
-            writes = omega (arith, spent.writes, ap (λ (x : Cost). x.writes) split.4);
-          };
+      spent = λ all costs. subst (λ (m : ℕ). IsLeft T old new (act w c).0 m rest all) (sym is.moved) (left_one old new w (moves_made state) c rest all is.cost costs);
       any_moment = (within_one (Ok x) is).any_moment;
     }
 
-  module _ (had has : Option State) (w : World) (cs all : List Command) (old mid : S) (so_far : Onward T had has w cs all old mid) where
-    within_now : IsWithin T had w cs old mid
-    within_now = record {
-      any_moment = so_far.any_moment;
-      cost = λ cost costs. let left = so_far.spent cost costs in record { reads = omega (arith, left.reads); writes = omega (arith, left.writes) };
-    }
+  within_now : {had has : Option State} {w : World} {cs rest : List Command} {old new : S} → Onward T had has w cs rest old new → IsWithin T had w cs old new
+  within_now is = record { any_moment = is.any_moment; cost = λ cost costs. spends_left (is.spent cost costs) }
 
-    -- and then others
-    within_then : (new : S) → IsWithin T has so_far.now all mid new → IsWithin T had w cs old new
-    within_then new next = record {
+  -- and then others
+  module _ (had has : Option State) (w : World) (cs all : List Command) (old mid new : S) (so_far : Onward T had has w cs all old mid) where
+    within_then : IsWithin T has so_far.now all mid new → IsWithin T had w cs old new
+    within_then next = record {
       any_moment = joined _ _ _ _ so_far.any_moment (wider _ _ _ _ so_far.carried.onto next.any_moment);
       cost = λ cost costs.
           let left = so_far.spent cost costs in
@@ -88,8 +88,8 @@ module _ {S : Type 0} (T : Ghosts S) where
           record { reads = omega (arith, left.reads, spent.reads); writes = omega (arith, left.writes, spent.writes) };
     }
 
-    onward_then : (then : Option State) (rest : List Command) (new : S) → Onward T has then so_far.now all rest mid new → Onward T had then w cs rest old new
-    onward_then then rest new next = record {
+    onward_then : (then : Option State) (rest : List Command) → Onward T has then so_far.now all rest mid new → Onward T had then w cs rest old new
+    onward_then then rest next = record {
       now = next.now;
       stands = next.stands;
       carried = carried_then _ _ _ _ _ _ _ _ _ so_far.carried next.carried;
@@ -98,7 +98,7 @@ module _ {S : Type 0} (T : Ghosts S) where
           let left = so_far.spent cost costs in
           let others = next.spent left.left left.costs in
           record { left = others.left; costs = others.costs; reads = omega (arith, left.reads, others.reads); writes = omega (arith, left.writes, others.writes) };
-      any_moment = joined _ _ _ _ so_far.any_moment (wider _ _ _ _ so_far.carried.onto next.any_moment);
+      any_moment = (within_then (within_now next)).any_moment;
     }
 
   -- nothing is left
@@ -107,9 +107,8 @@ module _ {S : Type 0} (T : Ghosts S) where
       let stands = stood has (T.disk new) is.now is.stands in
       record {
         told = is.carried.tells ∙ ap (λ (l : List ℕ). (T.disk old).told ++ l) (sym (is.carried.replies ∙ append-nil is.carried.front));
-        kept = subst (λ (v : World). Keeps (T.disk new).files v.kept) (sym is.carried.final) stands.0;
-        moved = subst (λ (v : World). HasMovedTo (T.disk new).files v (made_from w (moves_for had) cs)) (sym is.carried.final)
-            (subst (HasMovedTo (T.disk new).files is.now) (sym is.moved) stands.2);
+        kept = rw is.carried.final stands.0;
+        moved = rw (is.carried.final, is.moved) stands.2;
       }
 
   -- ---- whatever the files hold
@@ -119,8 +118,7 @@ module _ {S : Type 0} (T : Ghosts S) where
     onward = λ t world stands rest. onward_none site had world rest stands (only t);
     replied = λ t. record { replies = []; told = sym (append-nil _); each = refl };
     runs = runs;
-    disk_faults = refl;
-    told_faults = refl;
+    quiet = (refl, refl);
   }
 
   module _ (c : Command) (old new : S) (before after : Cache) (then : Option State) where
@@ -130,16 +128,16 @@ module _ {S : Type 0} (T : Ghosts S) where
       onward = λ t world stands rest. onward_one c world state then old new before after rest x (is.by_world t world stands);
       replied = λ t. one_replied c state _ _ _ (is.any_files t).answered;
       runs = is.goes_on.runs;
-      disk_faults = is.goes_on.stops.disk_faults;
-      told_faults = is.goes_on.stops.told_faults;
+      quiet = (is.goes_on.stops.disk_faults, is.goes_on.stops.told_faults);
     }
 
-    pub stopped_one : (has : Option State) (stop : Stop) → Runs T old has before → IfSome has (λ (s : State). Answers T c s then old new before after (Err stop)) → HasStopped T has (c ∷ []) old new stop
+    pub stopped_one : (has : Option State) (stop : Stop) → Runs T old has before → IfSome has (λ (s : State). Answers T c s then old new before after (Err stop))
+        → HasStopped T has (c ∷ []) old new stop
     stopped_one None stop runs is = absurd runs
     stopped_one (Some state) stop runs is = record {
       within = λ t world stands rest. within_one c world state then old new before after rest (Err stop) (is.by_world t world stands);
       undamaged = λ t world stands. (is.by_world t world stands).undamaged;
-      unbegun = λ none. absurd (not_none c [] none);
+      unbegun = λ none. absurd (omega (arith, none));
       cause = is.goes_on.stops.cause;
     }
 
@@ -147,10 +145,10 @@ module _ {S : Type 0} {T : Ghosts S} {had has : Option State} {one : List Comman
   -- memory runs out behind them
   pub stopped_out : HasStopped T had one old mid stops.Memory
   stopped_out = record {
-    within = λ t world stands rest. within_now T had has world _ rest old mid (first.onward t world stands rest);
+    within = λ t world stands rest. within_now T (first.onward t world stands rest);
     undamaged = λ t world stands. tt;
     unbegun = λ none. tt;
-    cause = (first.disk_faults, first.told_faults);
+    cause = first.quiet;
   }
 
   -- and then others
@@ -158,21 +156,79 @@ module _ {S : Type 0} {T : Ghosts S} {had has : Option State} {one : List Comman
   gone_then {then} {two} {new} next = record {
     onward = λ t world stands rest.
         let so_far = first.onward t world stands (two ++ rest) in
-        subst (λ (l : List Command). Onward T had then world l rest old new) (sym (append_assoc one two rest))
-        (onward_then T had has world _ _ old mid so_far then rest new (next.onward t so_far.now so_far.stands rest));
+        rw (append_assoc one two rest) (onward_then T had has world _ _ old mid new so_far then rest (next.onward t so_far.now so_far.stands rest));
     replied = λ t. then_replied one two _ _ _ (first.replied t) (next.replied t);
     runs = next.runs;
-    disk_faults = next.disk_faults ∙ first.disk_faults;
-    told_faults = next.told_faults ∙ first.told_faults;
+    quiet = (next.quiet.0 ∙ first.quiet.0, next.quiet.1 ∙ first.quiet.1);
   }
 
   pub stopped_then : {two : List Command} {new : S} {stop : Stop} → HasStopped T has two mid new stop → HasStopped T had (one ++ two) old new stop
   stopped_then {two} {new} {stop} next = record {
     within = λ t world stands rest.
         let so_far = first.onward t world stands (two ++ rest) in
-        subst (λ (l : List Command). IsWithin T had world l old new) (sym (append_assoc one two rest))
-        (within_then T had has world _ _ old mid so_far new (next.within t so_far.now so_far.stands rest));
+        rw (append_assoc one two rest) (within_then T had has world _ _ old mid new so_far (next.within t so_far.now so_far.stands rest));
     undamaged = λ t world stands. let so_far = first.onward t world stands [] in next.undamaged t so_far.now so_far.stands;
-    unbegun = λ none. next.unbegun (last_none one two none);
-    cause = cause_from _ _ _ _ _ _ stop first.disk_faults first.told_faults next.cause;
+    unbegun = λ none. next.unbegun (omega (arith, none, length-append one two));
+    cause = rw (← first.quiet.0, ← first.quiet.1) next.cause;
   }
+
+-- ---- up to a stop, or to where no command is whole
+
+-- where nothing has stopped a session so far
+pub record HasCarried {S : Type 0} (T : Ghosts S) (had has : Option State) (before lines : Reading) (old new : S) (cache : Cache) : Type 0 where
+  pub given : List Command
+  pub reads : Reads given [] before lines
+  pub gone : HasGone T had has given old new cache
+
+pub reads_then : {one two : List Command} {first second : List ℕ} {a b c : Reading} → Reads one first a b → Reads two second b c → Reads (one ++ two) (first ++ second) a c
+reads_then {one} {two} {first} {second} {a} {b} {c} so_far next = record {
+  all = λ more. ap (to_come a) (append_assoc first second more) ∙ so_far.all (second ++ more) ∙ ap (λ (l : List Command). one ++ l) (next.all more) ∙ sym (append_assoc one two _);
+  whole = λ going more. ap (whole_with a) (append_assoc first second more) ∙ so_far.whole going (second ++ more)
+      ∙ ap (λ (l : List Command). one ++ l) (next.whole (so_far.over ∙ going) more) ∙ sym (append_assoc one two _);
+  over = next.over ∙ so_far.over;
+}
+
+-- the command that was found, if there was one
+pub found_reads : (lines next : Reading) (found : Option Command) → Gives lines next found → (lines.over ≡ false → IsFirstWhole lines next found) → next.over ≡ lines.over
+    → (some : Option Command) → found ≡ some → Reads (option_to_list some) [] lines next
+found_reads lines next found given whole over some is = subst (λ (o : Option Command). Reads (option_to_list o) [] lines next) is (record { all = given; whole = whole; over = over })
+
+-- what is handed on
+pub handed : {A E : Type 0} (r : Result A E) (x : E) → IsErrAnd r (λ (e : E). e ≡ x) → r ≡ Err x
+handed (Ok y) x from = absurd from
+handed (Err e) x from = ap Err from
+
+pub carried_none : {S : Type 0} (T : Ghosts S) (site : S) (had : Option State) (lines : Reading) (cache : Cache) → (IsTrue T.tells → OnlyNow (T.disk site)) → Runs T site had cache
+    → HasCarried T had had lines lines site site cache
+carried_none T site had lines cache only runs = record { given = []; reads = record { all = λ more. refl; whole = λ going more. refl; over = refl }; gone = gone_none T site had cache only runs }
+
+module _ {S : Type 0} {T : Ghosts S} {had has : Option State} {before lines : Reading} {old mid : S} {cache : Cache} (so_far : HasCarried T had has before lines old mid cache) (next : Reading) where
+  module _ (c : Command) (reads : Reads (c ∷ []) [] lines next) (new : S) (then : Option State) (after : Cache) where
+    pub carried_more : (x : Unit {0}) → IfSome has (λ (s : State). Answers T c s then mid new cache after (Ok x)) → HasCarried T had then before next old new after
+    carried_more x answers = record {
+      given = so_far.given ++ (c ∷ []);
+      reads = reads_then so_far.reads reads;
+      gone = gone_then so_far.gone (gone_one T c mid new cache after then has x so_far.gone.runs answers);
+    }
+
+    -- it stops the session
+    pub carried_stop : (stop : Stop) → IfSome has (λ (s : State). Answers T c s then mid new cache after (Err stop)) → CarriesOn T had then before next old new after (Err stop)
+    carried_stop stop answers = record {
+      given = so_far.given ++ (c ∷ []);
+      reads = reads_then so_far.reads reads;
+      gone = tt;
+      none = tt;
+      stopped = stopped_then so_far.gone (stopped_one T c mid new cache after then has stop so_far.gone.runs answers);
+    }
+
+  module _ (reads : Reads [] [] lines next) where
+    reads_on : Reads so_far.given [] before next
+    reads_on = subst (λ (l : List Command). Reads l [] before next) (append-nil so_far.given) (reads_then so_far.reads reads)
+
+    -- no command is whole any more
+    pub carried_done : (x : Unit {0}) → ready next ≡ [] → next.rest ≡ [] → CarriesOn T had has before next old mid cache (Ok x)
+    carried_done x none read = record { given = so_far.given; reads = reads_on; gone = so_far.gone; none = (none, read); stopped = tt }
+
+    -- memory runs out while a command is read
+    pub carried_out : CarriesOn T had has before next old mid cache (Err stops.Memory)
+    carried_out = record { given = so_far.given; reads = reads_on; gone = tt; none = tt; stopped = stopped_out so_far.gone }

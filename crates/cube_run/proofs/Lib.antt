@@ -1,10 +1,7 @@
-pub mod Carrying
-pub mod Costs
 pub mod Gives
 pub mod Going
 pub mod Moments
 pub mod Names
-pub mod Replied
 pub mod Running
 pub mod Serving
 pub mod Statuses

@@ -1,18 +1,14 @@
 -- What a stop at any moment of a run leaves, and that histories go on with it.
 use Rattle.std.proofs.Common.{◌≡◌, ◌∙◌, ◌++◌, inl, inr, ℕ, List, length, take, ap, sym, subst, append-nil, arith}
 use Rattle.std.proofs.Math.Seq.{take-append_seam}
-use Rattle.cube_run.proofs.Names.{AfterRun, AfterStop, Command, Disk, Elapses, Files, GoesOnOnce, Headline, HistoriesGoOn, Kept, LeavesOnly, OnlyNow, Opened, Status, Stays, TellsFront, TellsNothing, World}
-use Rattle.cube_run.proofs.Names.{bare, commands, each_moment, goes_on_once, joined, replies_from, wider}
+use Rattle.cube_run.proofs.Names.{AfterRun, AfterStop, Command, Disk, Elapses, Files, Headline, HistoriesGoOn, Kept, LeavesOnly, OnlyNow, Opened, Status, Stays, TellsFront, TellsNothing, World, bare}
+use Rattle.cube_run.proofs.Names.{each_moment, goes_on_once, joined, replies_from, wider}
 
 -- what was told in the end
 pub told_front : (old new : Disk) (w : World) (cs : List Command) → LeavesOnly old new (AfterRun w cs old)
     → new.left_since old.clock new.told new.files → TellsFront (replies_from w cs) old.told new.told
 told_front old new w cs run now = elim (run.each new.told new.files now) [
-  | inl a ↦ (
-    length a.front,
-    a.tells
-        ∙ ap (λ (l : List ℕ). old.told ++ l) (sym (ap (take (length a.front)) a.prefix ∙ take-append_seam a.front a.rest)),
-  )
+  | inl a ↦ (length a.front, a.tells ∙ ap (λ (l : List ℕ). old.told ++ l) (sym (ap (take (length a.front)) a.prefix ∙ take-append_seam a.front a.rest)))
   | inr same ↦ (0, same.0 ∙ sym (append-nil old.told))
 ]
 
@@ -49,13 +45,9 @@ module _ (old mid new : Disk) (w : World) (cs : List Command) (same : mid.told �
 
 pub histories_go_on : (kept : Kept) (script left : List ℕ) (start now : Disk) (status : Status) → now.may_leave now.files → Headline (bare kept) script left start now status
     → HistoriesGoOn kept script left start now status
-histories_go_on kept script left start now status read headline =
-    let goes_on : (told : List ℕ) (files : Files) → AfterStop (bare kept) (commands script) start.told told files → GoesOnOnce kept script start.told told files
-    = goes_on_once kept script start.told in
-    record {
-      any_stop = wider _ _ _ _ (λ told files. elim [ inl stop ↦ inl (goes_on told files stop) | inr untouched ↦ inr untouched ]) headline.any_stop;
-      behind = λ past. record {
-        read = goes_on now.told now.files ((headline.opened past).settled now.files read);
-        left = λ files may. goes_on now.told files ((headline.opened past).settled files may);
-      };
-    }
+histories_go_on kept script left start now status read headline = record {
+  any_stop = wider _ _ _ _ (λ told files. elim [ inl stop ↦ inl (goes_on_once kept script start.told told files stop) | inr untouched ↦ inr untouched ]) headline.any_stop;
+  behind = λ past.
+      let settled = (headline.opened past).settled in
+      record { read = goes_on_once kept script start.told _ _ (settled _ read); left = λ files may. goes_on_once kept script start.told _ files (settled files may) };
+}

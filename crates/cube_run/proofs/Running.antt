@@ -1,13 +1,36 @@
 -- How a run goes: it ends before the first pull, or as the script is served.
-use Rattle.std.proofs.Common.{◌≡◌, ◌≤◌, ◌+◌, ℕ, IsTrue, inl, inr, List, [], Ok, Err, ap, refl, sym, subst, arith}
-use Rattle.cube_run.proofs.Names.{AreValid, BreaksAt, ByEnd, CostTogether, Elapses, EndsAt, EndsForBreak, Faults, Files, HasReplied, Headline, IsNoDamage, IsPastOpening, IsUndamaged, IsUsageOrMemory, Keeps, Kept, KeepsLimit, Gave, OnlyNow}
-use Rattle.cube_run.proofs.Names.{Outcome, Place, RunsScript, Serves, Session, Sites, Sources, Starts, Stays, Status, StatusCause, Stop, StopsAt, TellsBreak, TellsNothing, WordsStop, bare, commands, faults, open_cost, status_of, words_status, Changes-refl, spends_then, moves_for, stop_of}
-use Rattle.cube_run.proofs.Costs.{costs_run, opening_more, opening_spends}
+use Rattle.std.proofs.Common.{◌≡◌, ◌≤◌, ◌+◌, ◌∷◌, ℕ, IsTrue, inl, inr, List, [], Option, IfSome, Ok, Err, ap, refl, sym, subst, arith}
+use Rattle.cube_run.proofs.Names.{AreValid, BreaksAt, ByEnd, Changes-refl, Command, Cost, CostTogether, Costs, CostsRun, Elapses, EndsAt, EndsForBreak, EndsUnpulled, EndsUntouched, Faults, Files}
+use Rattle.cube_run.proofs.Names.{Gave, Ghosts, HasReplied, Headline, IsNoDamage, IsPastOpening, IsSomeAnd, IsUndamaged, IsUsageOrMemory, Keeps, KeepsLimit, Kept, OnlyNow, Outcome, Place, RunsScript}
+use Rattle.cube_run.proofs.Names.{Serves, Session, Sites, Sources, Spends, Starts, Status, StatusCause, Stays, Stop, StopsAt, TellsBreak, TellsNothing, WordsStop, World, act, bare, both, commands}
+use Rattle.cube_run.proofs.Names.{faults, made_behind, moves_for, none_cost, one_costs, open_cost, opening_and, slice_costs, status_of, stop_of, words_status}
 use Rattle.cube_run.proofs.Moments.{histories_go_on, opened_behind, opened_moments, opening_moments, told_front}
-use Rattle.cube_run.proofs.Statuses.{at_stop, complete, if_stop, never, none_told, still_closed, stop_cause}
+use Rattle.cube_run.proofs.Statuses.{complete, never, none_told, of_stop, still_closed, stop_cause}
+use Rattle.script_lang.specs.declared.command.Command.TheVariants as says
 use Rattle.cube_state.specs.declared.stop.Stop.TheVariants as stops
 use Rattle.cube_words.specs.declared.words.WordsStop.TheVariants as words
-use Rattle.cube_run.specs.declared.exit.Status.TheVariants.{Done, Usage, Input, Disk, Memory, TooLong}
+use Rattle.cube_run.specs.declared.exit.Status.TheVariants.{Done, Usage, Input, Memory, TooLong}
+
+-- ---- what a run may spend
+
+-- each command has a cost
+command_costs : (world : World) (made : ℕ) (command : Command) → (cost : Cost) × Costs world made command cost
+command_costs world made (says.Slice text) = slice_costs world text
+command_costs world made _ = (_, refl)
+
+-- and so have all commands together
+costs_together : (world : World) (made : ℕ) (commands : List Command) → (cost : Cost) × CostTogether world made commands cost
+costs_together world made [] = (_, none_cost)
+costs_together world made (command ∷ rest) =
+    let one = command_costs world made command in
+    let others = costs_together (act world command).0 (made_behind world made command) rest in
+    (both one.0 others.0, one_costs one.0 others.0 one.1 others.1)
+
+costs_run : {S : Type 0} (T : Ghosts S) (kept : Kept) (commands : List Command) (old new : S) → ((cost : Cost) → CostTogether (bare kept) 0 commands cost → Spends T (opening_and kept cost) old new)
+    → CostsRun T kept commands old new
+costs_run T kept commands old new spends =
+    let all = costs_together (bare kept) 0 commands in
+    record { cost = all.0; together = all.1; spent = spends all.0 all.1 }
 
 -- what a site knows of each moment
 pub record Laws {B : Type 0} (T : Sites B) : Type 0 where
@@ -20,99 +43,71 @@ faults_of S T source site = faults (S.faults source) (T.disk_faults site) (T.tol
 
 -- ---- before the first pull
 
--- what ends a run then
-pub record Closes {B : Type 0} (T : Sites B) (given : List (List ℕ)) (site now : B) (status : Status) : Type 0 where
-  pub closed : IsPastOpening status → ⊥
-  pub time : IsTrue T.tells → Elapses TellsNothing Stays (T.disk site) (T.disk now)
-  pub undamaged : IsTrue T.tells → (kept : Kept) → Keeps (T.disk site).files kept → IsUndamaged status
-  pub damaged : IsTrue T.tells → EndsForBreak (T.disk site).files status
-  pub broken : IsTrue T.tells → AreValid given → (place : Place) → BreaksAt (T.disk site).files place → EndsAt place status
-  pub usage : status ≡ Usage → ¬ (AreValid given)
-  pub faulty : ¬ (AreValid given) → IsUsageOrMemory status × (now ≡ site)
-  pub reads : IsTrue T.tells → (kept : Kept) → Keeps (T.disk site).files kept → T.reads now ≤ T.reads site + open_cost kept
-  pub writes : T.writes now ≡ T.writes site
-  pub told : IsTrue T.tells → (T.disk now).told ≡ (T.disk site).told
-  pub unchanged : IsTrue T.tells → (status ≡ Disk → ⊥) → (T.disk now).files ≡ (T.disk site).files
-  pub cause : (n : ℕ) → StatusCause (faults n (T.disk_faults site) (T.told_faults site)) (faults n (T.disk_faults now) (T.told_faults now)) status
-
--- the words are not taken, or memory runs out
-module _ {B : Type 0} (T : Sites B) (given : List (List ℕ)) (site : B) where
-  untouched : (status : Status) → (IsPastOpening status → ⊥) → IsUndamaged status → ((files : Files) → EndsForBreak files status) → (AreValid given → (place : Place) → EndsAt place status)
-      → (status ≡ Usage → ¬ (AreValid given)) → IsUsageOrMemory status → ((same : Faults) → StatusCause same same status) → Closes T given site site status
-  untouched status closed undamaged damaged broken usage faulty cause = record {
-    closed = closed;
-    time = λ t. (Changes-refl Stays (T.disk site) (λ files. refl)).time;
-    undamaged = λ t kept keeps. undamaged;
-    damaged = λ t. damaged (T.disk site).files;
-    broken = λ t valid place breaks. broken valid place;
-    usage = usage;
-    faulty = λ invalid. (faulty, refl);
-    reads = λ t kept keeps. omega arith;
-    writes = refl;
-    told = λ t. refl;
-    unchanged = λ t other. refl;
-    cause = λ n. cause (faults n (T.disk_faults site) (T.told_faults site));
-  }
-
-  pub unread : (stop : WordsStop) → (stop ≡ words.Usage → ¬ (AreValid given)) → Closes T given site site (words_status stop)
-  unread words.Usage usage = untouched Usage (λ is. is) tt (λ files. tt) (λ valid place. absurd (usage refl valid)) (λ same. usage refl) tt (λ same. (refl, refl, refl))
-  unread words.Memory usage = untouched Memory (λ is. is) tt (λ files. tt) (λ valid place. tt) (λ same. absurd (never stops.Memory Usage refl same)) tt (λ same. (refl, refl, refl))
-
--- the files are not opened
-pub unopened : {B : Type 0} {T : Sites B} {cache : ℕ} {site now : B} {stop : Stop} (given : List (List ℕ)) → AreValid given → Starts T cache site now (Err stop) → Closes T given site now (status_of stop)
-unopened {B} {T} {cache} {site} {now} {stop} given valid is = record {
-  closed = still_closed stop (λ same. is.no_output (ap Err same));
-  time = λ t. (is.disk t).time;
-  undamaged = λ t kept keeps. if_stop IsNoDamage stop (is.undamaged t kept keeps);
-  damaged = λ t. if_stop (TellsBreak (T.disk site).files) stop (is.damaged t);
-  broken = λ t fine place breaks. at_stop (StopsAt place) stop (is.broken t place breaks).0;
-  usage = λ same. absurd (never stop Usage refl same);
-  faulty = λ invalid. absurd (invalid valid);
-  reads = is.cost;
-  writes = is.writes;
-  told = λ t. (is.disk t).told;
-  unchanged = λ t other. is.unchanged t (λ same. other (ap status_of same));
-  cause = λ n. stop_cause n n _ _ _ _ stop refl is.quiet.cause;
-}
-
-module _ {A B : Type 0} (S : Sources A) {T : Sites B} (laws : Laws T) (given : List (List ℕ)) (most : ℕ) (source : A) {site now : B} {status : Status} (is : Closes T given site now status) where
-  other : (end : Status) → IsPastOpening end → status ≡ end → ⊥
-  other end past same = is.closed (subst IsPastOpening (sym same) past)
-
-  closed_head : IsTrue T.tells → (kept : Kept) → Headline (bare kept) (S.left source) (S.left source) (T.disk site) (T.disk now) status
-  closed_head t kept =
-      let run = opening_moments (T.disk site) (T.disk now) (bare kept) (commands (S.left source)) (λ told files. laws.only site told files t) (is.time t) in
+module _ {A B : Type 0} (S : Sources A) (T : Sites B) (laws : Laws T) (given : List (List ℕ)) (most : ℕ) (source : A) (site now : B) where
+  closes : (status : Status) → (IsPastOpening status → ⊥) → (IsTrue T.tells → Elapses TellsNothing Stays (T.disk site) (T.disk now))
+      → (IsTrue T.tells → (kept : Kept) → Keeps (T.disk site).files kept → IsUndamaged status × (T.reads now ≤ T.reads site + open_cost kept))
+      → (IsTrue T.tells → EndsForBreak (T.disk site).files status)
+      → (IsTrue T.tells → AreValid given → (place : Place) → BreaksAt (T.disk site).files place → EndsUnpulled T (EndsAt place) status source source site now) → (status ≡ Usage → ¬ (AreValid given))
+      → (¬ (AreValid given) → EndsUntouched (IsUsageOrMemory status) source source site now) → T.writes now ≡ T.writes site → StatusCause (faults_of S T source site) (faults_of S T source now) status
+      → RunsScript S T given most source source site now status
+  closes status closed time opens damaged broken usage faulty writes cause =
+      let other : (end : Status) → IsPastOpening end → status ≡ end → ⊥ = λ end past same. closed (subst IsPastOpening (sym same) past) in
+      let head : IsTrue T.tells → (kept : Kept) → Headline (bare kept) (S.left source) (S.left source) (T.disk site) (T.disk now) status = λ t kept.
+      let run = opening_moments (T.disk site) (T.disk now) (bare kept) (commands (S.left source)) (λ told files. laws.only site told files t) (time t) in
       record {
         prefix = told_front _ _ _ _ run (laws.counts now _ _ t run.clock.later (laws.read now t));
         whole = λ same. absurd (other Done tt same);
         read = λ same. absurd (other Done tt same);
         any_stop = run;
-        opened = elim [ inl more ↦ absurd (more refl) | inr past ↦ absurd (is.closed past) ];
+        opened = elim [ inl more ↦ absurd (more refl) | inr past ↦ absurd (closed past) ];
+      } in
+      record {
+        headline = λ s t kept keeps. head t kept;
+        histories = λ s t kept keeps. histories_go_on kept _ _ _ _ _ (laws.read now t) (head t kept);
+        cost = λ s t kept keeps. costs_run T kept _ site now (λ cost costs. record { reads = omega (arith, (opens t kept keeps).1); writes = omega (arith, writes) });
+        undamaged = λ t kept keeps. (opens t kept keeps).0;
+        complete = λ s t kept keeps valid short. complete status (faults_of S T source site) (faults_of S T source now) (opens t kept keeps).0 cause (λ same. usage same valid) (other TooLong tt);
+        short = λ s t kept keeps. record { left_off = λ same. absurd (other TooLong tt same); cut_off = λ same. absurd (other Input tt same) };
+        broken = broken;
+        damaged = λ s t none. damaged t;
+        replied = λ s t same. absurd (other Done tt same);
+        usage = usage;
+        faulty = faulty;
+        read = λ s same. absurd (other Done tt same);
+        limit = λ s. record { too_long = (λ same. absurd (other TooLong tt same), λ gave. absurd (omega (arith, gave))); bounded = omega arith };
+        asked = omega arith;
+        cause = cause;
       }
 
-  pub closes : RunsScript S T given most source source site now status
-  closes = record {
-    headline = λ s t kept keeps. closed_head t kept;
-    histories = λ s t kept keeps. histories_go_on kept _ _ _ _ _ (laws.read now t) (closed_head t kept);
-    cost = λ s t kept keeps. costs_run T kept _ site now (λ cost costs. opening_more T site now kept cost (opening_spends T site now kept (is.reads t kept keeps) is.writes));
-    undamaged = is.undamaged;
-    complete = λ s t kept keeps valid short. complete status (faults_of S T source site) (faults_of S T source now) (is.undamaged t kept keeps) (is.cause _) (λ same. is.usage same valid) (other TooLong tt);
-    short = λ s t kept keeps. record { left_off = λ same. absurd (other TooLong tt same); cut_off = λ same. absurd (other Input tt same) };
-    broken = λ t valid place breaks. record { end = is.broken t valid place breaks; unpulled = refl; untold = is.told t; unwritten = is.writes; unchanged = is.unchanged t };
-    damaged = λ s t none. is.damaged t;
-    replied = λ s t same. absurd (other Done tt same);
-    usage = is.usage;
-    faulty = λ invalid. record { end = (is.faulty invalid).0; unread = refl; untouched = (is.faulty invalid).1 };
-    read = λ s same. absurd (other Done tt same);
-    limit = λ s. record { too_long = (λ same. absurd (other TooLong tt same), λ gave. absurd (omega (arith, gave))); bounded = omega arith };
-    asked = omega arith;
-    cause = is.cause _;
-  }
+-- the words are not taken, or memory runs out
+module _ {A B : Type 0} (S : Sources A) (T : Sites B) (laws : Laws T) (given : List (List ℕ)) (most : ℕ) (source : A) (site : B) where
+  pub unread : (stop : WordsStop) → (stop ≡ words.Usage → ¬ (AreValid given)) → RunsScript S T given most source source site site (words_status stop)
+  unread words.Usage usage =
+      closes S T laws given most source site site Usage (λ is. is) (λ t. (Changes-refl Stays (T.disk site) (λ files. refl)).time) (λ t kept keeps. (tt, omega arith)) (λ t. tt)
+      (λ t valid. absurd (usage refl valid)) (λ same. usage refl) (λ invalid. record { end = tt; unread = refl; untouched = refl }) refl (refl, refl, refl)
+  unread words.Memory usage =
+      closes S T laws given most source site site Memory (λ is. is) (λ t. (Changes-refl Stays (T.disk site) (λ files. refl)).time) (λ t kept keeps. (tt, omega arith)) (λ t. tt)
+      (λ t valid place breaks. record { end = tt; unpulled = refl; untold = refl; unwritten = refl; unchanged = λ other. refl }) (λ same. absurd (never stops.Memory Usage refl same))
+      (λ invalid. record { end = tt; unread = refl; untouched = refl }) refl (refl, refl, refl)
+
+-- the files are not opened
+pub unopened : {A B : Type 0} (S : Sources A) {T : Sites B} (laws : Laws T) (given : List (List ℕ)) (most : ℕ) (source : A) → AreValid given → {cache : ℕ} {site now : B} {stop : Stop}
+    → Starts T cache site now (Err stop) → RunsScript S T given most source source site now (status_of stop)
+unopened S {T} laws given most source valid {cache} {site} {now} {stop} is =
+    closes S T laws given most source site now (status_of stop) (still_closed stop (λ same. is.no_output (ap Err same))) (λ t. (is.disk t).time)
+    (λ t kept keeps. (of_stop (λ (o : Option Stop). IfSome o IsNoDamage) stop (is.undamaged t kept keeps), is.cost t kept keeps))
+    (λ t. of_stop (λ (o : Option Stop). IfSome o (TellsBreak (T.disk site).files)) stop (is.damaged t)) (λ t fine place breaks. record {
+      end = of_stop (λ (o : Option Stop). IsSomeAnd o (StopsAt place)) stop (is.broken t place breaks).0;
+      unpulled = refl;
+      untold = (is.disk t).told;
+      unwritten = is.writes;
+      unchanged = λ other. is.unchanged t (λ same. other (ap status_of same));
+    }) (λ same. absurd (never stop Usage refl same)) (λ invalid. absurd (invalid valid)) is.writes (stop_cause _ _ _ _ _ _ stop refl is.quiet.cause)
 
 -- ---- the script is served
 
-module _ {A B : Type 0} {S : Sources A} {T : Sites B} (laws : Laws T) (given : List (List ℕ)) (valid : AreValid given) {most cache : ℕ} {source next : A} {site mid now : B} {session : Session} {status : Status}
-    (is : Starts T cache site mid (Ok session)) (serves : Serves S T session.state most source next mid now status) where
+module _ {A B : Type 0} {S : Sources A} {T : Sites B} (laws : Laws T) (given : List (List ℕ)) (valid : AreValid given) {most cache : ℕ} {source next : A} {site mid now : B}
+    {session : Session} {status : Status} (is : Starts T cache site mid (Ok session)) (serves : Serves S T session.state most source next mid now status) where
   -- which commands were carried out at such an end
   outcome : IsTrue S.tells → IsTrue T.tells → (kept : Kept) → Keeps (T.disk site).files kept → (end : Status) → status ≡ end
       → Outcome (T.disk now) (bare kept) 0 (S.left source) (S.left next) most (T.disk site).told end
@@ -122,22 +117,21 @@ module _ {A B : Type 0} {S : Sources A} {T : Sites B} (laws : Laws T) (given : L
       (subst (Outcome (T.disk now) (bare kept) (moves_for session.state) (S.left source) (S.left next) most (T.disk mid).told) same (serves.outcome s t (bare kept) (is.opened t kept keeps))))
 
   done : IsTrue S.tells → status ≡ Done → (S.left next ≡ []) × (IsTrue T.tells → HasReplied (commands (S.left source)) (T.disk mid).told (T.disk now).told)
-  done s same = subst (ByEnd _ (Unit {0}) (Unit {0})) same (serves.done s)
+  done s same = subst (ByEnd _ _ (Unit {0})) same serves.pulled s
 
   no_usage : status ≡ Usage → ⊥
-  no_usage same = subst (ByEnd (Unit {0}) _ (Unit {0})) same serves.past
+  no_usage same = subst (ByEnd _ _ (Unit {0})) same serves.pulled
 
   limited : IsTrue S.tells → KeepsLimit (λ end. status ≡ end) most (S.left source) (S.left next)
   limited s =
-      let past : status ≡ TooLong → Gave (S.left source) (S.left next) (most + 1) = λ same. subst (ByEnd (Unit {0}) _ (Unit {0})) same serves.past s in
+      let past : status ≡ TooLong → Gave (S.left source) (S.left next) (most + 1) = λ same. subst (ByEnd _ _ (Unit {0})) same serves.pulled s in
       record {
         too_long = (past, λ gave. elim (serves.few s) [ inl few ↦ absurd (omega (arith, gave, few)) | inr same ↦ same ]);
         bounded = elim (serves.few s) [ inl few ↦ omega (arith, few) | inr same ↦ omega (arith, past same) ];
       }
 
   caused : StatusCause (faults_of S T source site) (faults_of S T next now) status
-  caused = subst (λ (n : ℕ). StatusCause (faults (S.faults source) n (T.told_faults site)) (faults_of S T next now) status) is.quiet.disk_faults
-      (subst (λ (n : ℕ). StatusCause (faults (S.faults source) (T.disk_faults mid) n) (faults_of S T next now) status) is.quiet.told_faults serves.cause)
+  caused = rw (← is.quiet.disk_faults, ← is.quiet.told_faults) serves.cause
 
   run_head : IsTrue S.tells → IsTrue T.tells → (kept : Kept) → Keeps (T.disk site).files kept → Headline (bare kept) (S.left source) (S.left next) (T.disk site) (T.disk now) status
   run_head s t kept keeps =
@@ -157,8 +151,9 @@ module _ {A B : Type 0} {S : Sources A} {T : Sites B} (laws : Laws T) (given : L
   runs = record {
     headline = run_head;
     histories = λ s t kept keeps. histories_go_on kept _ _ _ _ _ (laws.read now t) (run_head s t kept keeps);
-    cost = λ s t kept keeps. costs_run T kept _ site now (λ cost costs. spends_then T _ cost site mid now (opening_spends T site mid kept (is.cost t kept keeps) is.writes)
-        ((serves.within s t (bare kept) (is.opened t kept keeps)).cost cost (subst (λ (m : ℕ). CostTogether (bare kept) m (commands (S.left source)) cost) (sym is.moved) costs)));
+    cost = λ s t kept keeps. costs_run T kept _ site now (λ cost costs.
+        let spent = (serves.within s t (bare kept) (is.opened t kept keeps)).cost cost (subst (λ (m : ℕ). CostTogether (bare kept) m (commands (S.left source)) cost) (sym is.moved) costs) in
+        record { reads = omega (arith, is.cost t kept keeps, spent.reads); writes = omega (arith, is.writes, spent.writes) });
     undamaged = λ t kept keeps. serves.undamaged t (bare kept) (is.opened t kept keeps);
     complete = λ s t kept keeps fine short. complete status (faults_of S T source site) (faults_of S T next now) (serves.undamaged t (bare kept) (is.opened t kept keeps)) caused no_usage
         (λ same. absurd (omega (arith, short, (limited s).too_long.0 same)));

@@ -1,11 +1,13 @@
 -- How a session serves a script: what holds while pieces come, and each way in which it ends.
-use Rattle.std.proofs.Common.{◌≡◌, ◌≤◌, ◌<◌, ◌+◌, ◌∙◌, ◌++◌, ℕ, IsTrue, true, false, inl, inr, List, [], ◌∷◌, length, take, Option, Result, Ok, Err, IsErrAnd, ap, refl, sym, subst, append-nil, append_assoc, length-append, length-take, arith}
+use Rattle.std.proofs.Common.{◌≡◌, ◌≤◌, ◌<◌, ◌+◌, ◌∙◌, ◌++◌, ℕ, IsTrue, true, false, inl, inr, List, [], ◌∷◌, length, take, Option, IfSome, Ok, Err, ap, refl, sym, subst, append-nil, append_assoc}
+use Rattle.std.proofs.Common.{length-append, length-take, arith}
 use Rattle.std.proofs.Math.Seq.{take-append_seam}
-use Rattle.cube_run.proofs.Names.{Cache, CarriesOn, Command, Finished, Gave, HasGone, HasReplied, IsNoDamage, IsWithin, OnlyNow, PullsInto, Reading, Reads, RoseOnce, Runs, Serves, Sites, Sources, StandsFor, State, Status, Stop}
-use Rattle.cube_run.proofs.Names.{World, commands, ended, feeding_ended, fed, fed_whole, moves_for, none_to_come, none_whole, nothing_read, ready, status_of, to_come, whole, with_more}
-use Rattle.cube_run.proofs.Carrying.{reads_then}
-use Rattle.cube_run.proofs.Going.{gone_none, gone_then, last_none, not_none, onward_done, stopped_out, stopped_then}
-use Rattle.cube_run.proofs.Statuses.{by_stop, if_stop, stop_cause}
+use Rattle.cube_run.proofs.Names.{Cache, CarriesOn, Command, Finished, Gave, GaveAtMost, HasGone, HasReplied, HasStopped, IsNoDamage, IsWithin, OnlyNow, PullsInto, Reading, Reads, RoseOnce, Runs}
+use Rattle.cube_run.proofs.Names.{Serves, Sites, Sources, StandsFor, State, Status, Stop, World, commands, fed, fed_whole, feeding_ended, moves_for, none_to_come, none_whole, nothing_read, ready}
+use Rattle.cube_run.proofs.Names.{status_of, to_come, whole, with_more}
+use Rattle.cube_run.proofs.Going.{gone_none, gone_then, onward_done, reads_then, stopped_out, stopped_then}
+use Rattle.cube_run.proofs.Statuses.{by_stop, of_stop, stop_cause}
+use Rattle.cube_state.specs.declared.stop.Stop.TheVariants as stops
 use Rattle.cube_run.specs.declared.exit.Status.TheVariants.{Done, Memory, TooLong}
 
 -- some bytes were taken, and their commands carried out: with those that are left in the source the others are still to come
@@ -19,48 +21,34 @@ pub record HasServed {A B : Type 0} (S : Sources A) (T : Sites B) (had has : Opt
   pub count : length seen ≡ taken
   pub few : taken ≤ most
   pub script : IsTrue S.tells → S.left source ≡ seen ++ S.left source_now
-  pub ends : S.ends source_now ≡ S.ends source
-  pub faults : S.faults source_now ≡ S.faults source
-
--- an end that is handed on
-pub as_end : (P : Status → Type 0) (r : Result (Unit {0}) Status) (x : Status) → IsErrAnd r (λ e. e ≡ x) → P x → P (ended r)
-as_end P (Ok y) x from is = absurd from
-as_end P (Err e) x from is = subst P (sym from) is
+  pub quiet : (S.ends source_now ≡ S.ends source) × (S.faults source_now ≡ S.faults source)
 
 -- what feeding a piece leaves to come
 pub piece_reads : (lines buffered fed_lines : Reading) (piece : List ℕ) → lines.over ≡ false → buffered ≡ lines → fed_lines ≡ with_more buffered piece → Reads [] piece lines fed_lines
 piece_reads lines buffered fed_lines piece going same is =
-    let more_of : fed_lines ≡ with_more lines piece = is ∙ ap (λ (r : Reading). with_more r piece) same in
-    record {
-      all = λ more. fed lines fed_lines piece more going more_of;
-      whole = λ same more. fed_whole lines fed_lines piece more more_of;
-      over = ap (λ (r : Reading). r.over) more_of;
-    }
+    rw (is, same) (record { all = λ more. fed lines _ piece more going refl; whole = λ same more. fed_whole lines _ piece more refl; over = refl })
 
 -- nothing comes of a script without a byte
-none_of : (script : List ℕ) (given rest : List Command) → commands script ≡ given ++ rest → length script ≡ 0 → given ≡ []
-none_of [] [] rest is none = refl
-none_of [] (c ∷ cs) rest is none = absurd (not_none c (cs ++ rest) (sym is))
+none_of : (script : List ℕ) (given rest : List Command) → commands script ≡ given ++ rest → length script ≡ 0 → length given ≡ 0
+none_of [] given rest is none = omega (arith, ap length is, length-append given rest)
 none_of (b ∷ bs) given rest is none = absurd (omega (arith, none))
 
 module _ {A B : Type 0} (S : Sources A) (T : Sites B) where
   -- before the first pull
   pub served_none : (had : Option State) (cache : Cache) (lines : Reading) (most : ℕ) (source : A) (site : B) → (IsTrue T.tells → OnlyNow (T.disk site))
       → Runs T site had cache → lines ≡ nothing_read → HasServed S T had had cache lines 0 most source source site site
-  served_none had cache lines most source site only runs is =
-      subst (λ (r : Reading). HasServed S T had had cache r 0 most source source site site) (sym is) (record {
-        given = [];
-        seen = [];
-        gone = gone_none T site had cache only runs;
-        reads = record { all = λ more. refl; whole = λ going more. refl; over = refl };
-        rest = refl;
-        none = refl;
-        count = refl;
-        few = omega arith;
-        script = λ s. refl;
-        ends = refl;
-        faults = refl;
-      })
+  served_none had cache lines most source site only runs is = rw is (record {
+    given = [];
+    seen = [];
+    gone = gone_none T site had cache only runs;
+    reads = record { all = λ more. refl; whole = λ going more. refl; over = refl };
+    rest = refl;
+    none = refl;
+    count = refl;
+    few = omega arith;
+    script = λ s. refl;
+    quiet = (refl, refl);
+  })
 
 module _ {A B : Type 0} {S : Sources A} {T : Sites B} {had has : Option State} {cache : Cache} {lines : Reading} {taken most : ℕ} {source mid : A} {site now : B}
     (so_far : HasServed S T had has cache lines taken most source mid site now) where
@@ -73,23 +61,29 @@ module _ {A B : Type 0} {S : Sources A} {T : Sites B} {had has : Option State} {
   -- the commands that were whole are carried out
   whole_done : IsTrue T.tells → (world : World) → StandsFor had (T.disk site) world → Finished (T.disk now) world (moves_for had) (whole so_far.seen) (T.disk site).told
   whole_done t world stands =
-      subst (λ (l : List Command). Finished (T.disk now) world (moves_for had) l (T.disk site).told)
-      (sym (ap whole (sym (append-nil so_far.seen)) ∙ so_far.reads.whole refl [] ∙ ap (λ (l : List Command). so_far.given ++ l) (none_whole lines so_far.reads.over so_far.none)))
+      rw (ap whole (sym (append-nil so_far.seen)) ∙ so_far.reads.whole refl [] ∙ ap (λ (l : List Command). so_far.given ++ l) (none_whole lines so_far.reads.over so_far.none))
       (onward_done T had has world _ site now (so_far.gone.onward t world stands []))
 
-  -- memory runs out before the pull
-  pub served_out : Serves S T had most source mid site now Memory
-  served_out = record {
-    within = within_is;
-    outcome = λ s t world stands. tt;
-    undamaged = λ t world stands. tt;
-    unpulled = λ s none. tt;
-    few = λ s. inl (omega (arith, so_far.count, so_far.few, ap length (so_far.script s), length-append so_far.seen (S.left mid)));
-    past = tt;
-    done = λ s. tt;
-    asked = omega (arith, so_far.ends);
-    cause = (so_far.faults, so_far.gone.disk_faults, so_far.gone.told_faults);
+  -- a stop, which is want of memory where it comes before the pull
+  by_a_stop : (stop : Stop) (next : A) (new : B) (tried rest : List Command) → HasStopped T had tried site new stop → (IsTrue S.tells → commands (S.left source) ≡ tried ++ rest)
+      → (IsTrue S.tells → Gave (S.left source) (S.left next) 0 → IsNoDamage stop) → (IsTrue S.tells → GaveAtMost (S.left source) (S.left next) most) → S.ends next ≤ S.ends source + 1
+      → S.faults next ≡ S.faults source → Serves S T had most source next site new (status_of stop)
+  by_a_stop stop next new tried rest is all unpulled few asked faults = record {
+    within = λ s t world stands. subst (λ (l : List Command). IsWithin T had world l site new) (sym (all s)) (is.within t world stands rest);
+    outcome = λ s t world stands. by_stop _ _ _ stop;
+    undamaged = λ t world stands. of_stop (λ (o : Option Stop). IfSome o IsNoDamage) stop (is.undamaged t world stands);
+    unpulled = λ s gave. of_stop (λ (o : Option Stop). IfSome o IsNoDamage) stop (unpulled s gave);
+    few = λ s. inl (few s);
+    pulled = by_stop _ _ _ stop;
+    asked = asked;
+    cause = stop_cause _ _ _ _ _ _ stop faults is.cause;
   }
+
+  few_so_far : IsTrue S.tells → GaveAtMost (S.left source) (S.left mid) most
+  few_so_far s = omega (arith, so_far.count, so_far.few, ap length (so_far.script s), length-append so_far.seen (S.left mid))
+
+  pub served_out : Serves S T had most source mid site now Memory
+  served_out = by_a_stop stops.Memory mid now so_far.given _ (stopped_out so_far.gone) all_is (λ s gave. tt) few_so_far (omega (arith, so_far.quiet.0)) so_far.quiet.1
 
   -- the pull fails
   pub served_fault : {next : A} {buffer into : List ℕ} {status : Status} → PullsInto S mid next buffer into (Err status) → Serves S T had most source next site now status
@@ -98,11 +92,10 @@ module _ {A B : Type 0} {S : Sources A} {T : Sites B} {had has : Option State} {
     outcome = λ s t world stands. record { given = so_far.seen; cut = so_far.script s ∙ ap (λ (l : List ℕ). so_far.seen ++ l) (sym (pulled.failed s)); finished = whole_done t world stands };
     undamaged = λ t world stands. tt;
     unpulled = λ s none. tt;
-    few = λ s. inl (omega (arith, so_far.count, so_far.few, ap length (so_far.script s), ap length (pulled.failed s), length-append so_far.seen (S.left mid)));
-    past = tt;
-    done = λ s. tt;
-    asked = omega (arith, so_far.ends, pulled.end.failed);
-    cause = (subst (λ (n : ℕ). RoseOnce n (S.faults next)) so_far.faults (pulled.cause.failed, pulled.cause.once), so_far.gone.disk_faults, so_far.gone.told_faults);
+    few = λ s. inl (omega (arith, few_so_far s, ap length (pulled.failed s)));
+    pulled = tt;
+    asked = omega (arith, so_far.quiet.0, pulled.end.failed);
+    cause = (subst (λ (n : ℕ). RoseOnce n (S.faults next)) so_far.quiet.1 (pulled.cause.failed, pulled.cause.once), so_far.gone.quiet.0, so_far.gone.quiet.1);
   })
 
   -- ---- bytes that were pulled
@@ -120,10 +113,11 @@ module _ {A B : Type 0} {S : Sources A} {T : Sites B} {had has : Option State} {
     given_now : IsTrue S.tells → length (S.left source) ≡ taken + count + length (S.left next)
     given_now s = omega (arith, count_now, ap length (script_now s), length-append seen_now (S.left next))
 
+    none_left : count ≡ 0 → IsTrue S.tells → S.left next ≡ []
+    none_left none s = ap (λ (n : ℕ). take n into ++ S.left next) (sym none) ∙ sym (pulled.bytes s).bytes ∙ (pulled.bytes s).end none
+
     none_given : IsTrue S.tells → Gave (S.left source) (S.left next) 0 → length (S.left source) ≡ 0
-    none_given s gave =
-        let none : count ≡ 0 = omega (arith, gave, given_now s) in
-        omega (arith, gave, given_now s, so_far.count, ap length (so_far.script s), length-append so_far.seen (S.left mid), ap length ((pulled.bytes s).end none))
+    none_given s gave = omega (arith, gave, given_now s, ap length (none_left (omega (arith, gave, given_now s)) s))
 
     -- they pass the limit
     pub served_past : most < taken + count → taken + length into ≤ most + 1 → length into ≤ 65536 → 0 < count → Serves S T had most source next site now TooLong
@@ -139,19 +133,15 @@ module _ {A B : Type 0} {S : Sources A} {T : Sites B} {had has : Option State} {
       undamaged = λ t world stands. tt;
       unpulled = λ s none. tt;
       few = λ s. inr refl;
-      past = λ s. omega (arith, given_now s, past, pulled.bound, room);
-      done = λ s. tt;
-      asked = omega (arith, so_far.ends, pulled.end.some some);
-      cause = (pulled.cause.ok ∙ so_far.faults, so_far.gone.disk_faults, so_far.gone.told_faults);
+      pulled = λ s. omega (arith, given_now s, past, pulled.bound, room);
+      asked = omega (arith, so_far.quiet.0, pulled.end.some some);
+      cause = (pulled.cause.ok ∙ so_far.quiet.1, so_far.gone.quiet.0, so_far.gone.quiet.1);
     }
 
     -- ---- they are a piece, or the script is at its end
 
     pub come_piece : (fed_lines : Reading) → Reads [] (take count into) lines fed_lines → IsTrue S.tells → to_come lines (S.left mid) ≡ to_come fed_lines (S.left next)
     come_piece fed_lines reads s = ap (to_come lines) (pulled.bytes s).bytes ∙ reads.all (S.left next)
-
-    none_left : count ≡ 0 → IsTrue S.tells → S.left next ≡ []
-    none_left none s = last_none (take count into) (S.left next) (sym (pulled.bytes s).bytes ∙ (pulled.bytes s).end none)
 
     pub come_end : (buffered fed_lines : Reading) → buffered ≡ lines → fed_lines ≡ record { over = true; place = buffered.place; rest = buffered.rest } → count ≡ 0
         → IsTrue S.tells → to_come lines (S.left mid) ≡ to_come fed_lines (S.left next)
@@ -160,8 +150,7 @@ module _ {A B : Type 0} {S : Sources A} {T : Sites B} {had has : Option State} {
 
     all_now : (fed_lines after : Reading) (given : List Command) → (IsTrue S.tells → to_come lines (S.left mid) ≡ to_come fed_lines (S.left next)) → Reads given [] fed_lines after → IsTrue S.tells
         → commands (S.left source) ≡ (so_far.given ++ given) ++ to_come after (S.left next)
-    all_now fed_lines after given come reads s =
-        all_is s ∙ ap (λ (l : List Command). so_far.given ++ l) (come s ∙ reads.all (S.left next)) ∙ sym (append_assoc so_far.given given _)
+    all_now fed_lines after given come reads s = all_is s ∙ ap (λ (l : List Command). so_far.given ++ l) (come s ∙ reads.all (S.left next)) ∙ sym (append_assoc so_far.given given _)
 
     module _ {fed_lines after : Reading} {then : Option State} {new : B} {cache_now : Cache}
         (come : IsTrue S.tells → to_come lines (S.left mid) ≡ to_come fed_lines (S.left next)) where
@@ -169,18 +158,9 @@ module _ {A B : Type 0} {S : Sources A} {T : Sites B} {had has : Option State} {
       pub served_stop : {stop : Stop} → CarriesOn T has then fed_lines after now new cache_now (Err stop) → taken + count ≤ most → Serves S T had most source next site new (status_of stop)
       served_stop {stop} is few =
           let stopped = stopped_then so_far.gone is.stopped in
-          record {
-            within = λ s t world stands.
-                subst (λ (l : List Command). IsWithin T had world l site new) (sym (all_now fed_lines after is.given come is.reads s)) (stopped.within t world stands _);
-            outcome = λ s t world stands. by_stop _ _ _ stop;
-            undamaged = λ t world stands. if_stop IsNoDamage stop (stopped.undamaged t world stands);
-            unpulled = λ s gave. if_stop IsNoDamage stop (stopped.unbegun (none_of _ _ _ (all_now fed_lines after is.given come is.reads s) (none_given s gave)));
-            few = λ s. inl (omega (arith, given_now s, few));
-            past = by_stop _ _ _ stop;
-            done = λ s. by_stop _ _ _ stop;
-            asked = omega (arith, so_far.ends, pulled.end.once);
-            cause = stop_cause _ _ _ _ _ _ stop (pulled.cause.ok ∙ so_far.faults) stopped.cause;
-          }
+          let all = all_now fed_lines after is.given come is.reads in
+          by_a_stop stop next new _ _ stopped all (λ s gave. stopped.unbegun (none_of _ _ _ (all s) (none_given s gave))) (λ s. omega (arith, given_now s, few))
+          (omega (arith, so_far.quiet.0, pulled.end.once)) (pulled.cause.ok ∙ so_far.quiet.1)
 
       -- the commands that were left are carried out
       pub served_end : {x : Unit {0}} → CarriesOn T has then fed_lines after now new cache_now (Ok x) → fed_lines.over ≡ true → count ≡ 0 → Serves S T had most source next site new Done
@@ -190,15 +170,13 @@ module _ {A B : Type 0} {S : Sources A} {T : Sites B} {had has : Option State} {
           ∙ ap (λ (l : List Command). (so_far.given ++ is.given) ++ l) (ap (to_come after) (none_left none s) ∙ none_to_come after (is.reads.over ∙ over) is.none.0) in
           record {
             within = λ s t world stands. subst (λ (l : List Command). IsWithin T had world l site new) (sym (last s)) ((stopped_out gone).within t world stands []);
-            outcome = λ s t world stands. subst (λ (l : List Command). Finished (T.disk new) world (moves_for had) l (T.disk site).told) (sym (last s))
-                (onward_done T had then world _ site new (gone.onward t world stands []));
+            outcome = λ s t world stands. rw (last s) (onward_done T had then world _ site new (gone.onward t world stands []));
             undamaged = λ t world stands. tt;
             unpulled = λ s gave. tt;
             few = λ s. inl (omega (arith, given_now s, so_far.few, none));
-            past = tt;
-            done = λ s. (none_left none s, λ t. subst (λ (l : List Command). HasReplied l (T.disk site).told (T.disk new).told) (sym (last s ∙ append-nil _)) (gone.replied t));
-            asked = omega (arith, so_far.ends, pulled.end.once);
-            cause = (pulled.cause.ok ∙ so_far.faults, gone.disk_faults, gone.told_faults);
+            pulled = λ s. (none_left none s, λ t. subst (λ (l : List Command). HasReplied l (T.disk site).told (T.disk new).told) (sym (last s ∙ append-nil _)) (gone.replied t));
+            asked = omega (arith, so_far.quiet.0, pulled.end.once);
+            cause = (pulled.cause.ok ∙ so_far.quiet.1, gone.quiet.0, gone.quiet.1);
           }
 
     -- the commands of a piece are carried out
@@ -214,6 +192,5 @@ module _ {A B : Type 0} {S : Sources A} {T : Sites B} {had has : Option State} {
       count = count_now;
       few = few;
       script = script_now;
-      ends = pulled.end.some some ∙ so_far.ends;
-      faults = pulled.cause.ok ∙ so_far.faults;
+      quiet = (pulled.end.some some ∙ so_far.quiet.0, pulled.cause.ok ∙ so_far.quiet.1);
     }

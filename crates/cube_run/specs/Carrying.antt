@@ -1,5 +1,5 @@
 -- How the commands of a script are carried out, while its bytes are fed.
-use Rattle.std.specs.Prelude.{◌≡◌, IsTrue, false, List, [], ◌++◌, ℕ, Option, Result, IfErr, OnOk}
+use Rattle.std.specs.Prelude.{◌≡◌, IsTrue, false, List, [], ◌++◌, length, ℕ, Option, Result, IfErr, OnOk}
 use Rattle.site_core.specs.declared.site.Site.{Ghosts}
 use Rattle.page_cache.specs.Giving.{Cache}
 use Rattle.script_lang.specs.Reading.{Reading, ready, to_come, whole_with}
@@ -23,15 +23,14 @@ pub record HasGone {S : Type 0} (T : Ghosts S) (had has : Option State) (command
   pub onward : IsTrue T.tells → (world : World) → StandsFor had (T.disk old) world → (rest : List Command) → Onward T had has world (commands ++ rest) rest old new
   pub replied : IsTrue T.tells → HasReplied commands (T.disk old).told (T.disk new).told
   pub runs : Runs T new has cache
-  pub disk_faults : T.disk_faults new ≡ T.disk_faults old
-  pub told_faults : T.told_faults new ≡ T.told_faults old
+  pub quiet : (T.disk_faults new ≡ T.disk_faults old) × (T.told_faults new ≡ T.told_faults old)
 
 -- a stop ended it in the last of these commands, or behind it
 pub record HasStopped {S : Type 0} (T : Ghosts S) (had : Option State) (commands : List Command) (old new : S) (stop : Stop) : Type 0 where
   pub within : IsTrue T.tells → (world : World) → StandsFor had (T.disk old) world → (rest : List Command) → IsWithin T had world (commands ++ rest) old new
   pub undamaged : IsTrue T.tells → (world : World) → StandsFor had (T.disk old) world → IsNoDamage stop
   -- damage is told by a command alone
-  pub unbegun : commands ≡ [] → IsNoDamage stop
+  pub unbegun : length commands ≡ 0 → IsNoDamage stop
   pub cause : StopCause (T.disk_faults old) (T.disk_faults new) (T.told_faults old) (T.told_faults new) stop
 
 -- the commands that were whole are carried out, and the script is read up to here, or a stop came before

@@ -36,7 +36,7 @@ pub record Serves {A B : Type 0} (S : Sources A) (T : Sites B) (had : Option Sta
   pub undamaged : IsTrue T.tells → (world : World) → StandsFor had (T.disk site) world → IsUndamaged status
   pub unpulled : IsTrue S.tells → Gave (S.left source) (S.left source_now) 0 → IsUndamaged status
   pub few : IsTrue S.tells → GaveAtMost (S.left source) (S.left source_now) most ⊎ (status ≡ TooLong)
-  pub past : ByEnd (Unit {0}) (IsTrue S.tells → Gave (S.left source) (S.left source_now) (most + 1)) (Unit {0}) status
-  pub done : IsTrue S.tells → ByEnd ((S.left source_now ≡ []) × (IsTrue T.tells → HasReplied (commands (S.left source)) (T.disk site).told (T.disk site_now).told)) (Unit {0}) (Unit {0}) status
+  pub pulled : ByEnd (IsTrue S.tells → (S.left source_now ≡ []) × (IsTrue T.tells → HasReplied (commands (S.left source)) (T.disk site).told (T.disk site_now).told))
+      (IsTrue S.tells → Gave (S.left source) (S.left source_now) (most + 1)) (Unit {0}) status
   pub asked : S.ends source_now ≤ S.ends source + 1
   pub cause : StatusCause (faults (S.faults source) (T.disk_faults site) (T.told_faults site)) (faults (S.faults source_now) (T.disk_faults site_now) (T.told_faults site_now)) status

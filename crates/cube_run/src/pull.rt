@@ -29,7 +29,7 @@ pub fn room(alloc: Global, mut buffer: Vec<u8>, most: usize) -> Result<Vec<u8>, 
 pub fn pull<S: Source>(source: &mut S, into: &mut Vec<u8>) -> Result<usize, Status>
     requires some { 0 < vec_len into.old }
     requires few { vec_len into.old ≤ 65536 }
-    ensures pulls { PullsInto S.Source source.old source.new into.old.items into.new.items result }
+    ensures { PullsInto S.Source source.old source.new into.old.items into.new.items result }
 {
     match source.pull(into.as_mut_slice()) {
         Ok(count) => Ok(count),

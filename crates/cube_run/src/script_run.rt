@@ -23,12 +23,5 @@ pub fn attempt<S: Source, T: Site>(
 {
     let cache = cache_of(alloc, words)?;
     let mut session = Session::start(alloc, site, cache)?;
-    let served = serve(alloc, &mut session, source, site, limit);
-    close(session);
-    served
-}
-
-/// Lets a session go.
-fn close(session: Session) {
-    drop(session)
+    serve(alloc, &mut session, source, site, limit)
 }

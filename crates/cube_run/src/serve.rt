@@ -24,7 +24,7 @@ pub fn serve<S: Source, T: Site>(
 ) -> Result<(), Status>
     requires limit { limit ≤ 2 ^ 30 }
     requires runs { Runs T.Site site.old session.old.state session.old.pages }
-    ensures serves { Serves S.Source T.Site session.old.state limit source.old source.new site.old site.new (ended result) }
+    ensures { Serves S.Source T.Site session.old.state limit source.old source.new site.old site.new (ended result) }
 {
     let mut lines = Lines::new(alloc);
     let mut taken = 0;

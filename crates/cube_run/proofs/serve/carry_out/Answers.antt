@@ -1,6 +1,5 @@
 use Rattle.std.proofs.Common.{Some, None, sym}
-use Rattle.cube_run.proofs.Names.{CarriesOn}
-use Rattle.cube_run.proofs.Carrying.{as_stop, carried_done, carried_more, carried_none, carried_out, carried_stop, found_reads}
+use Rattle.cube_run.proofs.Going.{carried_done, carried_more, carried_none, carried_out, carried_stop, found_reads, handed}
 use Rattle.cube_run.proofs.serve.carry_out.Goals as goal
 
 pub loop-command-init : goal.loop-command-init
@@ -13,16 +12,13 @@ loop-command-preserved g c =
 
 pub returns-in_err-command-2 : goal.returns-in_err-command-2
 returns-in_err-command-2 g c =
-    as_stop (CarriesOn g.T.Site _ _ _ _ _ _ _) _ _ c.from_residual-in_err-command-2.ensures.1 (carried_stop c.loop-command.invariant _ _
+    rw (handed _ _ c.from_residual-in_err-command-2.ensures.1) (carried_stop c.loop-command.invariant _ _
     (found_reads _ _ _ c.in_ok-command.ensures.given c.in_ok-command.ensures.whole c.next_command.ensures.over (Some c.in-Some.command) c.in-Some.is) _ _ _ _ c.in_err-command-2.ensures.answers)
 
 pub returns-in_err-command : goal.returns-in_err-command
 returns-in_err-command g c =
-    as_stop (CarriesOn g.T.Site _ _ _ _ _ _ _) _ _ c.from_residual.ensures.1 (carried_out c.loop-command.invariant _ (record {
-      all = λ more. sym (c.in_err-command.ensures.kept more);
-      whole = λ going more. sym (c.in_err-command.ensures.kept_whole more);
-      over = c.next_command.ensures.over;
-    }))
+    rw (handed _ _ c.from_residual.ensures.1) (carried_out c.loop-command.invariant _
+    (record { all = λ more. sym (c.in_err-command.ensures.kept more); whole = λ going more. sym (c.in_err-command.ensures.kept_whole more); over = c.next_command.ensures.over }))
 
 pub returns : goal.returns
 returns g c =

@@ -1,6 +1,6 @@
 use Rattle.std.proofs.Common.{length}
 use Rattle.cube_run.proofs.Names.{ready}
-use Rattle.cube_run.proofs.Carrying.{HasCarried}
+use Rattle.cube_run.proofs.Going.{HasCarried}
 use Rattle.cube_run.proofs.serve.carry_out.Given as goal
 
 abbrev pub invariant-loop-command : goal.invariant-loop-command
