@@ -1,10 +1,10 @@
 -- Calls one after another, and what they leave of the files.
 use Rattle.cube_state.specs.declared.stop.Stop.TheVariants as stops
 use Rattle.forest_refresh.specs.declared.stop.RefreshStop.TheVariants as ends
-use Rattle.cube_batches.proofs.Names.{◌%◌, ◌+◌, ◌∙◌, ◌≡◌, ◌≢◌, Answer, AreAllWhole, Begun, Between, Body, ClosesGate, Disk, Err, Fact, Files, Forest, Ghosts, Global, IsAnswer, IsQuiet}
-use Rattle.cube_batches.proofs.Names.{KeepsEither, List, Ok, Reply, Result, SaysOnly, Some, Spares, SparesOthers, Stands, State, Stop, StopCause, Store, TellsBatchDamage, TellsFirstDamage}
-use Rattle.cube_batches.proofs.Names.{TellsRefreshDamage, Vec, World, arith, both, deltas_by, joined, names_with, next_side, quiet, refl, same-first-damage, same-whole, subst, sym, wider}
-use Rattle.cube_batches.proofs.Names.{with_file, with_file-other, ℕ}
+use Rattle.cube_batches.proofs.Names.{◌%◌, ◌+◌, ◌∙◌, ◌≡◌, ◌≢◌, Answer, AreAllWhole, Begun, Between, Body, CarriesOutAlone, ClosesGate, Command, Disk, Err, Fact, Files, Forest, Ghosts, Global}
+use Rattle.cube_batches.proofs.Names.{IsAnswer, IsErrAnd, IsQuiet, IsTrue, KeepsEither, List, Ok, OnlyNow, Reply, Result, SaysOnly, Some, Spares, SparesOthers, Stands, State, Stop, StopCause}
+use Rattle.cube_batches.proofs.Names.{Store, TellsBatchDamage, TellsFirstDamage, TellsRefreshDamage, Vec, World, arith, both, deltas_by, joined, names_with, next_side, quiet, refl, runs_out}
+use Rattle.cube_batches.proofs.Names.{same-first-damage, same-whole, subst, sym, wider, with_file, with_file-other, ℕ}
 
 -- ---- a reply
 
@@ -12,6 +12,13 @@ use Rattle.cube_batches.proofs.Names.{with_file, with_file-other, ℕ}
 pub says_either : (P : Reply → Type 0) (text : List ℕ) → ((reply : Vec ℕ Global) → reply.items ≡ text → P (Ok reply)) → P (Err stops.Memory) → (result : Reply) → SaysOnly text result → P result
 says_either P text replies out (Ok reply) said = replies reply said
 says_either P text replies out (Err stop) said = subst (λ (s : Stop). P (Err s)) (sym said) out
+
+pub or_out : {S : Type 0} (T : Ghosts S) (command : Command) (state next : State) (site : S) → (IsTrue T.tells → OnlyNow (T.disk site)) → (text : List ℕ)
+    → ((reply : Vec ℕ Global) → reply.items ≡ text → CarriesOutAlone T command state next site site (Ok reply)) → (result : Reply) → SaysOnly text result → CarriesOutAlone T command state next site site result
+or_out T command state next site only text replies = says_either (CarriesOutAlone T command state next site site) text replies (λ cache ready. runs_out T command state site cache only ready next)
+
+pub memory_as : {A : Type 0} (result : Result A Stop) (stop : Stop) → stop ≡ stops.Memory → IsErrAnd result (λ s. s ≡ stop) → IsErrAnd result (λ s. s ≡ stops.Memory)
+memory_as result stop memory is = subst (λ (m : Stop). IsErrAnd result (λ s. s ≡ m)) memory is
 
 -- the plain machine's, which is known to be this
 pub answered_by : (disk : Disk) (answer other : Answer) (state : State) (reply : List ℕ) → answer ≡ other → Stands state disk other.0 → reply ≡ other.1 → IsAnswer disk answer state reply

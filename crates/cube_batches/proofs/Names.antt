@@ -7,7 +7,7 @@ pub use Rattle.plain_machine.specs.Machine.{pending_over, read_by, refusal_of, r
 pub use Rattle.cube_state.proofs.Writing.{ForEach, RunsFor, at_error, beside, goes_nowhere, onward, replied, still, stopped, unharmed}
 pub use Rattle.cube_state.specs.BatchCosts.{begins, begins_over, commit_cost, finish_cost, load_cost, load_cost_of, moves_cost, moves_of, step_cost}
 pub use Rattle.cube_state.specs.Batches.{BeginGives, GivesBatch, GivesBegun, GivesGiven, IsRefused, IsTakenIn, LoadGives, given_to, pending_line, refusal_text}
-pub use Rattle.cube_state.specs.Carried.{CarriesOut, CarriesOutAlone, IsReadyFor, IsStep, LeavesLive, MayWrite, RepliesAlone, Reply, Spares, TellsNone, made_alone}
+pub use Rattle.cube_state.specs.Carried.{CarriesOut, CarriesOutAlone, IsStep, LeavesLive, MayWrite, RepliesAlone, Reply, Spares, TellsNone, made_alone}
 pub use Rattle.cube_batches.specs.Taking.{Answers, HasBegun, HasNone, IsFitting, OnlyRefuses, RefusesBy, RefusesGiven, Sends, TakesIn, answer_by, begin_stop}
 pub use Rattle.std.proofs.{Math.Nat.mul-div_cancel_left, lemmas.Bool.cases_Bool, lemmas.Bool.Decides.nat_tests, lemmas.List.length-map, lemmas.List.Elements.All-append}
 pub use Rattle.std.specs.{List.All, Prelude.codes, Prelude.nat_le, Prelude.nat_lt, Prelude.slice_index, Prelude.◌≢◌, Result.IsErrAnd}
@@ -38,8 +38,8 @@ pub use Rattle.plain_machine.specs.{Histories.batch_by, Histories.batch_given, H
 pub use Rattle.plain_machine.specs.{Stages.size, World.Kept, World.Knows, World.Warehouse, World.World, declared.batch_source.BatchSource.BatchSource}
 pub use Rattle.plain_machine.specs.{declared.batch_source.BatchSource.TheVariants.Generator, declared.batch_source.BatchSource.TheVariants.Numbered}
 pub use Rattle.plain_machine.specs.{declared.batch_source.BatchSource.TheVariants.Rows}
-pub use Rattle.cube_state.proofs.{Answering.OnlyNow, Answering.quiet, Cached.live_no_root, Cached.spared_stays, Carried.OnlySays, Carried.runs_out, Carried.runs_out_as, Carried.says}
-pub use Rattle.cube_state.proofs.{Costs.spends_more, Looking.quiet_on, Looking.quiet_out, Standing.attends_belongs}
+pub use Rattle.cube_state.proofs.{Answering.OnlyNow, Answering.quiet, Cached.live_no_root, Cached.spared_stays, Carried.runs_out, Carried.runs_out_as, Carried.says, Costs.spends_more}
+pub use Rattle.cube_state.proofs.{Looking.quiet_on, Looking.quiet_out, Standing.attends_belongs}
 pub use Rattle.cube_state.specs.{BatchDamage.LoadTells, BatchDamage.TellsBatchDamage, BatchDamage.TellsGivenDamage, BatchDamage.TellsRefreshDamage, Cached.SideStays, Cached.emptied}
 pub use Rattle.cube_state.specs.{Cached.live_file, Cached.live_of, Commands.Costs, Commands.Gives, Commands.HasNoFact, Commands.MakesNoCall, Commands.TellsDamage, Commands.load_of, Costs.Cost}
 pub use Rattle.cube_state.specs.{Costs.Spends, Costs.both, Costs.free, Frames.IsQuiet, Frames.RunsOn, Moves.made_behind, Moves.moves_made, Moves.moves_over, Moves.pending_moves, Session.Attends}
