@@ -8,10 +8,9 @@ use Rattle.cube_batches.proofs.Names.{Forest, Ghosts, Gives, Global, HasCauseWhe
 use Rattle.cube_batches.proofs.Names.{IsWithout, KeepsFacts, KeepsTo, Kept, Knows, LeavesOnly, List, None, Ok, OnlyNow, Option, Pending, RefreshStop, Result, RunsFor, RunsOn, Schema, SideStays}
 use Rattle.cube_batches.proofs.Names.{Some, Spares, Spends, Stands, StandsAt, State, Store, TellsFirstDamage, Vec, Warehouse, World, [], act, act_abandon, act_finish, act_step, ap, arith}
 use Rattle.cube_batches.proofs.Names.{asked_by, attends_belongs, beside, codes, committed, committed_text, forest_moves, holds_to, length, line, live_of, made_alone, made_behind, min, moves_made}
-use Rattle.cube_batches.proofs.Names.{moves_over, moves_tried, page_total, pending_line, pending_over, quiet, refl, refresh_stop, replied, replies_with, spared_stays, still, stopped, subst, sym}
-use Rattle.cube_batches.proofs.Names.{ℕ}
-use Rattle.cube_batches.proofs.{Calls.answered_by, Calls.side_spares, Costs.finish_answer, Costs.finish_is, Costs.step_made, Costs.step_spends, Takings.begin_moments, Loads.empty_answer}
-use Rattle.cube_batches.proofs.{Committed.refresh_quiet, Committed.refresh_quiet_on, Committed.refresh_tells, Committed.same_damage}
+use Rattle.cube_batches.proofs.Names.{moves_over, moves_tried, page_total, pending_line, pending_over, quiet, refl, refresh_stop, replied, replies_with, spared_stays, stopped, subst, sym, ℕ}
+use Rattle.cube_batches.proofs.{Calls.answered_by, Calls.rests, Calls.side_spares, Costs.finish_answer, Costs.finish_is, Costs.step_made, Costs.step_spends, Takings.begin_moments}
+use Rattle.cube_batches.proofs.{Loads.empty_answer, Committed.refresh_quiet, Committed.refresh_quiet_on, Committed.refresh_tells, Committed.same_damage}
 
 -- a batch that has a fact is not one without
 no_fact : (batch : List Fact) (pending : Option (List Fact)) → pending ≡ Some batch → 0 < length batch → HasNoFact pending → ⊥
@@ -145,16 +144,9 @@ module _ {S : Type 0} (T : Ghosts S) (command : Command) (none_asked : (schema :
       × Stands next (T.disk site) (pending_over world (answer world) kept pending).0 × (reply.items ≡ (pending_over world (answer world) kept pending).1))
       → ((world : World) → Stands state (T.disk site) world → moves_made next ≡ made_behind world (moves_made state) command) → ((files : Files) → Gives state files command reply.items)
       → (RunsOn T site state → RunsOn T site next) → moves_made next ≡ made_alone command (moves_made state) → live_of next ≡ live_of state → CarriesOutAlone T command state next site site (Ok reply)
-  over state next reply by moved gives runs made live = λ cache ready. still T command none_asked state next site only cache ready reply (record {
-    answer = λ t world it. (let is = by world it in answered_by (T.disk site) (act world command) (pending_over world (answer world) is.0 is.1) next reply.items
-        (acts world ∙ (λ i. pending_over world (answer world) (is.2.kept i) (is.2.pending i))) is.3 is.4);
-    moved = λ t world it. moved world it;
-    uncalled = λ t world it none. refl;
-    answered = λ t. gives (T.disk site).files;
-    runs = runs ready.runs;
-    made = λ no. made;
-    said = λ alone files. gives files;
-  }) live
+  over state next reply by = rests T command none_asked state next site only reply (λ t world it. (let is = by world it in
+      answered_by (T.disk site) (act world command) (pending_over world (answer world) is.0 is.1) next reply.items
+      (acts world ∙ (λ i. pending_over world (answer world) (is.2.kept i) (is.2.pending i))) is.3 is.4))
 
 -- the pending batch is dropped, if one is
 module _ {S : Type 0} (T : Ghosts S) (site : S) (only : IsTrue T.tells → OnlyNow (T.disk site)) (reply : Vec ℕ Global) where

@@ -1,12 +1,12 @@
 -- A batch is taken in at once or made pending: it is empty, or it begins.
 use Rattle.script_lang.specs.declared.command.Command.TheVariants as says
 use Rattle.cube_state.specs.declared.stop.Stop.TheVariants as stops
-use Rattle.cube_batches.proofs.Names.{◌++◌, ◌∙◌, ◌≡◌, Answer, AttendsAs, BatchSource, BeginGives, Begun, Belongs, Block, CarriesOutAlone, Cost, Disk, Ends, Err, Fact, Files, ForEach, Forest}
-use Rattle.cube_batches.proofs.Names.{Ghosts, Given, Gives, GivesBegun, GivesGiven, Global, HasBegun, HasNone, Hollow, Idle, IsAnswer, IsFitting, IsTrue, LeavesLive, List, LoadTells, Ok, OnlyNow}
-use Rattle.cube_batches.proofs.Names.{Pending, RepliesAlone, Reply, Rows, RunsFor, SaysOnly, Some, SparesOthers, Spends, Stands, State, Store, TellsDamage, TellsGivenDamage, TellsNone, Vec}
-use Rattle.cube_batches.proofs.Names.{Warehouse, World, [], act, ap, append-nil, arith, begun, beside, both, codes, committed, committed_text, fact_count, given_to, hollow_of, inr, length, line}
-use Rattle.cube_batches.proofs.Names.{live_file, live_no_root, live_of, load_of, quiet, quiet_on, quiet_out, refl, replied, spends_more, still, stopped, subst, sym, unharmed, ℕ}
-use Rattle.cube_batches.proofs.{Limits.empty_fits, Calls.answered_by, Calls.batch_told, Calls.batch_whole, Calls.between_then, Calls.closed_spares, Calls.or_out, Calls.quiet_then}
+use Rattle.cube_batches.proofs.Names.{◌++◌, ◌∙◌, ◌≡◌, Answer, AttendsAs, BatchSource, BeginGives, Begun, Belongs, Block, CarriesOutAlone, Cost, Disk, Ends, Err, Fact, ForEach, Forest, Ghosts}
+use Rattle.cube_batches.proofs.Names.{Given, GivesBegun, GivesGiven, Global, HasBegun, HasNone, Hollow, Idle, IsAnswer, IsFitting, IsTrue, LeavesLive, List, LoadTells, Ok, OnlyNow, Pending}
+use Rattle.cube_batches.proofs.Names.{RepliesAlone, Reply, Rows, RunsFor, SaysOnly, Some, SparesOthers, Spends, Stands, State, Store, TellsDamage, TellsGivenDamage, TellsNone, Vec, Warehouse}
+use Rattle.cube_batches.proofs.Names.{World, [], act, ap, append-nil, arith, begun, beside, both, codes, committed, committed_text, fact_count, given_to, hollow_of, inr, length, line, live_file}
+use Rattle.cube_batches.proofs.Names.{live_no_root, live_of, load_of, quiet, quiet_on, quiet_out, refl, replied, spends_more, stopped, subst, sym, unharmed, ℕ}
+use Rattle.cube_batches.proofs.{Limits.empty_fits, Calls.answered_by, Calls.batch_told, Calls.batch_whole, Calls.between_then, Calls.closed_spares, Calls.or_out, Calls.quiet_then, Calls.rests}
 use Rattle.cube_batches.proofs.{Calls.says_either, Costs.committed_spends, Sources.begin_answer, Sources.begin_sends, Sources.begins_is, Sources.each_load, Sources.given_some, Sources.load_answer}
 use Rattle.cube_batches.proofs.{Sources.load_calls, Sources.load_gives, Sources.load_is, Sources.load_sends, Sources.rows_last, Takings.begun_fits, Takings.known}
 
@@ -40,20 +40,11 @@ empty_fitting source store disk given world stands = record {
 
 module _ {S : Type 0} (T : Ghosts S) (source : BatchSource) (site : S) (only : IsTrue T.tells → OnlyNow (T.disk site)) (store : Store) (given : given_to store source ≡ Ok ([], store.forest.body.last)) where
   acknowledged : (reply : Vec ℕ Global) → reply.items ≡ committed_text store.forest.body.facts → CarriesOutAlone T (load_of source) (Idle store) (Idle store) site site (Ok reply)
-  acknowledged reply said = λ cache ready.
-      let sends = load_sends source in
-      let gives : (files : Files) → Gives (Idle store) files (load_of source) reply.items
-      = λ files. load_gives source (Idle store) files reply.items (subst (λ (g : Given). GivesGiven store files g reply.items) (sym given) said) in
-      still T (load_of source) sends.none_asked (Idle store) (Idle store) site only cache ready reply (record {
-        answer = λ t world stands. subst (λ (a : Answer). IsAnswer (T.disk site) a (Idle store) reply.items)
-            (sym (load_answer world source stands.0 [] stands.0.last (empty_fitting source store (T.disk site) given world stands))) (empty_answer world stands.0 store (T.disk site) stands.2 reply.items said);
-        moved = λ t world stands. sym (sends.moves world 0);
-        uncalled = λ t world stands none. refl;
-        answered = λ t. gives (T.disk site).files;
-        runs = ready.runs;
-        made = λ no. sym (sends.alone 0);
-        said = λ alone files. gives files;
-      }) refl
+  acknowledged reply said = rests T (load_of source) (load_sends source).none_asked (Idle store) (Idle store) site only reply
+      (λ t world stands. subst (λ (a : Answer). IsAnswer (T.disk site) a (Idle store) reply.items)
+      (sym (load_answer world source stands.0 [] stands.0.last (empty_fitting source store (T.disk site) given world stands))) (empty_answer world stands.0 store (T.disk site) stands.2 reply.items said))
+      (λ world stands. sym ((load_sends source).moves world 0))
+      (λ files. load_gives source (Idle store) files reply.items (subst (λ (g : Given). GivesGiven store files g reply.items) (sym given) said)) (λ runs. runs) (sym ((load_sends source).alone 0)) refl
 
 pub loads_none : {S : Type 0} (T : Ghosts S) (source : BatchSource) (state next : State) (old new : S) → (IsTrue T.tells → OnlyNow (T.disk old)) → HasNone source state next old new
     → (result : Reply) → SaysOnly (committed_text (fact_count next)) result → CarriesOutAlone T (load_of source) state next old new result
@@ -113,19 +104,10 @@ loads T source state old mid r is = subst (λ (s : State). Ends T (load_of sourc
 
 module _ {S : Type 0} (T : Ghosts S) (block : Block) (site : S) (only : IsTrue T.tells → OnlyNow (T.disk site)) (store : Store) (given : given_to store (Rows block) ≡ Ok ([], store.forest.body.last)) where
   hollows : (reply : Vec ℕ Global) → reply.items ≡ line (codes "begun") → CarriesOutAlone T (says.Begin block) (Idle store) (Hollow store) site site (Ok reply)
-  hollows reply said = λ cache ready.
-      let gives : BeginGives (Idle store) block reply.items = subst (λ (g : Given). GivesBegun store g reply.items) (sym given) (inr said) in
-      still T (says.Begin block) (λ schema. refl) (Idle store) (Hollow store) site only cache ready reply (record {
-        answer = λ t world stands. (let fits = empty_fitting (Rows block) store (T.disk site) given world stands in
-            answered_by (T.disk site) (act world (says.Begin block)) (begun world []) (Hollow store) reply.items (begin_answer world block stands.0 [] stands.0.last fits)
-            (stands.0, record { kept = stands.1.kept; pending = refl }, stands.2) said);
-        moved = λ t world stands. refl;
-        uncalled = λ t world stands none. refl;
-        answered = λ t. gives;
-        runs = record { running = ready.runs.running; fit = ready.runs.fit };
-        made = λ no. refl;
-        said = λ alone files. gives;
-      }) refl
+  hollows reply said = rests T (says.Begin block) (λ schema. refl) (Idle store) (Hollow store) site only reply
+      (λ t world stands. answered_by (T.disk site) (act world (says.Begin block)) (begun world []) (Hollow store) reply.items
+      (begin_answer world block stands.0 [] stands.0.last (empty_fitting (Rows block) store (T.disk site) given world stands)) (stands.0, record { kept = stands.1.kept; pending = refl }, stands.2) said)
+      (λ world stands. refl) (λ files. subst (λ (g : Given). GivesBegun store g reply.items) (sym given) (inr said)) (λ runs. record { running = runs.running; fit = runs.fit }) refl refl
 
 pub begins_none : {S : Type 0} (T : Ghosts S) (block : Block) (state next final : State) (old new : S) → (IsTrue T.tells → OnlyNow (T.disk old)) → HasNone (Rows block) state next old new
     → final ≡ hollow_of next → (result : Reply) → SaysOnly (line (codes "begun")) result → CarriesOutAlone T (says.Begin block) state final old new result
