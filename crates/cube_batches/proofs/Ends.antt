@@ -8,7 +8,7 @@ use Rattle.cube_batches.proofs.Names.{Forest, Ghosts, Gives, Global, HasCauseWhe
 use Rattle.cube_batches.proofs.Names.{IsWithout, KeepsFacts, KeepsTo, Kept, Knows, LeavesOnly, List, None, Ok, OnlyNow, Option, Pending, RefreshStop, Result, RunsFor, RunsOn, Schema, SideStays}
 use Rattle.cube_batches.proofs.Names.{Some, Spares, Spends, Stands, StandsAt, State, Store, TellsFirstDamage, Vec, Warehouse, World, [], act, act_abandon, act_finish, act_step, ap, arith}
 use Rattle.cube_batches.proofs.Names.{asked_by, attends_belongs, beside, codes, committed, committed_text, forest_moves, holds_to, length, line, live_of, made_alone, made_behind, min, moves_made}
-use Rattle.cube_batches.proofs.Names.{moves_over, moves_tried, page_total, pending_line, pending_over, quiet, refl, refresh_stop, replied, replies_with, spared_stays, stopped, subst, sym, ℕ}
+use Rattle.cube_batches.proofs.Names.{moves_over, moves_tried, page_total, pending_line, pending_over, refl, refresh_stop, replied, replies_with, spared_stays, stopped, subst, sym, ℕ}
 use Rattle.cube_batches.proofs.{Calls.answered_by, Calls.rests, Calls.side_spares, Costs.finish_answer, Costs.finish_is, Costs.step_made, Costs.step_spends, Takings.begin_moments}
 use Rattle.cube_batches.proofs.{Loads.empty_answer, Committed.refresh_quiet, Committed.refresh_quiet_on, Committed.refresh_tells, Committed.same_damage}
 
@@ -64,17 +64,17 @@ module _ {S : Type 0} (T : Ghosts S) (n : ℕ) (r now : Begun) (old new : S) whe
 
     pub moves_on : (reply : Vec ℕ Global) → reply.items ≡ line (codes "stepped") → CarriesOutAlone T (says.Step n) (Pending r) (Pending now) old new (Ok reply)
     moves_on reply said = λ cache ready. replied T (says.Step n) (λ schema. refl) (Pending r) (Pending now) old new cache cache reply (moves_run is few) (record {
-        answer = λ t world it. answered_by (T.disk new) (act world (says.Step n)) (world, line (codes "stepped")) (Pending now) reply.items
-            (act_step world n ∙ (λ i. pending_over world (λ w b. replies_with world (codes "stepped")) (it.2.kept i) (it.2.pending i))) (it.0, it.1, it.2, attends_on t it.0 it.1 it.3) said;
-        moved = λ t world it. step_made T old new r it.0 it.1 it.3 world it.2 n made now.progress.taken taken (stands t it.0.facts it.1 it.3.adds.read).1;
-        uncalled = λ t world it none. absurd (no_fact it.1 world.pending it.2.pending it.3.some none);
-        answered = λ t. said;
-        runs = record { running = goes; fit = ready_now };
-        made = λ no. absurd (no tt);
-        said = λ alone files. said;
-      })
-      (beside T (says.Step n) (λ schema. refl) (Pending r) (Pending now) old new cache ready (ap (λ (b : Begun). Some b.store.forest.body) same) (side_stays is) (λ no. absurd (no tt)))
-      (refresh_quiet_on T old new (page_total r.store.forest.body r.store.forest.schema) is.told made reply is.calls)
+      answer = λ t world it. answered_by (T.disk new) (act world (says.Step n)) (world, line (codes "stepped")) (Pending now) reply.items
+          (act_step world n ∙ (λ i. pending_over world (λ w b. replies_with world (codes "stepped")) (it.2.kept i) (it.2.pending i))) (it.0, it.1, it.2, attends_on t it.0 it.1 it.3) said;
+      moved = λ t world it. step_made T old new r it.0 it.1 it.3 world it.2 n made now.progress.taken taken (stands t it.0.facts it.1 it.3.adds.read).1;
+      uncalled = λ t world it none. absurd (no_fact it.1 world.pending it.2.pending it.3.some none);
+      answered = λ t. said;
+      runs = record { running = goes; fit = ready_now };
+      made = λ no. absurd (no tt);
+      said = λ alone files. said;
+    })
+        (beside T (says.Step n) (λ schema. refl) (Pending r) (Pending now) old new cache ready (ap (λ (b : Begun). Some b.store.forest.body) same) (side_stays is) (λ no. absurd (no tt)))
+        (refresh_quiet_on T old new (page_total r.store.forest.body r.store.forest.schema) is.told made reply is.calls)
 
   -- it stopped
   module _ (why : RefreshStop) (is : Moves T n r now old new (Err why))
@@ -86,13 +86,13 @@ module _ {S : Type 0} (T : Ghosts S) (n : ℕ) (r now : Begun) (old new : S) whe
 
     pub moves_not : (final : State) → CarriesOutAlone T (says.Step n) (Pending r) final old new (Err (refresh_stop why))
     moves_not final = λ cache ready. stopped T (says.Step n) (λ schema. refl) (Pending r) final old new tt cache cache refl (refresh_stop why) (moves_run is (omega arith)) (record {
-        undamaged = λ t world it. same_damage why (undamaged t it.0.facts it.1 it.3.adds.read);
-        damage = λ t. refresh_tells r (T.disk old).files why (damaged t);
-        spared = λ t. spares t why;
-        harmless = λ none. absurd none;
-        step_side = λ t step. side_stays is t;
-      })
-      (refresh_quiet T old new (page_total r.store.forest.body r.store.forest.schema) is.told why is.calls)
+      undamaged = λ t world it. same_damage why (undamaged t it.0.facts it.1 it.3.adds.read);
+      damage = λ t. refresh_tells r (T.disk old).files why (damaged t);
+      spared = λ t. spares t why;
+      harmless = λ none. absurd none;
+      step_side = λ t step. side_stays is t;
+    })
+        (refresh_quiet T old new (page_total r.store.forest.body r.store.forest.schema) is.told why is.calls)
 
 -- ---- it is committed
 

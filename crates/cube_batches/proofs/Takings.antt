@@ -5,7 +5,7 @@ use Rattle.cube_batches.proofs.Names.{◌*◌, ◌++◌, ◌+◌, ◌<◌, ◌�
 use Rattle.cube_batches.proofs.Names.{BeginFault, BeginStop, Begun, Belongs, Between, CallsOnly, CarriesOut, Disk, Empty, Err, Fact, Files, Forest, Ghosts, Given, Global, HasBegun, HoldsNow}
 use Rattle.cube_batches.proofs.Names.{Hollow, Idle, IfSome, IsBack, IsBatchFor, IsFitting, IsLive, IsOpened, IsRead, IsReady, IsRefreshOf, IsStable, IsStoreOf, IsTrue, Keeps, KeepsFacts, Kept}
 use Rattle.cube_batches.proofs.Names.{LeavesOnly, List, None, NotRead, Nothing, Ok, OnlyNow, OnlyRefuses, Option, Pending, Read, Refused, RefusesBy, RefusesGiven, Result, RunsOn, Schema, Some}
-use Rattle.cube_batches.proofs.Names.{Stands, StandsAt, State, Stop, Store, Taken, TakesIn, TellsLimit, Vec, Warehouse, World, [], act, answer_by, ap, arith, batch_from, begin_stop, begins}
+use Rattle.cube_batches.proofs.Names.{Stands, StandsAt, State, Stop, Store, Taken, TakesIn, TellsLimit, Vec, Warehouse, World, [], act, answer_by, ap, arith, batch_from, begin_stop}
 use Rattle.cube_batches.proofs.Names.{bytes_after, codes, forest_moves, given_to, goes_nowhere, holds_to, inl, inr, last_behind, length, line, moves_made, next_side, nothing_added, refl}
 use Rattle.cube_batches.proofs.Names.{refusal_of, refusal_text, runs_out, says, slice_index, spends_more, stable_holds, stopped, subst, sym, take, take_over, unharmed, unless, wider, written, ℕ}
 use Rattle.cube_batches.proofs.{Limits.none_refused, Limits.one_refused, Calls.answered_by, Calls.rests, Sources.answer_batch, Sources.answer_read}
@@ -29,10 +29,13 @@ module _ (store : Store) (old new : Disk) (warehouse : Warehouse) (is : Belongs 
   -- at every moment the files keep what they kept
   pub begin_moments : (world next : World) → world.kept ≡ Some warehouse
       → LeavesOnly old new (λ told files. (told ≡ old.told) × KeepsFacts store.forest.schema warehouse.facts store.forest.body.last files) → Between old new world next
-  begin_moments world next kept run = wider old new _ _ (λ told files both. (both.0, inl (subst (Keeps files) (sym kept) (record {
-    lawful = is.lawful;
-    kept = subst (λ (k : Schema × ℕ). KeepsFacts k.0 warehouse.facts k.1 files) (λ i. (is.schema i, is.last i)) both.1;
-  })))) run
+  begin_moments world next kept run = wider old new _ _ (λ told files both. (
+    both.0,
+    inl (subst (Keeps files) (sym kept) (record {
+      lawful = is.lawful;
+      kept = subst (λ (k : Schema × ℕ). KeepsFacts k.0 warehouse.facts k.1 files) (λ i. (is.schema i, is.last i)) both.1;
+    })),
+  )) run
 
   -- it has begun
   pub begin_attends : (batch : List Fact) (number : Option ℕ) (r : Begun) → r.store.forest ≡ store.forest → r.next.last ≡ last_behind store.forest.body.last number
