@@ -1,9 +1,10 @@
 -- Calls one after another, and what they leave of the files.
 use Rattle.cube_state.specs.declared.stop.Stop.TheVariants as stops
 use Rattle.forest_refresh.specs.declared.stop.RefreshStop.TheVariants as ends
-use Rattle.cube_batches.proofs.Names.{◌%◌, ◌+◌, ◌∙◌, ◌≡◌, ◌≢◌, Answer, AreAllWhole, Begun, Between, Body, ClosesGate, Disk, Err, Fact, Files, Forest, Ghosts, Global, IsAnswer, IsQuiet}
-use Rattle.cube_batches.proofs.Names.{KeepsEither, List, Ok, Reply, Result, SaysOnly, Some, Spares, SparesOthers, Stands, State, Stop, StopCause, Store, TellsBatchDamage, TellsFirstDamage}
-use Rattle.cube_batches.proofs.Names.{TellsRefreshDamage, Vec, World, arith, both, deltas_by, joined, names_with, next_side, quiet, refl, same-first-damage, same-whole, subst, sym, wider}
+use Rattle.cube_batches.proofs.Names.{◌%◌, ◌+◌, ◌∙◌, ◌≡◌, ◌≢◌, Answer, AreAllWhole, Begun, Between, Body, CarriesOutAlone, ClosesGate, Command, Disk, Err, Fact, Files, ForEach, Forest, Ghosts}
+use Rattle.cube_batches.proofs.Names.{Gives, Global, IsAnswer, IsErrAnd, IsQuiet, IsTrue, KeepsEither, List, None, Ok, OnlyNow, Reply, Result, RunsOn, SaysOnly, Schema, Some, Spares, SparesOthers}
+use Rattle.cube_batches.proofs.Names.{Stands, State, Stop, StopCause, Store, TellsBatchDamage, TellsFirstDamage, TellsRefreshDamage, Vec, World, act, arith, asked_by, deltas_by, joined}
+use Rattle.cube_batches.proofs.Names.{live_of, made_alone, made_behind, moves_made, names_with, next_side, quiet, refl, runs_out, same-first-damage, same-whole, still, subst, sym, wider}
 use Rattle.cube_batches.proofs.Names.{with_file, with_file-other, ℕ}
 
 -- ---- a reply
@@ -13,9 +14,31 @@ pub says_either : (P : Reply → Type 0) (text : List ℕ) → ((reply : Vec ℕ
 says_either P text replies out (Ok reply) said = replies reply said
 says_either P text replies out (Err stop) said = subst (λ (s : Stop). P (Err s)) (sym said) out
 
+pub or_out : {S : Type 0} (T : Ghosts S) (command : Command) (state next : State) (site : S) → (IsTrue T.tells → OnlyNow (T.disk site)) → (text : List ℕ)
+    → ((reply : Vec ℕ Global) → reply.items ≡ text → CarriesOutAlone T command state next site site (Ok reply)) → (result : Reply) → SaysOnly text result → CarriesOutAlone T command state next site site result
+or_out T command state next site only text replies = says_either (CarriesOutAlone T command state next site site) text replies (λ cache ready. runs_out T command state site cache only ready next)
+
+pub memory_as : {A : Type 0} (result : Result A Stop) (stop : Stop) → stop ≡ stops.Memory → IsErrAnd result (λ s. s ≡ stop) → IsErrAnd result (λ s. s ≡ stops.Memory)
+memory_as result stop memory is = subst (λ (m : Stop). IsErrAnd result (λ s. s ≡ m)) memory is
+
 -- the plain machine's, which is known to be this
 pub answered_by : (disk : Disk) (answer other : Answer) (state : State) (reply : List ℕ) → answer ≡ other → Stands state disk other.0 → reply ≡ other.1 → IsAnswer disk answer state reply
 answered_by disk answer other state reply same stands said = subst (λ (a : Answer). IsAnswer disk a state reply) (sym same) (record { stands = stands; said = said })
+
+-- no call is made
+pub rests : {S : Type 0} (T : Ghosts S) (command : Command) → ((schema : Schema) → asked_by schema command ≡ None) → (state next : State) (site : S) → (IsTrue T.tells → OnlyNow (T.disk site))
+    → (reply : Vec ℕ Global) → ForEach T state site (λ world. IsAnswer (T.disk site) (act world command) next reply.items) → ((world : World) → Stands state (T.disk site) world
+    → moves_made next ≡ made_behind world (moves_made state) command) → ((files : Files) → Gives state files command reply.items) → (RunsOn T site state → RunsOn T site next)
+    → moves_made next ≡ made_alone command (moves_made state) → live_of next ≡ live_of state → CarriesOutAlone T command state next site site (Ok reply)
+rests T command none_asked state next site only reply answer moved gives runs made live = λ cache ready. still T command none_asked state next site only cache ready reply (record {
+  answer = answer;
+  moved = λ t world it. moved world it;
+  uncalled = λ t world it none. refl;
+  answered = λ t. gives (T.disk site).files;
+  runs = runs ready.runs;
+  made = λ no. made;
+  said = λ alone files. gives files;
+}) live
 
 -- ---- one run behind another
 

@@ -3,7 +3,7 @@ use Rattle.forest_refresh.specs.declared.stop.BeginStop.TheVariants as begins
 use Rattle.cube_batches.proofs.Names.{◌++◌, ◌+◌, ◌<◌, ◌∙◌, ◌∷◌, ◌≡◌, ◌≤◌, Agrees, All, AreAccepted, Attr, BeginStop, Bool, Fact, HasNames, IsSchema, List, None, Option, Schema, Some, TellsLimit}
 use Rattle.cube_batches.proofs.Names.{Warehouse, [], all-agree, ap, append-nil, arith, cases_Bool, cond, fact_limit, false, few_measures, first_full, first_heavy, full_refusal, get_or}
 use Rattle.cube_batches.proofs.Names.{heavy_refusal, inl, inr, length, length-map, mass, mass_limit, mass_past, max_at, max_of, names-past, names_of, nat_le, nat_lt, nat_tests, no_attr, refl}
-use Rattle.cube_batches.proofs.Names.{refusal_of, refusal_text, size, subst, suc, sym, true, zero, ℕ}
+use Rattle.cube_batches.proofs.Names.{refusal_of, refusal_text, subst, suc, sym, true, zero, ℕ}
 
 -- ---- the first of some items that passes
 
@@ -60,8 +60,12 @@ module _ (warehouse : Warehouse) (batch : List Fact) (lawful : IsSchema warehous
   full_declared : All (Agrees warehouse.schema) all → (a : ℕ) → max_at warehouse.schema a < length (names_of all a) → a < length warehouse.schema.attrs
   full_declared each a full = elim (cases_Bool (nat_lt a (length warehouse.schema.attrs))) [
     | inl low ↦ grind (arith, nat_tests)
-    | inr past ↦ absurd (let beyond : length warehouse.schema.attrs ≤ a = grind (arith, nat_tests) in omega (arith, full, ap length (names-past all (length warehouse.schema.attrs) a
-        (λ k d low. (all-agree warehouse.schema all each k d low).values ∙ length-map warehouse.schema.attrs (λ (attr : Attr). attr.kind)) beyond)))
+    | inr past ↦ absurd (let beyond : length warehouse.schema.attrs ≤ a = grind (arith, nat_tests) in omega (
+      arith,
+      full,
+      ap length (names-past all (length warehouse.schema.attrs) a
+          (λ k d low. (all-agree warehouse.schema all each k d low).values ∙ length-map warehouse.schema.attrs (λ (attr : Attr). attr.kind)) beyond),
+    ))
   ]
 
   -- and so is a measure whose mass passes the limit

@@ -1,14 +1,13 @@
 -- A batch is taken in at once or made pending: it is empty, or it begins.
 use Rattle.script_lang.specs.declared.command.Command.TheVariants as says
 use Rattle.cube_state.specs.declared.stop.Stop.TheVariants as stops
-use Rattle.cube_batches.proofs.Names.{◌++◌, ◌∙◌, ◌≡◌, Answer, AttendsAs, BatchSource, BeginGives, Begun, Belongs, Block, Cache, CarriesOut, CarriesOutAlone, Cost, Disk, Ends, Err, Fact, Files}
-use Rattle.cube_batches.proofs.Names.{ForEach, Forest, Ghosts, Given, Gives, GivesBegun, GivesGiven, Global, HasBegun, HasNone, Hollow, Idle, IsAnswer, IsFitting, IsReadyFor, IsTrue, LeavesLive}
-use Rattle.cube_batches.proofs.Names.{List, LoadTells, Ok, OnlyNow, Pending, RepliesAlone, Reply, Rows, RunsFor, SaysOnly, Some, SparesOthers, Spends, Stands, State, Store, TellsDamage}
-use Rattle.cube_batches.proofs.Names.{TellsGivenDamage, TellsNone, Vec, Warehouse, World, [], act, ap, append-nil, arith, begun, beside, both, codes, committed, committed_text, fact_count}
-use Rattle.cube_batches.proofs.Names.{given_to, hollow_of, inr, length, line, live_file, live_no_root, live_of, load_of, quiet, quiet_on, quiet_out, refl, replied, runs_out, spends_more, still}
-use Rattle.cube_batches.proofs.Names.{stopped, subst, sym, unharmed, ℕ}
-use Rattle.cube_batches.proofs.{Limits.empty_fits, Calls.answered_by, Calls.batch_told, Calls.batch_whole, Calls.between_then, Calls.closed_spares, Calls.quiet_then, Calls.says_either}
-use Rattle.cube_batches.proofs.{Costs.committed_spends, Sources.begin_answer, Sources.begin_sends, Sources.begins_is, Sources.each_load, Sources.given_some, Sources.load_answer}
+use Rattle.cube_batches.proofs.Names.{◌++◌, ◌∙◌, ◌≡◌, Answer, AttendsAs, BatchSource, BeginGives, Begun, Belongs, Block, CarriesOutAlone, Cost, Disk, Ends, Err, Fact, ForEach, Forest, Ghosts}
+use Rattle.cube_batches.proofs.Names.{Given, GivesBegun, GivesGiven, Global, HasBegun, HasNone, Hollow, Idle, IsAnswer, IsFitting, IsTrue, LeavesLive, List, LoadTells, Ok, OnlyNow, Pending}
+use Rattle.cube_batches.proofs.Names.{RepliesAlone, Reply, Rows, RunsFor, SaysOnly, Some, SparesOthers, Spends, Stands, State, Store, TellsDamage, TellsGivenDamage, TellsNone, Vec, Warehouse}
+use Rattle.cube_batches.proofs.Names.{World, [], act, ap, append-nil, arith, begun, beside, codes, committed, committed_text, fact_count, given_to, hollow_of, inr, length, line, live_file}
+use Rattle.cube_batches.proofs.Names.{live_no_root, live_of, load_of, quiet_on, quiet_out, refl, replied, spends_more, stopped, subst, sym, unharmed, ℕ}
+use Rattle.cube_batches.proofs.{Limits.empty_fits, Calls.answered_by, Calls.batch_told, Calls.batch_whole, Calls.between_then, Calls.closed_spares, Calls.or_out, Calls.quiet_then, Calls.rests}
+use Rattle.cube_batches.proofs.{Calls.says_either, Costs.committed_spends, Sources.begin_answer, Sources.begin_sends, Sources.begins_is, Sources.each_load, Sources.given_some, Sources.load_answer}
 use Rattle.cube_batches.proofs.{Sources.load_calls, Sources.load_gives, Sources.load_is, Sources.load_sends, Sources.rows_last, Takings.begun_fits, Takings.known}
 
 -- nothing was done with an empty batch
@@ -21,11 +20,12 @@ same_facts : (warehouse : Warehouse) → record warehouse { facts = warehouse.fa
 same_facts warehouse = ap (λ (l : List Fact). record { schema = warehouse.schema; facts = l; last = warehouse.last }) (append-nil warehouse.facts)
 
 -- an empty batch is acknowledged
-pub empty_answer : (world : World) (warehouse : Warehouse) (store : Store) (disk : Disk) → Belongs store disk warehouse → (answer : Answer) → answer ≡ committed world warehouse [] warehouse.last
-    → (reply : List ℕ) → reply ≡ committed_text store.forest.body.facts → IsAnswer disk answer (Idle store) reply
-empty_answer world warehouse store disk belongs answer same reply said = answered_by disk answer (committed world warehouse [] warehouse.last) (Idle store) reply same
-    (record warehouse { facts = warehouse.facts ++ []; last = warehouse.last }, record { kept = refl; pending = refl }, subst (Belongs store disk) (sym (same_facts warehouse)) belongs)
-    (said ∙ (ap committed_text belongs.stored.read.live.at.body_is.facts ∙ ap (λ (w : Warehouse). committed_text (length w.facts)) (sym (same_facts warehouse))))
+pub empty_answer : (world : World) (warehouse : Warehouse) (store : Store) (disk : Disk) → Belongs store disk warehouse → (reply : List ℕ) → reply ≡ committed_text store.forest.body.facts
+    → IsAnswer disk (committed world warehouse [] warehouse.last) (Idle store) reply
+empty_answer world warehouse store disk belongs reply said = record {
+  stands = (record warehouse { facts = warehouse.facts ++ []; last = warehouse.last }, record { kept = refl; pending = refl }, subst (Belongs store disk) (sym (same_facts warehouse)) belongs);
+  said = said ∙ (ap committed_text belongs.stored.read.live.at.body_is.facts ∙ ap (λ (w : Warehouse). committed_text (length w.facts)) (sym (same_facts warehouse)));
+}
 
 -- it keeps the limits
 pub empty_fitting : (source : BatchSource) (store : Store) (disk : Disk) → given_to store source ≡ Ok ([], store.forest.body.last) → (world : World) (stands : Stands (Idle store) disk world)
@@ -38,35 +38,19 @@ empty_fitting source store disk given world stands = record {
 
 -- ---- an empty one is taken in
 
-module _ {S : Type 0} (T : Ghosts S) (source : BatchSource) (site : S) (cache : Cache) (only : IsTrue T.tells → OnlyNow (T.disk site)) (store : Store)
-    (given : given_to store source ≡ Ok ([], store.forest.body.last)) where
-  acknowledged : IsReadyFor T site cache (Idle store) → (reply : Vec ℕ Global) → reply.items ≡ committed_text store.forest.body.facts
-      → CarriesOut T (load_of source) (Idle store) (Idle store) site site cache cache (Ok reply)
-  acknowledged ready reply said =
-      let sends = load_sends source in
-      let gives : (files : Files) → Gives (Idle store) files (load_of source) reply.items
-      = λ files. load_gives source (Idle store) files reply.items (subst (λ (g : Given). GivesGiven store files g reply.items) (sym given) said) in
-      still T (load_of source) sends.none_asked (Idle store) (Idle store) site only cache ready reply (record {
-        answer = λ t world stands. (let fits = empty_fitting source store (T.disk site) given world stands in
-            empty_answer world stands.0 store (T.disk site) stands.2 (act world (load_of source)) (load_answer world source stands.0 [] stands.0.last fits) reply.items said);
-        moved = λ t world stands. sym (sends.moves world 0);
-        uncalled = λ t world stands none. refl;
-        answered = λ t. gives (T.disk site).files;
-        runs = ready.runs;
-        made = λ no. sym (sends.alone 0);
-        said = λ alone files. gives files;
-      }) refl
+module _ {S : Type 0} (T : Ghosts S) (source : BatchSource) (site : S) (only : IsTrue T.tells → OnlyNow (T.disk site)) (store : Store) (given : given_to store source ≡ Ok ([], store.forest.body.last)) where
+  acknowledged : (reply : Vec ℕ Global) → reply.items ≡ committed_text store.forest.body.facts → CarriesOutAlone T (load_of source) (Idle store) (Idle store) site site (Ok reply)
+  acknowledged reply said = rests T (load_of source) (load_sends source).none_asked (Idle store) (Idle store) site only reply
+      (λ t world stands. subst (λ (a : Answer). IsAnswer (T.disk site) a (Idle store) reply.items)
+      (sym (load_answer world source stands.0 [] stands.0.last (empty_fitting source store (T.disk site) given world stands))) (empty_answer world stands.0 store (T.disk site) stands.2 reply.items said))
+      (λ world stands. sym ((load_sends source).moves world 0))
+      (λ files. load_gives source (Idle store) files reply.items (subst (λ (g : Given). GivesGiven store files g reply.items) (sym given) said)) (λ runs. runs) (sym ((load_sends source).alone 0)) refl
 
-  loads_empty : IsReadyFor T site cache (Idle store) → (result : Reply) → SaysOnly (committed_text store.forest.body.facts) result
-      → CarriesOut T (load_of source) (Idle store) (Idle store) site site cache cache result
-  loads_empty ready result said = says_either (CarriesOut T (load_of source) (Idle store) (Idle store) site site cache cache) (committed_text store.forest.body.facts) (acknowledged ready)
-      (runs_out T (load_of source) (Idle store) site cache only ready (Idle store)) result said
-
-pub loads_none : {S : Type 0} (T : Ghosts S) (source : BatchSource) (state next : State) (old new : S) (cache : Cache) → (IsTrue T.tells → OnlyNow (T.disk old)) → HasNone source state next old new
-    → IsReadyFor T old cache state → (result : Reply) → SaysOnly (committed_text (fact_count next)) result → CarriesOut T (load_of source) state next old new cache cache result
-loads_none T source state next old new cache only is ready result = done_none source state next old new is
-    (λ s n site. IsReadyFor T old cache s → SaysOnly (committed_text (fact_count n)) result → CarriesOut T (load_of source) s n old site cache cache result)
-    (λ here. loads_empty T source old cache only is.0 is.4 here result) ready
+pub loads_none : {S : Type 0} (T : Ghosts S) (source : BatchSource) (state next : State) (old new : S) → (IsTrue T.tells → OnlyNow (T.disk old)) → HasNone source state next old new
+    → (result : Reply) → SaysOnly (committed_text (fact_count next)) result → CarriesOutAlone T (load_of source) state next old new result
+loads_none T source state next old new only is result = done_none source state next old new is
+    (λ s n site. SaysOnly (committed_text (fact_count n)) result → CarriesOutAlone T (load_of source) s n old site result)
+    (or_out T (load_of source) (Idle is.0) (Idle is.0) old only (committed_text is.0.forest.body.facts) (acknowledged T source old only is.0 is.4) result)
 
 -- ---- one that has begun is committed
 
@@ -118,33 +102,18 @@ loads T source state old mid r is = subst (λ (s : State). Ends T (load_of sourc
 
 -- ---- an empty one is made pending
 
-module _ {S : Type 0} (T : Ghosts S) (block : Block) (site : S) (cache : Cache) (only : IsTrue T.tells → OnlyNow (T.disk site)) (store : Store)
-    (given : given_to store (Rows block) ≡ Ok ([], store.forest.body.last)) where
-  hollows : IsReadyFor T site cache (Idle store) → (reply : Vec ℕ Global) → reply.items ≡ line (codes "begun") → CarriesOut T (says.Begin block) (Idle store) (Hollow store) site site cache cache (Ok reply)
-  hollows ready reply said =
-      let gives : BeginGives (Idle store) block reply.items = subst (λ (g : Given). GivesBegun store g reply.items) (sym given) (inr said) in
-      still T (says.Begin block) (λ schema. refl) (Idle store) (Hollow store) site only cache ready reply (record {
-        answer = λ t world stands. (let fits = empty_fitting (Rows block) store (T.disk site) given world stands in
-            answered_by (T.disk site) (act world (says.Begin block)) (begun world []) (Hollow store) reply.items (begin_answer world block stands.0 [] stands.0.last fits)
-            (stands.0, record { kept = stands.1.kept; pending = refl }, stands.2) said);
-        moved = λ t world stands. refl;
-        uncalled = λ t world stands none. refl;
-        answered = λ t. gives;
-        runs = record { running = ready.runs.running; fit = ready.runs.fit };
-        made = λ no. refl;
-        said = λ alone files. gives;
-      }) refl
-
-  hollows_or_out : IsReadyFor T site cache (Idle store) → (result : Reply) → SaysOnly (line (codes "begun")) result → CarriesOut T (says.Begin block) (Idle store) (Hollow store) site site cache cache result
-  hollows_or_out ready = says_either (CarriesOut T (says.Begin block) (Idle store) (Hollow store) site site cache cache) (line (codes "begun")) (hollows ready)
-      (runs_out T (says.Begin block) (Idle store) site cache only ready (Hollow store))
+module _ {S : Type 0} (T : Ghosts S) (block : Block) (site : S) (only : IsTrue T.tells → OnlyNow (T.disk site)) (store : Store) (given : given_to store (Rows block) ≡ Ok ([], store.forest.body.last)) where
+  hollows : (reply : Vec ℕ Global) → reply.items ≡ line (codes "begun") → CarriesOutAlone T (says.Begin block) (Idle store) (Hollow store) site site (Ok reply)
+  hollows reply said = rests T (says.Begin block) (λ schema. refl) (Idle store) (Hollow store) site only reply
+      (λ t world stands. answered_by (T.disk site) (act world (says.Begin block)) (begun world []) (Hollow store) reply.items
+      (begin_answer world block stands.0 [] stands.0.last (empty_fitting (Rows block) store (T.disk site) given world stands)) (stands.0, record { kept = stands.1.kept; pending = refl }, stands.2) said)
+      (λ world stands. refl) (λ files. subst (λ (g : Given). GivesBegun store g reply.items) (sym given) (inr said)) (λ runs. record { running = runs.running; fit = runs.fit }) refl refl
 
 pub begins_none : {S : Type 0} (T : Ghosts S) (block : Block) (state next final : State) (old new : S) → (IsTrue T.tells → OnlyNow (T.disk old)) → HasNone (Rows block) state next old new
     → final ≡ hollow_of next → (result : Reply) → SaysOnly (line (codes "begun")) result → CarriesOutAlone T (says.Begin block) state final old new result
-begins_none T block state next final old new only is hollow result said = λ cache ready.
-    subst (λ (f : State). CarriesOut T (says.Begin block) state f old new cache cache result) (sym hollow)
-    (done_none (Rows block) state next old new is (λ s n site. IsReadyFor T old cache s → CarriesOut T (says.Begin block) s (hollow_of n) old site cache cache result)
-    (λ here. hollows_or_out T block old cache only is.0 is.4 here result said) ready)
+begins_none T block state next final old new only is hollow result said = subst (λ (f : State). CarriesOutAlone T (says.Begin block) state f old new result) (sym hollow)
+    (done_none (Rows block) state next old new is (λ s n site. CarriesOutAlone T (says.Begin block) s (hollow_of n) old site result)
+    (or_out T (says.Begin block) (Idle is.0) (Hollow is.0) old only (line (codes "begun")) (hollows T block old only is.0 is.4) result said))
 
 -- ---- one that has begun is made pending
 

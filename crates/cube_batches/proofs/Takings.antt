@@ -5,11 +5,10 @@ use Rattle.cube_batches.proofs.Names.{◌*◌, ◌++◌, ◌+◌, ◌<◌, ◌�
 use Rattle.cube_batches.proofs.Names.{BeginFault, BeginStop, Begun, Belongs, Between, CallsOnly, CarriesOut, Disk, Empty, Err, Fact, Files, Forest, Ghosts, Given, Global, HasBegun, HoldsNow}
 use Rattle.cube_batches.proofs.Names.{Hollow, Idle, IfSome, IsBack, IsBatchFor, IsFitting, IsLive, IsOpened, IsRead, IsReady, IsRefreshOf, IsStable, IsStoreOf, IsTrue, Keeps, KeepsFacts, Kept}
 use Rattle.cube_batches.proofs.Names.{LeavesOnly, List, None, NotRead, Nothing, Ok, OnlyNow, OnlyRefuses, Option, Pending, Read, Refused, RefusesBy, RefusesGiven, Result, RunsOn, Schema, Some}
-use Rattle.cube_batches.proofs.Names.{Stands, StandsAt, State, Stop, Store, Taken, TakesIn, TellsLimit, Vec, Warehouse, World, [], act, answer_by, ap, arith, batch_from, begin_stop, begins}
+use Rattle.cube_batches.proofs.Names.{Stands, StandsAt, State, Stop, Store, Taken, TakesIn, TellsLimit, Vec, Warehouse, World, [], act, answer_by, ap, arith, batch_from, begin_stop}
 use Rattle.cube_batches.proofs.Names.{bytes_after, codes, forest_moves, given_to, goes_nowhere, holds_to, inl, inr, last_behind, length, line, moves_made, next_side, nothing_added, refl}
-use Rattle.cube_batches.proofs.Names.{refusal_of, refusal_text, runs_out, says, slice_index, spends_more, stable_holds, still, stopped, subst, sym, take, take_over, unharmed, unless, wider}
-use Rattle.cube_batches.proofs.Names.{written, ℕ}
-use Rattle.cube_batches.proofs.{Limits.none_refused, Limits.one_refused, Calls.answered_by, Sources.answer_batch, Sources.answer_read}
+use Rattle.cube_batches.proofs.Names.{refusal_of, refusal_text, runs_out, says, slice_index, spends_more, stable_holds, stopped, subst, sym, take, take_over, unharmed, unless, wider, written, ℕ}
+use Rattle.cube_batches.proofs.{Limits.none_refused, Limits.one_refused, Calls.answered_by, Calls.rests, Sources.answer_batch, Sources.answer_read}
 
 -- ---- the store, the refresh and the warehouse
 
@@ -30,10 +29,13 @@ module _ (store : Store) (old new : Disk) (warehouse : Warehouse) (is : Belongs 
   -- at every moment the files keep what they kept
   pub begin_moments : (world next : World) → world.kept ≡ Some warehouse
       → LeavesOnly old new (λ told files. (told ≡ old.told) × KeepsFacts store.forest.schema warehouse.facts store.forest.body.last files) → Between old new world next
-  begin_moments world next kept run = wider old new _ _ (λ told files both. (both.0, inl (subst (Keeps files) (sym kept) (record {
-    lawful = is.lawful;
-    kept = subst (λ (k : Schema × ℕ). KeepsFacts k.0 warehouse.facts k.1 files) (λ i. (is.schema i, is.last i)) both.1;
-  })))) run
+  begin_moments world next kept run = wider old new _ _ (λ told files both. (
+    both.0,
+    inl (subst (Keeps files) (sym kept) (record {
+      lawful = is.lawful;
+      kept = subst (λ (k : Schema × ℕ). KeepsFacts k.0 warehouse.facts k.1 files) (λ i. (is.schema i, is.last i)) both.1;
+    })),
+  )) run
 
   -- it has begun
   pub begin_attends : (batch : List Fact) (number : Option ℕ) (r : Begun) → r.store.forest ≡ store.forest → r.next.last ≡ last_behind store.forest.body.last number
@@ -224,18 +226,13 @@ module _ {S : Type 0} (T : Ghosts S) (source : BatchSource) (store : Store) (bat
       let here : refusal_text store.forest.schema fault.why ≡ Some reply.items = subst (λ (f : Forest). refusal_text f.schema fault.why ≡ Some reply.items) back.forest refused in
       let by : RefusesBy (Idle store) source reply.items = subst (λ (g : Given). RefusesGiven store g reply.items) (sym given) (some, (fault.why, here)) in
       subst (λ (s : S). CarriesOut T command (Idle store) (Idle fault.store) old s cache cache (Ok reply)) (sym (unchanged (no_fault store.forest.schema fault.why reply.items here)))
-      (still T command sends.none_asked (Idle store) (Idle fault.store) old only cache ready reply (record {
-        answer = λ t world stands. answered_by (T.disk old) (act world command) (world, reply.items) (Idle fault.store) reply.items
-            (sends.acts world ∙ answer_batch world source (sends.after world) stands.0 stands.1 batch last (Some reply.items) (read_by_world world stands)
-            (by_limit store (T.disk old) stands.0 batch fault.why stands.2 agree (limit stands.0.facts (T.disk old).files stands.2.stored.read) reply.items here))
-            (stands.0, stands.1, back_belongs store fault.store back (T.disk old) stands.0 stands.2) refl;
-        moved = λ t world stands. sym (sends.moves world 0);
-        uncalled = λ t world stands none. refl;
-        answered = λ t. sends.refuses (Idle store) (T.disk old).files reply.items by;
-        runs = back_runs store fault.store back T old ready.runs;
-        made = λ no. sym (sends.alone 0);
-        said = λ alone files. sends.refuses (Idle store) files reply.items by;
-      }) (ap (λ (f : Forest). Some f.body) back.forest))
+      (rests T command sends.none_asked (Idle store) (Idle fault.store) old only reply
+      (λ t world stands. answered_by (T.disk old) (act world command) (world, reply.items) (Idle fault.store) reply.items
+      (sends.acts world ∙ answer_batch world source (sends.after world) stands.0 stands.1 batch last (Some reply.items) (read_by_world world stands)
+      (by_limit store (T.disk old) stands.0 batch fault.why stands.2 agree (limit stands.0.facts (T.disk old).files stands.2.stored.read) reply.items here))
+      (stands.0, stands.1, back_belongs store fault.store back (T.disk old) stands.0 stands.2) refl)
+      (λ world stands. sym (sends.moves world 0)) (λ files. sends.refuses (Idle store) files reply.items by) (back_runs store fault.store back T old) (sym (sends.alone 0))
+      (ap (λ (f : Forest). Some f.body) back.forest) cache ready)
 
   -- none is
   pub starts_not : Begins T store old new (Err fault) → (next : State) (stop : Stop) → stop ≡ begin_stop fault.why → Answers T source (Idle store) next old new (Err stop)

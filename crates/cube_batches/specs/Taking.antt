@@ -1,5 +1,5 @@
 -- What becomes of the batch of a source.
-use Rattle.std.specs.Prelude.{◌≡◌, ◌<◌, ◌≤◌, ◌+◌, ◌%◌, ℕ, List, [], ◌++◌, IsTrue, codes, length, None, Option, Some, Result, Ok, Err}
+use Rattle.std.specs.Prelude.{◌≡◌, ◌<◌, ◌≤◌, ◌+◌, ◌%◌, ℕ, List, [], ◌++◌, IsTrue, codes, length, None, Some, Result, Ok, Err}
 use Rattle.site_core.specs.Disk.{Files}
 use Rattle.site_core.specs.declared.site.Site.{Ghosts}
 use Rattle.attr_dict.specs.Admitting.{names_with}

@@ -13,8 +13,8 @@ returns-in-Refused g c = record { carried = (rw c.in-Refused.is at c.in_ok-reply
 
 pub returns-in-Empty : goal.returns-in-Empty
 returns-in-Empty g c = record {
-  carried = loads_none g.T.Site c.args.source c.args.state.now c.take_in.new.state c.args.site.now c.take_in.new.site c.args.pages.now (λ t told files. g.met.T.Site.only_now c.args.site.now told files t)
-      (rw c.in-Empty.is at c.in_ok-reply.ensures.takes) c.requires.ready c.acknowledge.result c.acknowledge.ensures;
+  carried = loads_none g.T.Site c.args.source c.args.state.now c.take_in.new.state c.args.site.now c.take_in.new.site (λ t told files. g.met.T.Site.only_now c.args.site.now told files t)
+      (rw c.in-Empty.is at c.in_ok-reply.ensures.takes) c.acknowledge.result c.acknowledge.ensures c.args.pages.now c.requires.ready;
 }
 
 pub returns-in-Begun : goal.returns-in-Begun

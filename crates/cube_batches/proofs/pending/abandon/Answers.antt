@@ -1,6 +1,6 @@
 use Rattle.script_lang.specs.declared.command.Command.TheVariants as says
 use Rattle.cube_batches.proofs.Names.{runs_out_as}
-use Rattle.cube_batches.proofs.Ends.{abandons, memory_as}
+use Rattle.cube_batches.proofs.{Calls.memory_as, Ends.abandons}
 use Rattle.cube_batches.proofs.pending.abandon.Goals as goal
 
 pub returns-in_err-reply : goal.returns-in_err-reply

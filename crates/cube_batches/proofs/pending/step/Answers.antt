@@ -1,6 +1,6 @@
 use Rattle.script_lang.specs.declared.command.Command.TheVariants as says
 use Rattle.cube_batches.proofs.Names.{◌≡◌, CarriesOutAlone, Ok, Pending, Reply, State, at_error, codes, pending_line, refresh_stop, runs_out_as, subst, sym}
-use Rattle.cube_batches.proofs.Ends.{memory_as, moves_not, moves_on, steps_none}
+use Rattle.cube_batches.proofs.{Calls.memory_as, Ends.moves_not, Ends.moves_on, Ends.steps_none}
 use Rattle.cube_batches.proofs.pending.step.Goals as goal
 
 pub returns-in_err-reply : goal.returns-in_err-reply
@@ -11,7 +11,7 @@ returns-in_err-reply g c = record {
 
 pub returns-in_default : goal.returns-in_default
 returns-in_default g c = record {
-  carried = steps_none g.T.Site c.args.moves c.args.site.now c.args.state.now (λ t told files. g.met.T.Site.only_now c.args.site.now told files t) c.in_default.not-Pending c.in_ok-reply.reply
+  carried = steps_none g.T.Site c.args.moves c.args.site.now (λ t told files. g.met.T.Site.only_now c.args.site.now told files t) c.in_ok-reply.reply c.args.state.now c.in_default.not-Pending
       c.in_ok-reply.ensures;
 }
 

@@ -1,6 +1,6 @@
 use Rattle.cube_state.specs.declared.stop.Stop.TheVariants as stops
 use Rattle.cube_batches.proofs.Names.{◌≡◌, Ok, Refused, RunsOn, State, TakesIn, arith, at_error, length, nat_tests, refl, subst, sym}
-use Rattle.cube_batches.proofs.{Ends.memory_as, Takings.batch_given, Takings.busy_refuses, Takings.empty_given, Takings.empty_refuses, Takings.source_refuses, Takings.wants}
+use Rattle.cube_batches.proofs.{Calls.memory_as, Takings.batch_given, Takings.busy_refuses, Takings.empty_given, Takings.empty_refuses, Takings.source_refuses, Takings.wants}
 use Rattle.cube_batches.proofs.taking.take_in.Goals as goal
 
 pub returns-in_err-reply : goal.returns-in_err-reply
