@@ -11,13 +11,13 @@ use Rattle.forest_root.specs.declared.forest.Store.{Store}
 use Rattle.forest_root.specs.Keeps.{IsBodyOf}
 use Rattle.forest_commit.specs.Commit.{IsLiveNow, slot_of}
 use Rattle.forest_pages.specs.Forest.{forest as forest_bytes}
-use Rattle.forest_store.specs.Held.{AreAccepted, IsLive, KeepsFacts, held}
+use Rattle.forest_store.specs.Held.{IsLive, KeepsFacts, held}
 use Rattle.forest_store.specs.Stored.{IsStoreOf, IsWhole}
 use Rattle.forest_store.proofs.Places.{selection}
 use Rattle.forest_store.proofs.Schemas.{few_views}
 use Rattle.forest_store.proofs.Standing.{live_now}
 use Rattle.forest_store.proofs.Storable.{storable}
-use Rattle.forest_refresh.specs.Begun.{Begun, HasMoved, IsBegun, IsGoing, IsNext, IsNextBody, IsNextStore, IsRefreshOf, batch_size, next_side}
+use Rattle.forest_refresh.specs.Begun.{Begun, HasMoved, IsBegun, IsGoing, IsNext, IsNextBody, IsRefreshOf, batch_size, next_side}
 use Rattle.forest_refresh.specs.Next.{HasNumbers, counts_from}
 use Rattle.forest_refresh.specs.Progress.{Progress}
 use Rattle.forest_refresh.specs.Refreshed.{KeepsEither}

@@ -1,5 +1,5 @@
 //! A refresh that has begun, and how it ends.
-ghost use Rattle.std.specs.Prelude.{◌≡◌, ◌≢◌, ◌⊎◌, [], ◌<◌, ◌≤◌, ◌+◌, ◌-◌, ◌%◌, ◌++◌, ℕ, IsTrue, IfOk, IfErr, IfSome, OnOk, List, length, min, slice_index, vec_capacity};
+ghost use Rattle.std.specs.Prelude.{◌≡◌, ◌≢◌, ◌⊎◌, [], ◌<◌, ◌≤◌, ◌+◌, ◌-◌, ◌%◌, ◌^◌, ◌++◌, ℕ, IsTrue, IfOk, IfErr, IfSome, OnOk, List, length, min, slice_index, vec_capacity};
 ghost use Rattle.site_core.specs.Disk.{Files};
 ghost use Rattle.site_core.specs.Causes.{HasCause};
 ghost use Rattle.site_core.specs.Moments.{HoldsNow, IsStable, LeavesOnly};
@@ -21,6 +21,7 @@ ghost use Rattle.forest_refresh.specs.Limits.{IsBatchOf, TellsLimit};
 ghost use Rattle.forest_refresh.specs.Next.{body_as, last_behind};
 ghost use Rattle.packing.specs.Moves.{KeepsTo};
 ghost use Rattle.merge_pack.specs.Standing.{moves_tried};
+ghost use Rattle.merge_pack.specs.Stepping.{MakesAtMost};
 ghost use Rattle.forest_refresh.specs.Prepared.{begun_with};
 ghost use Rattle.forest_refresh.specs.Refreshed.{IsNoDamage, KeepsEither, NamesPageIn, SparesLive};
 ghost use Rattle.forest_refresh.specs.Trees.{AreAllWhole, TellsFirstDamage, deltas_by};
@@ -38,6 +39,9 @@ use forest_root::{Body, Store};
 use site_core::{Fault, Site};
 use std::alloc::Global;
 use std::marker::Model;
+
+/// More moves than any refresh takes.
+const MOST_MOVES: u64 = 1 << 60;
 
 /// A batch that is being taken in. Its points are made and its names have codes; the files keep the facts without it.
 #[derive(Drop)]
@@ -207,6 +211,8 @@ impl Refresh {
         ensures place { IfErr result (NamesPageIn self.old.store.forest.body self.old.store.forest.schema) }
         ensures told { IsTrue T.tells → (T.disk site.new).told ≡ (T.disk site.old).told }
         ensures calls { Calls T.Site (HasCauseWhere RefreshStop.Disk) (page_total self.old.store.forest.body self.old.store.forest.schema) site.old site.new result }
+        // One call a move.
+        ensures once { MakesAtMost (moves_tried moves result) (T.reads site.old, T.writes site.old) (T.reads site.new, T.writes site.new) }
     {
         let store = &self.store;
         let side = slot(&self.next);
@@ -253,6 +259,8 @@ impl Refresh {
         ensures next { IfOk result (IsNextStore self) }
         ensures told { IsTrue T.tells → (T.disk site.new).told ≡ (T.disk site.old).told }
         ensures calls { Calls T.Site (HasCauseWhere RefreshStop.Disk) (page_total self.store.forest.body self.store.forest.schema) site.old site.new result }
+        // One call a move, and three writes of the commit.
+        ensures once { MakesAtMost (2 ^ 60 + 3) (T.reads site.old, T.writes site.old) (T.reads site.new, T.writes site.new) }
     {
         let mut refresh = self;
         match refresh.end(site) {
@@ -292,8 +300,9 @@ impl Refresh {
         ensures stable { IsTrue T.tells → OnOk result (IsStable (T.disk site.new)) }
         ensures told { IsTrue T.tells → (T.disk site.new).told ≡ (T.disk site.old).told }
         ensures calls { Calls T.Site (HasCauseWhere RefreshStop.Disk) (page_total self.old.store.forest.body self.old.store.forest.schema) site.old site.new result }
+        ensures once { MakesAtMost (2 ^ 60 + 3) (T.reads site.old, T.writes site.old) (T.reads site.new, T.writes site.new) }
     {
-        self.step(site, u64::MAX)?;
+        self.step(site, MOST_MOVES)?;
         let store = &self.store;
         let counts = view_counts(&store.forest, &self.room.rows);
         let next = Body {

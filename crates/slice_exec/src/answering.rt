@@ -12,7 +12,7 @@ ghost use Rattle.page_cache.specs.Keeping.{Agrees, HasRoom, Keeps, LiesIn, unkep
 ghost use Rattle.slice_lang.specs.Agreeing.{SliceAgrees};
 ghost use Rattle.view_route.specs.Routes.{IsCovering, IsRoute};
 ghost use Rattle.view_rows.specs.Grouped.{HasForm};
-ghost use Rattle.slice_exec.specs.Answers.{IsJudged, IsNoDamage, IsUncovered, NamesSide, tree_of_view, visits_of};
+ghost use Rattle.slice_exec.specs.Answers.{IsJudged, IsNoDamage, IsUncovered, NamesSide, rows_told, tree_of_view, visits_of};
 ghost use Rattle.slice_exec.specs.Costs.{visits_over};
 
 use crate::finding::find;
@@ -131,19 +131,26 @@ fn answer_from<'a, T: Site>(
     let attrs = store.forest.schema.views.as_slice()[view as usize].as_slice();
     let mut groups = Groups::new(alloc, attrs, slice.group.as_slice());
     find(alloc, site, pages, store, slice, view, &mut groups)?;
-    match groups.rows(alloc, &store.dicts, attrs, slice) {
-        Ok(rows) => Ok(rows),
-        Err(RowsStop::Damaged) => Err(bad_side(&store.forest)),
-        Err(RowsStop::Memory) => Err(AnswerStop::Memory),
-    }
+    told(
+        groups.rows(alloc, &store.dicts, attrs, slice),
+        &store.forest,
+    )
 }
 
-/// The live side is not what the warehouse writes, at no page that can be named.
-fn bad_side(forest: &Forest) -> AnswerStop
-    ensures { result ≡ AnswerStop.Damaged (2 + forest.now.body.generation % 2) 0 }
+/// The rows, or why there are none: where they are not those of facts the live side is not what the warehouse writes, at no page that can
+/// be named.
+fn told<'a>(
+    rows: Result<SliceRows<'a>, RowsStop>,
+    forest: &Forest,
+) -> Result<SliceRows<'a>, AnswerStop>
+    ensures { result ≡ rows_told forest.now.body rows.entry }
 {
-    AnswerStop::Damaged {
-        file: SIDES + (forest.body.generation % 2) as u32,
-        offset: 0,
+    match rows {
+        Ok(rows) => Ok(rows),
+        Err(RowsStop::Damaged) => Err(AnswerStop::Damaged {
+            file: SIDES + (forest.body.generation % 2) as u32,
+            offset: 0,
+        }),
+        Err(RowsStop::Memory) => Err(AnswerStop::Memory),
     }
 }

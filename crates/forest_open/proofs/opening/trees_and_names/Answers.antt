@@ -1,7 +1,7 @@
-use Rattle.std.proofs.Common.{◌≡◌, ◌∙◌, true, length, drop, sym}
+use Rattle.std.proofs.Common.{◌∙◌, length, drop, sym}
 use Rattle.std.specs.Prelude.{◌==◌, ◌&&◌}
 use Rattle.std.specs.List.{list_all}
-use Rattle.forest_open.specs.Opening.{is_of_schema, is_zero}
+use Rattle.forest_open.specs.Opening.{is_zero}
 use Rattle.forest_open.proofs.opening.trees_and_names.Goals as goal
 
 pub returns-in-Ok-select-clause-read : goal.returns-in-Ok-select-clause-read

@@ -1,6 +1,7 @@
-use Rattle.std.proofs.Common.{◌≡◌, ◌∙◌, ◌≤◌, ◌++◌, IfOk, OnOk, length, sym, ap, subst, arith}
+use Rattle.std.proofs.Common.{◌≡◌, ◌∙◌, ◌+◌, ◌^◌, ◌++◌, IfOk, OnOk, length, sym, ap, subst, arith}
 use Rattle.site_core.specs.Disk.{DiffersPast}
 use Rattle.site_core.specs.Moments.{HoldsNow, LeavesOnly}
+use Rattle.merge_pack.proofs.Spending.{calls-more}
 use Rattle.forest_store.specs.Held.{IsLive}
 use Rattle.forest_refresh.specs.declared.refresh.Refresh.TheInside.{Inside}
 use Rattle.forest_refresh.specs.Begun.{Begun, HasMoved, IsGoing, IsNextBody, IsRefreshOf, moves_of, next_side}
@@ -115,3 +116,15 @@ returns-clause-joined g c = λ t.
       | in-Ok w ↦ subst (λ result. OnOk result (AreAllWhole c.args.self.now.store.forest old c.args.self.now.deltas)) (sym w.result-is) whole
       | in-Err w ↦ subst (λ result. OnOk result (AreAllWhole c.args.self.now.store.forest old c.args.self.now.deltas)) (sym w.result-is) tt
     ]
+
+-- ---- one call a move, and three of the commit
+
+pub returns-in_err-step-clause-once : goal.returns-in_err-step-clause-once
+returns-in_err-step-clause-once g c = calls-more (2 ^ 60) 0 (2 ^ 60 + 3) _ _ _ (omega arith) c.in_err-step.ensures.once (record { reads = omega arith; writes = omega arith; both = omega arith })
+
+pub returns-clause-once : goal.returns-clause-once
+returns-clause-once g c =
+    let step = c.in_ok-step.ensures in
+    let calls = c.commit.ensures.calls in
+    calls-more c.in_ok-step.field-0 3 (2 ^ 60 + 3) _ _ _ (omega (arith, step.limit.0)) step.once
+    (record { reads = omega (arith, calls.reads); writes = omega (arith, calls.writes); both = omega (arith, calls.reads, calls.writes) })
