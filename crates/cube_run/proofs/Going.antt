@@ -3,14 +3,16 @@ use Rattle.std.proofs.Common.{◌≡◌, ◌∙◌, ◌++◌, ℕ, IsTrue, false
 use Rattle.std.proofs.Common.{length-append, arith}
 use Rattle.cube_run.proofs.Names.{Answers, AnswersByWorld, Cache, CarriesOn, Command, Cost, CostTogether, Costs, Disk, Files, Finished, Ghosts, Gives, HasGone, HasMovedTo, HasReplied, HasStopped}
 use Rattle.cube_run.proofs.Names.{IsErrAnd, IsFirstWhole, IsLeft, IsWithin, Keeps, OnlyNow, Onward, Reading, Reads, Replied, RepliesTo, Runs, Spends, StandsFor, State, Stop, World, act, at_rest}
-use Rattle.cube_run.proofs.Names.{carried_command, carried_start, carried_then, during, joined, made_behind, made_from, moves_for, moves_made, one_costs, ready, stands_left, stands_moved}
+use Rattle.cube_run.proofs.Names.{carried_command, carried_start, carried_then, during, joined, one_costs, ready, stands_left, stands_moved}
 use Rattle.cube_run.proofs.Names.{stands_read, started, to_come, whole_with, wider}
 use Rattle.cube_run.proofs.Gives.{gives_some}
 use Rattle.cube_state.specs.declared.stop.Stop.TheVariants as stops
+use Rattle.cube_state.specs.Moves.{Reached, reached_behind, reached_by, reached_from}
+use Rattle.cube_session.specs.Session.{reached_for}
 
 -- what a session that stands tells of the files: what they keep, also after a stop, and the moves made
 stood : (session : Option State) (d : Disk) (w : World) → StandsFor session d w
-    → Keeps d.files w.kept × ((files : Files) → d.may_leave files → Keeps files w.kept) × HasMovedTo d.files w (moves_for session)
+    → Keeps d.files w.kept × ((files : Files) → d.may_leave files → Keeps files w.kept) × HasMovedTo d.files w (reached_for session).made
 stood None d w is = absurd is
 stood (Some state) d w is = (stands_read state d w is, stands_left state d w is, stands_moved state d w is)
 
@@ -48,20 +50,20 @@ module _ {S : Type 0} (T : Ghosts S) where
     any_moment = started _ _ (λ told files left. let now = only told files left in at_rest w cs _ told files now.0 ((stood had _ w stands).1 files now.1));
   }
 
-  spends_left : {old new : S} {now : World} {made : ℕ} {rest : List Command} {all : Cost} → IsLeft T old new now made rest all → Spends T all old new
+  spends_left : {old new : S} {now : World} {reached : Reached} {rest : List Command} {all : Cost} → IsLeft T old new now reached rest all → Spends T all old new
   spends_left is = record { reads = omega (arith, is.reads); writes = omega (arith, is.writes) }
 
   -- one command
-  left_one : (old new : S) (w : World) (made : ℕ) (c : Command) (rest : List Command) (all : Cost) → ((one : Cost) → Costs w made c one → Spends T one old new)
-      → CostTogether w made (c ∷ rest) all → IsLeft T old new (act w c).0 (made_behind w made c) rest all
-  left_one old new w made c rest all call (one_costs one others own more) =
+  left_one : (old new : S) (w : World) (reached : Reached) (c : Command) (rest : List Command) (all : Cost) → ((one : Cost) → Costs w reached c one → Spends T one old new)
+      → CostTogether w reached (c ∷ rest) all → IsLeft T old new (act w c).0 (reached_behind w reached c) rest all
+  left_one old new w reached c rest all call (one_costs one others own more) =
       let spent = call one own in record { left = others; costs = more; reads = omega (arith, spent.reads); writes = omega (arith, spent.writes) }
 
   module _ (c : Command) (w : World) (state : State) (then : Option State) (old new : S) (before after : Cache) (rest : List Command) where
     within_one : (result : Result (Unit {0}) Stop) → AnswersByWorld T c w state then old new before after result → IsWithin T (Some state) w (c ∷ rest) old new
     within_one result is = record {
       any_moment = wider _ _ _ _ (during w c rest _) is.any_moment;
-      cost = λ all costs. spends_left (left_one old new w (moves_made state) c rest all is.cost costs);
+      cost = λ all costs. spends_left (left_one old new w (reached_by state) c rest all is.cost costs);
     }
 
     onward_one : (x : Unit {0}) → AnswersByWorld T c w state then old new before after (Ok x) → Onward T (Some state) then w (c ∷ rest) rest old new
@@ -69,8 +71,8 @@ module _ {S : Type 0} (T : Ghosts S) where
       now = (act w c).0;
       stands = is.stands;
       carried = carried_command w (c ∷ rest) _ w c rest (c ∷ rest) _ _ (carried_start w (c ∷ rest) _ _ refl) refl is.told;
-      moved = ap (λ (m : ℕ). made_from (act w c).0 m rest) (sym is.moved);
-      spent = λ all costs. subst (λ (m : ℕ). IsLeft T old new (act w c).0 m rest all) (sym is.moved) (left_one old new w (moves_made state) c rest all is.cost costs);
+      moved = ap (λ (m : Reached). reached_from (act w c).0 m rest) (sym is.moved);
+      spent = λ all costs. subst (λ (m : Reached). IsLeft T old new (act w c).0 m rest all) (sym is.moved) (left_one old new w (reached_by state) c rest all is.cost costs);
       any_moment = (within_one (Ok x) is).any_moment;
     }
 
@@ -102,7 +104,7 @@ module _ {S : Type 0} (T : Ghosts S) where
     }
 
   -- nothing is left
-  pub onward_done : (had has : Option State) (w : World) (cs : List Command) (old new : S) → Onward T had has w cs [] old new → Finished (T.disk new) w (moves_for had) cs (T.disk old).told
+  pub onward_done : (had has : Option State) (w : World) (cs : List Command) (old new : S) → Onward T had has w cs [] old new → Finished (T.disk new) w (reached_for had) cs (T.disk old).told
   onward_done had has w cs old new is =
       let stands = stood has (T.disk new) is.now is.stands in
       record {

@@ -28,14 +28,14 @@ pub use Rattle.cube_state.proofs.Moves.{stands_moved}
 pub use Rattle.cube_state.proofs.Standing.{stands_left, stands_read}
 pub use Rattle.cube_state.specs.Commands.{CostTogether, Costs, none_cost, one_costs}
 pub use Rattle.cube_state.specs.Costs.{Cost, Spends, both}
-pub use Rattle.cube_state.specs.Moves.{HasMovedTo, made_behind, made_from, moves_made}
+pub use Rattle.cube_state.specs.Moves.{HasMovedTo}
 pub use Rattle.cube_state.specs.Stops.{IsNoDamage, StopCause}
 pub use Rattle.cube_state.specs.declared.state.State.{State}
 pub use Rattle.cube_state.specs.declared.stop.Stop.{Stop}
 pub use Rattle.cube_slices.proofs.Costs.{slice_costs}
 pub use Rattle.cube_session.specs.Costs.{open_cost}
 pub use Rattle.cube_session.specs.Damage.{StopsAt, TellsBreak}
-pub use Rattle.cube_session.specs.Session.{Answers, AnswersByWorld, RepliesTo, Runs, StandsFor, Starts, moves_for}
+pub use Rattle.cube_session.specs.Session.{Answers, AnswersByWorld, RepliesTo, Runs, StandsFor, Starts}
 pub use Rattle.cube_session.specs.declared.session.Session.{Session}
 pub use Rattle.cube_run.specs.Carrying.{CarriesOn, HasGone, HasStopped, Reads}
 pub use Rattle.cube_run.specs.Costs.{CostsRun, opening_and}

@@ -3,34 +3,38 @@ use Rattle.std.proofs.Common.{◌≡◌, ◌≤◌, ◌+◌, ◌∷◌, ℕ, IsT
 use Rattle.cube_run.proofs.Names.{AreValid, BreaksAt, ByEnd, Changes-refl, Command, Cost, CostTogether, Costs, CostsRun, Elapses, EndsAt, EndsForBreak, EndsUnpulled, EndsUntouched, Faults, Files}
 use Rattle.cube_run.proofs.Names.{Gave, Ghosts, HasReplied, Headline, IsNoDamage, IsPastOpening, IsSomeAnd, IsUndamaged, IsUsageOrMemory, Keeps, KeepsLimit, Kept, OnlyNow, Outcome, Place, RunsScript}
 use Rattle.cube_run.proofs.Names.{Serves, Session, Sites, Sources, Spends, Starts, Status, StatusCause, Stays, Stop, StopsAt, TellsBreak, TellsNothing, WordsStop, World, act, bare, both, commands}
-use Rattle.cube_run.proofs.Names.{faults, made_behind, moves_for, none_cost, one_costs, open_cost, opening_and, slice_costs, status_of, stop_of, words_status}
+use Rattle.cube_run.proofs.Names.{faults, none_cost, one_costs, open_cost, opening_and, slice_costs, status_of, stop_of, words_status}
 use Rattle.cube_run.proofs.Moments.{histories_go_on, opened_behind, opened_moments, opening_moments, told_front}
 use Rattle.cube_run.proofs.Statuses.{complete, never, none_told, of_stop, still_closed, stop_cause}
 use Rattle.script_lang.specs.declared.command.Command.TheVariants as says
 use Rattle.cube_state.specs.declared.stop.Stop.TheVariants as stops
 use Rattle.cube_words.specs.declared.words.WordsStop.TheVariants as words
 use Rattle.cube_run.specs.declared.exit.Status.TheVariants.{Done, Usage, Input, Memory, TooLong}
+use Rattle.plain_machine.specs.Keeps.{HasFormat}
+use Rattle.plain_machine.proofs.Formats.{has_format}
+use Rattle.cube_state.specs.Moves.{Reached, reached_behind, unmoved}
+use Rattle.cube_session.specs.Session.{reached_for}
 
 -- ---- what a run may spend
 
 -- each command has a cost
-command_costs : (world : World) (made : ℕ) (command : Command) → (cost : Cost) × Costs world made command cost
-command_costs world made (says.Slice text) = slice_costs world text
-command_costs world made _ = (_, refl)
+command_costs : (world : World) (reached : Reached) (command : Command) → (cost : Cost) × Costs world reached command cost
+command_costs world reached (says.Slice text) = slice_costs reached.format world text
+command_costs world reached _ = (_, refl)
 
 -- and so have all commands together
-costs_together : (world : World) (made : ℕ) (commands : List Command) → (cost : Cost) × CostTogether world made commands cost
-costs_together world made [] = (_, none_cost)
-costs_together world made (command ∷ rest) =
-    let one = command_costs world made command in
-    let others = costs_together (act world command).0 (made_behind world made command) rest in
+costs_together : (world : World) (reached : Reached) (commands : List Command) → (cost : Cost) × CostTogether world reached commands cost
+costs_together world reached [] = (_, none_cost)
+costs_together world reached (command ∷ rest) =
+    let one = command_costs world reached command in
+    let others = costs_together (act world command).0 (reached_behind world reached command) rest in
     (both one.0 others.0, one_costs one.0 others.0 one.1 others.1)
 
-costs_run : {S : Type 0} (T : Ghosts S) (kept : Kept) (commands : List Command) (old new : S) → ((cost : Cost) → CostTogether (bare kept) 0 commands cost → Spends T (opening_and kept cost) old new)
-    → CostsRun T kept commands old new
-costs_run T kept commands old new spends =
-    let all = costs_together (bare kept) 0 commands in
-    record { cost = all.0; together = all.1; spent = spends all.0 all.1 }
+costs_run : {S : Type 0} (T : Ghosts S) (kept : Kept) (commands : List Command) (old new : S) (format : ℕ) → HasFormat (T.disk old).files kept format
+    → ((cost : Cost) → CostTogether (bare kept) (unmoved format) commands cost → Spends T (opening_and kept cost) old new) → CostsRun T kept commands old new
+costs_run T kept commands old new format has spends =
+    let all = costs_together (bare kept) (unmoved format) commands in
+    record { format = format; has = has; cost = all.0; together = all.1; spent = spends all.0 all.1 }
 
 -- what a site knows of each moment
 pub record Laws {B : Type 0} (T : Sites B) : Type 0 where
@@ -64,10 +68,14 @@ module _ {A B : Type 0} (S : Sources A) (T : Sites B) (laws : Laws T) (given : L
       record {
         headline = λ s t kept keeps. head t kept;
         histories = λ s t kept keeps. histories_go_on kept _ _ _ _ _ (laws.read now t) (head t kept);
-        cost = λ s t kept keeps. costs_run T kept _ site now (λ cost costs. record { reads = omega (arith, (opens t kept keeps).1); writes = omega (arith, writes) });
+        cost = λ s t kept keeps. costs_run T kept _ site now (has_format _ kept keeps).0 (has_format _ kept keeps).1 (λ cost costs. record { reads = omega (arith, (opens t kept keeps).1); writes = omega (arith, writes) });
         undamaged = λ t kept keeps. (opens t kept keeps).0;
         complete = λ s t kept keeps valid short. complete status (faults_of S T source site) (faults_of S T source now) (opens t kept keeps).0 cause (λ same. usage same valid) (other TooLong tt);
-        short = λ s t kept keeps. record { left_off = λ same. absurd (other TooLong tt same); cut_off = λ same. absurd (other Input tt same) };
+        short = λ s t kept keeps. record {
+          format = (has_format _ kept keeps).0;
+          has = (has_format _ kept keeps).1;
+          holds = record { left_off = λ same. absurd (other TooLong tt same); cut_off = λ same. absurd (other Input tt same) };
+        };
         broken = broken;
         damaged = λ s t none. damaged t;
         replied = λ s t same. absurd (other Done tt same);
@@ -109,12 +117,12 @@ unopened S {T} laws given most source valid {cache} {site} {now} {stop} is =
 module _ {A B : Type 0} {S : Sources A} {T : Sites B} (laws : Laws T) (given : List (List ℕ)) (valid : AreValid given) {most cache : ℕ} {source next : A} {site mid now : B}
     {session : Session} {status : Status} (is : Starts T cache site mid (Ok session)) (serves : Serves S T session.state most source next mid now status) where
   -- which commands were carried out at such an end
-  outcome : IsTrue S.tells → IsTrue T.tells → (kept : Kept) → Keeps (T.disk site).files kept → (end : Status) → status ≡ end
-      → Outcome (T.disk now) (bare kept) 0 (S.left source) (S.left next) most (T.disk site).told end
-  outcome s t kept keeps end same =
-      subst (λ (m : ℕ). Outcome (T.disk now) (bare kept) m (S.left source) (S.left next) most (T.disk site).told end) is.moved
-      (subst (λ (told : List ℕ). Outcome (T.disk now) (bare kept) (moves_for session.state) (S.left source) (S.left next) most told end) (is.disk t).told
-      (subst (Outcome (T.disk now) (bare kept) (moves_for session.state) (S.left source) (S.left next) most (T.disk mid).told) same (serves.outcome s t (bare kept) (is.opened t kept keeps))))
+  outcome : IsTrue S.tells → IsTrue T.tells → (kept : Kept) → Keeps (T.disk site).files kept → (reached : Reached) → reached_for session.state ≡ reached → (end : Status) → status ≡ end
+      → Outcome (T.disk now) (bare kept) reached (S.left source) (S.left next) most (T.disk site).told end
+  outcome s t kept keeps reached has end same =
+      subst (λ (m : Reached). Outcome (T.disk now) (bare kept) m (S.left source) (S.left next) most (T.disk site).told end) has
+      (subst (λ (told : List ℕ). Outcome (T.disk now) (bare kept) (reached_for session.state) (S.left source) (S.left next) most told end) (is.disk t).told
+      (subst (Outcome (T.disk now) (bare kept) (reached_for session.state) (S.left source) (S.left next) most (T.disk mid).told) same (serves.outcome s t (bare kept) (is.opened t kept keeps))))
 
   done : IsTrue S.tells → status ≡ Done → (S.left next ≡ []) × (IsTrue T.tells → HasReplied (commands (S.left source)) (T.disk mid).told (T.disk now).told)
   done s same = subst (ByEnd _ _ (Unit {0})) same serves.pulled s
@@ -140,7 +148,7 @@ module _ {A B : Type 0} {S : Sources A} {T : Sites B} (laws : Laws T) (given : L
       let run = opened_moments (T.disk site) (T.disk mid) (T.disk now) (bare kept) (commands (S.left source)) (is.disk t).told (is.disk t).time only commands_run in
       record {
         prefix = told_front _ _ _ _ run (laws.counts now _ _ t run.clock.later (laws.read now t));
-        whole = outcome s t kept keeps Done;
+        whole = λ same. (let from = is.reached t kept keeps in record { format = from.format; has = from.has; holds = outcome s t kept keeps (unmoved from.format) from.holds Done same });
         read = λ same. (done s same).0;
         any_stop = run;
         opened = λ opened. opened_behind (T.disk site) (T.disk mid) (T.disk now) (bare kept) (commands (S.left source)) (is.disk t).told (is.disk t).time only commands_run
@@ -151,13 +159,17 @@ module _ {A B : Type 0} {S : Sources A} {T : Sites B} (laws : Laws T) (given : L
   runs = record {
     headline = run_head;
     histories = λ s t kept keeps. histories_go_on kept _ _ _ _ _ (laws.read now t) (run_head s t kept keeps);
-    cost = λ s t kept keeps. costs_run T kept _ site now (λ cost costs.
-        let spent = (serves.within s t (bare kept) (is.opened t kept keeps)).cost cost (subst (λ (m : ℕ). CostTogether (bare kept) m (commands (S.left source)) cost) (sym is.moved) costs) in
+    cost = λ s t kept keeps. costs_run T kept _ site now (is.reached t kept keeps).format (is.reached t kept keeps).has (λ cost costs.
+        let spent = (serves.within s t (bare kept) (is.opened t kept keeps)).cost cost (subst (λ (m : Reached). CostTogether (bare kept) m (commands (S.left source)) cost) (sym (is.reached t kept keeps).holds) costs) in
         record { reads = omega (arith, is.cost t kept keeps, spent.reads); writes = omega (arith, is.writes, spent.writes) });
     undamaged = λ t kept keeps. serves.undamaged t (bare kept) (is.opened t kept keeps);
     complete = λ s t kept keeps fine short. complete status (faults_of S T source site) (faults_of S T next now) (serves.undamaged t (bare kept) (is.opened t kept keeps)) caused no_usage
         (λ same. absurd (omega (arith, short, (limited s).too_long.0 same)));
-    short = λ s t kept keeps. record { left_off = outcome s t kept keeps TooLong; cut_off = outcome s t kept keeps Input };
+    short = λ s t kept keeps. (let from = is.reached t kept keeps in let ends = outcome s t kept keeps (unmoved from.format) from.holds in record {
+      format = from.format;
+      has = from.has;
+      holds = record { left_off = ends TooLong; cut_off = ends Input };
+    });
     broken = λ t fine place breaks. absurd (is.broken t place breaks).1;
     damaged = λ s t none. none_told (T.disk site).files (stop_of status) (serves.unpulled s none);
     replied = λ s t same. subst (λ (told : List ℕ). HasReplied (commands (S.left source)) told (T.disk now).told) (is.disk t).told ((done s same).1 t);

@@ -3,12 +3,13 @@ use Rattle.std.proofs.Common.{◌≡◌, ◌≤◌, ◌<◌, ◌+◌, ◌∙◌,
 use Rattle.std.proofs.Common.{length-append, length-take, arith}
 use Rattle.std.proofs.Math.Seq.{take-append_seam}
 use Rattle.cube_run.proofs.Names.{Cache, CarriesOn, Command, Finished, Gave, GaveAtMost, HasGone, HasReplied, HasStopped, IsNoDamage, IsWithin, OnlyNow, PullsInto, Reading, Reads, RoseOnce, Runs}
-use Rattle.cube_run.proofs.Names.{Serves, Sites, Sources, StandsFor, State, Status, Stop, World, commands, fed, fed_whole, feeding_ended, moves_for, none_to_come, none_whole, nothing_read, ready}
+use Rattle.cube_run.proofs.Names.{Serves, Sites, Sources, StandsFor, State, Status, Stop, World, commands, fed, fed_whole, feeding_ended, none_to_come, none_whole, nothing_read, ready}
 use Rattle.cube_run.proofs.Names.{status_of, to_come, whole, with_more}
 use Rattle.cube_run.proofs.Going.{gone_none, gone_then, onward_done, reads_then, stopped_out, stopped_then}
 use Rattle.cube_run.proofs.Statuses.{by_stop, of_stop, stop_cause}
 use Rattle.cube_state.specs.declared.stop.Stop.TheVariants as stops
 use Rattle.cube_run.specs.declared.exit.Status.TheVariants.{Done, Memory, TooLong}
+use Rattle.cube_session.specs.Session.{reached_for}
 
 -- some bytes were taken, and their commands carried out: with those that are left in the source the others are still to come
 pub record HasServed {A B : Type 0} (S : Sources A) (T : Sites B) (had has : Option State) (cache : Cache) (lines : Reading) (taken most : ℕ) (source source_now : A) (site site_now : B) : Type 0 where
@@ -59,7 +60,7 @@ module _ {A B : Type 0} {S : Sources A} {T : Sites B} {had has : Option State} {
   within_is s t world stands = subst (λ (l : List Command). IsWithin T had world l site now) (sym (all_is s)) ((stopped_out so_far.gone).within t world stands _)
 
   -- the commands that were whole are carried out
-  whole_done : IsTrue T.tells → (world : World) → StandsFor had (T.disk site) world → Finished (T.disk now) world (moves_for had) (whole so_far.seen) (T.disk site).told
+  whole_done : IsTrue T.tells → (world : World) → StandsFor had (T.disk site) world → Finished (T.disk now) world (reached_for had) (whole so_far.seen) (T.disk site).told
   whole_done t world stands =
       rw (ap whole (sym (append-nil so_far.seen)) ∙ so_far.reads.whole refl [] ∙ ap (λ (l : List Command). so_far.given ++ l) (none_whole lines so_far.reads.over so_far.none))
       (onward_done T had has world _ site now (so_far.gone.onward t world stands []))
@@ -127,7 +128,7 @@ module _ {A B : Type 0} {S : Sources A} {T : Sites B} {had has : Option State} {
         looked_at = taken;
         within = so_far.few;
         last_pull = omega (arith, past, pulled.bound, piece);
-        finished = subst (λ (l : List ℕ). Finished (T.disk now) world (moves_for had) (whole l) (T.disk site).told)
+        finished = subst (λ (l : List ℕ). Finished (T.disk now) world (reached_for had) (whole l) (T.disk site).told)
             (sym (ap (take taken) (so_far.script s) ∙ ap (λ (n : ℕ). take n (so_far.seen ++ S.left mid)) (sym so_far.count) ∙ take-append_seam so_far.seen (S.left mid))) (whole_done t world stands);
       };
       undamaged = λ t world stands. tt;

@@ -8,7 +8,7 @@ use Rattle.script_lang.specs.declared.command.Command.{Command}
 use Rattle.plain_machine.specs.World.{World}
 use Rattle.plain_machine.specs.Keeps.{Keeps}
 use Rattle.plain_machine.specs.Stages.{replies_from, replies, final, AfterStop}
-use Rattle.cube_state.specs.Moves.{HasMovedTo, made_from}
+use Rattle.cube_state.specs.Moves.{FromFormat, HasMovedTo, Reached, reached_from}
 use Rattle.cube_run.specs.declared.exit.Status.{Status}
 use Rattle.cube_run.specs.declared.exit.Status.TheVariants.{Done, Input, TooLong}
 use Rattle.cube_run.specs.Ends.{IsPastOpening}
@@ -34,19 +34,19 @@ pub record Opened (start now : Disk) (world : World) (commands : List Command) :
       → now.left_since moment told files ⊎ ((told ≡ start.told) × start.may_leave files)
   pub settled : (files : Files) → now.may_leave files → AfterStop world commands start.told now.told files
 
--- all commands were carried out and their replies told, and the files keep what is known behind them; before them so many moves were made
-pub record Finished (now : Disk) (world : World) (made : ℕ) (commands : List Command) (before : List ℕ) : Type 0 where
+-- all commands were carried out and their replies told, and the files keep what is known behind them; this was reached before them
+pub record Finished (now : Disk) (world : World) (reached : Reached) (commands : List Command) (before : List ℕ) : Type 0 where
   pub told : now.told ≡ before ++ replies_from world commands
   pub kept : Keeps now.files (final world commands).kept
   -- of a batch that is pending then the pages of the moves made stand on the side that is not live
-  pub moved : HasMovedTo now.files (final world commands) (made_from world made commands)
+  pub moved : HasMovedTo now.files (final world commands) (reached_from world reached commands).made
 
 -- a run over this script, of which so much is left in the source, from this world
 pub record Headline (world : World) (script left : List ℕ) (start now : Disk) (status : Status) : Type 0 where
   -- the told bytes are a front of the replies
   pub prefix : TellsFront (replies world script) start.told now.told
   -- at Done all replies were told, the files as read keep the last world, and the script was read to its end
-  pub whole : status ≡ Done → Finished now world 0 (commands script) start.told
+  pub whole : status ≡ Done → FromFormat start.files world.kept (λ reached. Finished now world reached (commands script) start.told)
   pub read : status ≡ Done → left ≡ []
   -- a stop at any moment leaves a front of the replies, and files that keep what is acknowledged
   pub any_stop : LeavesOnly start now (AfterRun world (commands script) start)
@@ -55,19 +55,19 @@ pub record Headline (world : World) (script left : List ℕ) (start now : Disk) 
 
 -- A run that passed its limit: the commands that are whole in the bytes before the pull that passed it were carried out, and of
 -- that pull no byte was looked at. A pull gives at most 65,536 bytes.
-pub record LeftOff (now : Disk) (world : World) (made : ℕ) (script : List ℕ) (limit : ℕ) (before : List ℕ) : Type 0 where
+pub record LeftOff (now : Disk) (world : World) (reached : Reached) (script : List ℕ) (limit : ℕ) (before : List ℕ) : Type 0 where
   pub looked_at : ℕ
   pub within : looked_at ≤ limit
   pub last_pull : limit < looked_at + 65536
-  pub finished : Finished now world made (whole (take looked_at script)) before
+  pub finished : Finished now world reached (whole (take looked_at script)) before
 
 -- A run whose source failed: the commands that are whole in the bytes that it gave were carried out, and their replies told.
-pub record CutOff (now : Disk) (world : World) (made : ℕ) (script left before : List ℕ) : Type 0 where
+pub record CutOff (now : Disk) (world : World) (reached : Reached) (script left before : List ℕ) : Type 0 where
   pub given : List ℕ
   pub cut : script ≡ given ++ left
-  pub finished : Finished now world made (whole given) before
+  pub finished : Finished now world reached (whole given) before
 
 -- a run that ended short of its script: past its limit, or where its source failed
-pub record StopsShort (IsEnd : Status → Type 0) (now : Disk) (world : World) (made : ℕ) (script left : List ℕ) (limit : ℕ) (before : List ℕ) : Type 0 where
-  pub left_off : IsEnd TooLong → LeftOff now world made script limit before
-  pub cut_off : IsEnd Input → CutOff now world made script left before
+pub record StopsShort (IsEnd : Status → Type 0) (now : Disk) (world : World) (reached : Reached) (script left : List ℕ) (limit : ℕ) (before : List ℕ) : Type 0 where
+  pub left_off : IsEnd TooLong → LeftOff now world reached script limit before
+  pub cut_off : IsEnd Input → CutOff now world reached script left before

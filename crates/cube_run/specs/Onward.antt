@@ -7,19 +7,19 @@ use Rattle.plain_machine.specs.World.{World}
 use Rattle.plain_machine.specs.Stages.{AfterStop, Carried}
 use Rattle.cube_state.specs.Commands.{CostTogether}
 use Rattle.cube_state.specs.Costs.{Cost, Spends}
-use Rattle.cube_state.specs.Moves.{made_from}
+use Rattle.cube_state.specs.Moves.{Reached, reached_from}
 use Rattle.cube_state.specs.declared.state.State.{State}
-use Rattle.cube_session.specs.Session.{StandsFor, moves_for}
+use Rattle.cube_session.specs.Session.{StandsFor, reached_for}
 
 -- whatever the end, what a stop may leave and what was spent is of these commands
 pub record IsWithin {S : Type 0} (T : Ghosts S) (had : Option State) (world : World) (commands : List Command) (old new : S) : Type 0 where
   pub any_moment : LeavesOnly (T.disk old) (T.disk new) (AfterStop world commands (T.disk old).told)
-  pub cost : (cost : Cost) → CostTogether world (moves_for had) commands cost → Spends T cost old new
+  pub cost : (cost : Cost) → CostTogether world (reached_for had) commands cost → Spends T cost old new
 
 -- of what all commands cost enough is left for the others
-pub record IsLeft {S : Type 0} (T : Ghosts S) (old new : S) (now : World) (made : ℕ) (rest : List Command) (all : Cost) : Type 0 where
+pub record IsLeft {S : Type 0} (T : Ghosts S) (old new : S) (now : World) (reached : Reached) (rest : List Command) (all : Cost) : Type 0 where
   pub left : Cost
-  pub costs : CostTogether now made rest left
+  pub costs : CostTogether now reached rest left
   pub reads : T.reads new + left.reads ≤ T.reads old + all.reads
   pub writes : T.writes new + left.writes ≤ T.writes old + all.writes
 
@@ -28,7 +28,7 @@ pub record Onward {S : Type 0} (T : Ghosts S) (had has : Option State) (world : 
   pub now : World
   pub stands : StandsFor has (T.disk new) now
   pub carried : Carried world commands (T.disk old).told now rest (T.disk new).told
-  -- as many moves will be made in the end
-  pub moved : made_from world (moves_for had) commands ≡ made_from now (moves_for has) rest
-  pub spent : (all : Cost) → CostTogether world (moves_for had) commands all → IsLeft T old new now (moves_for has) rest all
+  -- the same will be reached in the end
+  pub moved : reached_from world (reached_for had) commands ≡ reached_from now (reached_for has) rest
+  pub spent : (all : Cost) → CostTogether world (reached_for had) commands all → IsLeft T old new now (reached_for has) rest all
   pub any_moment : LeavesOnly (T.disk old) (T.disk new) (AfterStop world commands (T.disk old).told)

@@ -9,6 +9,7 @@ use Rattle.script_lang.specs.Script.{commands}
 use Rattle.cube_words.specs.Words.{AreValid}
 use Rattle.plain_machine.specs.Keeps.{Keeps}
 use Rattle.plain_machine.specs.World.{Kept, bare}
+use Rattle.cube_state.specs.Moves.{FromFormat}
 use Rattle.cube_run.specs.Costs.{CostsRun}
 use Rattle.cube_run.specs.Damage.{EndsAt, EndsForBreak}
 use Rattle.cube_run.specs.Ends.{EndsUnpulled, EndsUntouched, IsDoneOrMemory, IsUndamaged, IsUsageOrMemory, StatusCause, faults}
@@ -32,7 +33,7 @@ pub record RunsScript {A B : Type 0} (S : Sources A) (T : Sites B) (words : List
       → ¬ (Rose (S.faults source) (S.faults source_now)) → ¬ (Rose (T.disk_faults site) (T.disk_faults site_now))
       → ¬ (Rose (T.told_faults site) (T.told_faults site_now)) → IsDoneOrMemory status
   pub short : IsTrue S.tells → IsTrue T.tells → (kept : Kept) → Keeps (T.disk site).files kept
-      → StopsShort (λ end. status ≡ end) (T.disk site_now) (bare kept) 0 (S.left source) (S.left source_now) most (T.disk site).told
+      → FromFormat (T.disk site).files kept (λ reached. StopsShort (λ end. status ≡ end) (T.disk site_now) (bare kept) reached (S.left source) (S.left source_now) most (T.disk site).told)
   -- whatever they hold
   pub broken : IsTrue T.tells → AreValid words → (place : Place) → BreaksAt (T.disk site).files place
       → EndsUnpulled T (EndsAt place) status source source_now site site_now

@@ -5,8 +5,9 @@ use Rattle.site_core.specs.declared.site.Site.{Ghosts as Sites}
 use Rattle.site_core.specs.declared.source.Source.{Ghosts as Sources}
 use Rattle.script_lang.specs.Script.{commands}
 use Rattle.plain_machine.specs.World.{World}
+use Rattle.cube_state.specs.Moves.{Reached}
 use Rattle.cube_state.specs.declared.state.State.{State}
-use Rattle.cube_session.specs.Session.{StandsFor, moves_for}
+use Rattle.cube_session.specs.Session.{StandsFor, reached_for}
 use Rattle.cube_run.specs.Ends.{IsUndamaged, StatusCause, faults}
 use Rattle.cube_run.specs.Headline.{CutOff, Finished, LeftOff}
 use Rattle.cube_run.specs.Onward.{IsWithin}
@@ -24,15 +25,15 @@ ByEnd done too_long input Usage = ⊥
 ByEnd done too_long input _ = Unit {0}
 
 -- which commands were carried out then
-abbrev pub Outcome : Disk → World → ℕ → List ℕ → List ℕ → ℕ → List ℕ → Status → Type 0
-Outcome now world made script left most before status =
-    ByEnd (Finished now world made (commands script) before) (LeftOff now world made script most before) (CutOff now world made script left before) status
+abbrev pub Outcome : Disk → World → Reached → List ℕ → List ℕ → ℕ → List ℕ → Status → Type 0
+Outcome now world reached script left most before status =
+    ByEnd (Finished now world reached (commands script) before) (LeftOff now world reached script most before) (CutOff now world reached script left before) status
 
 -- a session that had this served a script of at most so many bytes, or something ended it
 pub record Serves {A B : Type 0} (S : Sources A) (T : Sites B) (had : Option State) (most : ℕ) (source source_now : A) (site site_now : B) (status : Status) : Type 0 where
   pub within : IsTrue S.tells → IsTrue T.tells → (world : World) → StandsFor had (T.disk site) world → IsWithin T had world (commands (S.left source)) site site_now
   pub outcome : IsTrue S.tells → IsTrue T.tells → (world : World) → StandsFor had (T.disk site) world
-      → Outcome (T.disk site_now) world (moves_for had) (S.left source) (S.left source_now) most (T.disk site).told status
+      → Outcome (T.disk site_now) world (reached_for had) (S.left source) (S.left source_now) most (T.disk site).told status
   pub undamaged : IsTrue T.tells → (world : World) → StandsFor had (T.disk site) world → IsUndamaged status
   pub unpulled : IsTrue S.tells → Gave (S.left source) (S.left source_now) 0 → IsUndamaged status
   pub few : IsTrue S.tells → GaveAtMost (S.left source) (S.left source_now) most ⊎ (status ≡ TooLong)

@@ -6,6 +6,7 @@ use Rattle.cube_session.proofs.Names.{declare_over, declared, empty, makes_stage
 use Rattle.cube_session.proofs.Names.{CarriesOut, IsReadyFor, Reply, Cost, Spends, free, IsQuiet, RunsOn, Belongs, Between, KeepsEither, Stands, IsAnswer, IsNoDamage, init_stop, GoesTo, State, Empty}
 use Rattle.cube_session.proofs.Names.{Idle, Stop, ⊎_elim, subst₂}
 use Rattle.cube_session.proofs.Known.{goes_nowhere, some_none}
+use Rattle.cube_state.specs.Moves.{reached_by, unmoved}
 
 -- ---- what the call promises
 
@@ -21,6 +22,7 @@ module _ {S : Type 0} (T : Ghosts S) (schema : Schema) (old new : S) where
     pub any_moment : IsTrue T.tells → LeavesOnly (T.disk old) (T.disk new) (λ told files. (told ≡ (T.disk old).told) × (KeepsNothing files ⊎ KeepsFacts schema [] 0 files))
     pub schema_is : IfOk answer (λ store. store.forest.schema ≡ schema)
     pub first : IfOk answer (λ store. store.forest.body.generation ≡ 0)
+    pub format : IfOk answer (λ store. store.forest.body.format ≡ 1)
     pub last : IfOk answer (λ store. store.forest.body.last ≡ 0)
     pub whole : IfOk answer IsWhole
     pub opened : IsTrue T.tells → IfOk answer (λ store. IsOpened store.forest.body (T.disk new))
@@ -70,8 +72,8 @@ module _ {S : Type 0} (T : Ghosts S) (schema : Schema) (lawful : IsSchema schema
       (record { reads = is.calls.reads; writes = is.calls.writes })
 
   -- it goes to no page
-  no_pages : (P : List ℕ → Type 0) (world : World) (numbers : List ℕ) → GoesTo world its numbers → P numbers
-  no_pages P world numbers goes = absurd (goes_nowhere world.kept its (λ schema. refl) numbers goes)
+  no_pages : (P : List ℕ → Type 0) (world : World) (numbers : List ℕ) → GoesTo 1 world its numbers → P numbers
+  no_pages P world numbers goes = absurd (goes_nowhere 1 world.kept its (λ schema. refl) numbers goes)
 
   -- and makes a call
   called : (P : Type 0) (world : World) → world.kept ≡ None → (act world its).0.kept ≡ world.kept → P
@@ -123,8 +125,10 @@ module _ {S : Type 0} (T : Ghosts S) (schema : Schema) (lawful : IsSchema schema
                 stands = subst (λ (a : Answer). Stands (Idle store) (T.disk new) a.0) (sym (acts world stands.0.kept)) (empty schema, record { kept = refl; pending = stands.0.pending }, belongs t);
                 said = text ∙ ap (λ (a : Answer). a.1) (sym (acts world stands.0.kept));
               } in
+              let moved : reached_by (Idle store) ≡ unmoved 1 = ap unmoved at.format in
               assumption (
                 is,
+                moved,
                 moment t world stands,
                 spends t world stands,
                 called (new ≡ old) world stands.0.kept,

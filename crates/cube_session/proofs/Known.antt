@@ -3,14 +3,15 @@ use Rattle.cube_session.proofs.Names.{is_declared, long_line, open_block, is_unk
 use Rattle.cube_session.proofs.Names.{Disk, Ghosts, Fact, Slice, Schema, Cache, batch_size, Block, Command, line, facts_text, pending_text, act_long_line, act_open_block, act_schema, act_status}
 use Rattle.cube_session.proofs.Names.{act_unknown, Answer, asked_by, asked_over, declare_over, status_over, status_text, Kept, Knows, World, bare, OnlyNow, OnlySays, says_or_out}
 use Rattle.cube_session.proofs.Names.{CarriesOut, IsReadyFor, Reply, SchemaGives, Stands, state_text, GoesFrom, GoesOver, State, Empty, Idle, Hollow, Pending, Stop}
+use Rattle.cube_state.specs.Moves.{format_of}
 
 pub some_none : {A : Type 0} {x : A} → Some x ≡ None → ⊥
 some_none same = absurd (cc)
 
 -- a command that has no slice answered goes to no page
-pub goes_nowhere : (kept : Kept) (command : Command) → ((schema : Schema) → asked_by schema command ≡ None) → (numbers : List ℕ) → GoesFrom kept (asked_over kept command) numbers → ⊥
-goes_nowhere None command none numbers goes = goes
-goes_nowhere (Some warehouse) command none numbers goes = subst (λ (a : Option Slice). GoesOver warehouse.schema warehouse.facts a numbers) (none warehouse.schema) goes
+pub goes_nowhere : (format : ℕ) (kept : Kept) (command : Command) → ((schema : Schema) → asked_by schema command ≡ None) → (numbers : List ℕ) → GoesFrom format kept (asked_over kept command) numbers → ⊥
+goes_nowhere format None command none numbers goes = goes
+goes_nowhere format (Some warehouse) command none numbers goes = subst (λ (a : Option Slice). GoesOver format warehouse.schema warehouse.facts a numbers) (none warehouse.schema) goes
 
 -- ---- how many facts
 
@@ -34,7 +35,7 @@ module _ {S : Type 0} (T : Ghosts S) (state : State) (site : S) where
   status_says = record {
     acts = λ t world stands. act_status world ∙ ap (λ text. (world, text)) (sym (status_known state (T.disk site) world stands));
     moves = λ t world stands. refl;
-    goes = λ t world stands. goes_nowhere world.kept Command.Status (λ schema. refl);
+    goes = λ t world stands. goes_nowhere (format_of state) world.kept Command.Status (λ schema. refl);
     gives = λ files. refl;
     alone = λ none. refl;
   }
@@ -54,7 +55,7 @@ module _ {S : Type 0} (T : Ghosts S) (state : State) (site : S) where
   schema_says block text declares gives = record {
     acts = λ t world stands. act_schema world block ∙ declares world stands;
     moves = λ t world stands. refl;
-    goes = λ t world stands. goes_nowhere world.kept (Command.Schema block) (λ schema. refl);
+    goes = λ t world stands. goes_nowhere (format_of state) world.kept (Command.Schema block) (λ schema. refl);
     gives = λ files. gives;
     alone = λ none. refl;
   }

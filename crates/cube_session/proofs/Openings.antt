@@ -7,6 +7,10 @@ use Rattle.cube_session.specs.Costs.{open_cost}
 use Rattle.cube_session.specs.Session.{Runs, StandsFor, Starts, moves_for, opened_state}
 use Rattle.cube_session.specs.declared.session.Session.{Session}
 use Rattle.cube_session.proofs.Known.{some_none}
+use Rattle.forest_root.specs.Live.{IsLiveBody}
+use Rattle.cube_state.specs.Moves.{FromFormat, reached_by}
+use Rattle.cube_state.proofs.Moves.{live_root}
+use Rattle.cube_session.specs.Session.{reached_for}
 
 -- ---- opening
 
@@ -74,6 +78,16 @@ module _ {S : Type 0} (T : Ghosts S) (old new : S) where
   opened_moves None = refl
   opened_moves (Some store) = refl
 
+  opened_reached : (found : Option Store) → Opens (Ok found) → IsTrue T.tells → (kept : Kept) → Keeps (T.disk old).files kept
+      → FromFormat (T.disk old).files kept (λ reached. reached_by (opened_state found) ≡ reached)
+  opened_reached None is t None keeps = record { format = 1; has = refl; holds = refl }
+  opened_reached None is t (Some warehouse) keeps = absurd (is.warehouse t warehouse.schema warehouse.facts warehouse.last keeps.lawful.schema keeps.lawful.accepted keeps.kept)
+  opened_reached (Some store) is t None keeps = absurd (some_none (is.none t keeps).0)
+  opened_reached (Some store) is t (Some warehouse) keeps =
+      let its = is.warehouse t warehouse.schema warehouse.facts warehouse.last keeps.lawful.schema keeps.lawful.accepted keeps.kept in
+      let live = live_root store.forest.schema store.forest.body warehouse.facts (T.disk new).files its.stored.live in
+      record { format = store.forest.body.format; has = (store.forest.body, subst (λ (f : Files). IsLiveBody store.forest.body (f 0)) (is.disk t).files live, refl); holds = refl }
+
   pub starts : (most : ℕ) (found : Option Store) (session : Session) → Opens (Ok found) → session.state ≡ Some (opened_state found) → session.pages.capacity ≡ most → session.pages.kept ≡ []
       → Starts T most old new (Ok session)
   starts most found session is state capacity empty = record {
@@ -85,6 +99,7 @@ module _ {S : Type 0} (T : Ghosts S) (old new : S) where
     runs = subst (λ (s : Option State). Runs T new s session.pages) (sym state)
         (record { runs = opened_runs found is; fits = λ t. none_fit (live_of (opened_state found)) (T.disk new).files session.pages empty });
     moved = ap moves_for state ∙ opened_moves found;
+    reached = λ t kept keeps. subst (λ (s : Option State). FromFormat (T.disk old).files kept (λ reached. reached_for s ≡ reached)) (sym state) (opened_reached found is t kept keeps);
     cache = capacity;
     empty = empty;
     disk = λ t. assumption (is.disk t);

@@ -4,6 +4,7 @@ use Rattle.cube_session.proofs.Names.{wider, Emits, RoseOnce, Disk, Files, Leave
 use Rattle.cube_session.proofs.Names.{tells_none, Saves, Fits, live_file, live_of, ByWorld, CarriesOut, MayWrite, Costs, Cost, Spends, RunsOn, moves_made, Between, KeepsEither, Stands, GoesTo, State}
 use Rattle.cube_session.proofs.Names.{Stop}
 use Rattle.cube_session.specs.Session.{Answers}
+use Rattle.cube_state.specs.Moves.{format_of, reached_by}
 
 -- ---- what a stop within it leaves
 
@@ -66,10 +67,10 @@ module _ {S : Type 0} (T : Ghosts S) (command : Command) (state next : State) (o
       moment : LeavesOnly (T.disk old) (T.disk new) (Meanwhile world command (T.disk old).told)
       moment = telling world command (T.disk old) (T.disk mid) known.any_moment (T.disk new) next bytes (is.goes_on.quiet.told t) known.answer.stands (same ∙ known.answer.said) (emits t)
 
-      costs : (cost : Cost) → Costs world (moves_made state) command cost → Spends T cost old new
+      costs : (cost : Cost) → Costs world (reached_by state) command cost → Spends T cost old new
       costs cost its = spends_on cost (known.cost cost its)
 
-      saves : (numbers : List ℕ) → GoesTo world command numbers → Saves before (live_file (live_of state)) numbers (T.reads old) (T.reads new)
+      saves : (numbers : List ℕ) → GoesTo (format_of state) world command numbers → Saves before (live_file (live_of state)) numbers (T.reads old) (T.reads new)
       saves numbers goes = subst (λ (n : ℕ). Saves before (live_file (live_of state)) numbers (T.reads old) n) (sym reads) (known.saves numbers goes)
 
     told_on : IsTrue T.tells → (T.disk new).told ≡ (T.disk mid).told ++ bytes → (T.disk new).told ≡ (T.disk old).told ++ reply.items

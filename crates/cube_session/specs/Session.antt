@@ -20,7 +20,7 @@ use Rattle.cube_state.specs.Carried.{IsReadyFor, MayWrite, Spares}
 use Rattle.cube_state.specs.Commands.{Costs, Gives, TellsDamage}
 use Rattle.cube_state.specs.Costs.{Cost, Spends}
 use Rattle.cube_state.specs.Frames.{IsQuiet, StopsFor}
-use Rattle.cube_state.specs.Moves.{made_behind, moves_made}
+use Rattle.cube_state.specs.Moves.{FromFormat, Reached, format_of, moves_made, reached_behind, reached_by, unmoved}
 use Rattle.cube_state.specs.Session.{Stands}
 use Rattle.cube_state.specs.Stops.{IsNoDamage}
 use Rattle.cube_state.specs.Visits.{GoesTo, asks_pages}
@@ -45,6 +45,11 @@ abbrev pub moves_for : Option State → ℕ
 moves_for None = 0
 moves_for (Some state) = moves_made state
 
+-- what it has reached
+abbrev pub reached_for : Option State → Reached
+reached_for None = unmoved 1
+reached_for (Some state) = reached_by state
+
 -- what is live for it
 abbrev pub live_for : Option State → Option Body
 live_for None = None
@@ -68,6 +73,7 @@ pub record Starts {S : Type 0} (T : Ghosts S) (most : ℕ) (old new : S) (result
   pub cost : IsTrue T.tells → (kept : Kept) → Keeps (T.disk old).files kept → T.reads new ≤ T.reads old + open_cost kept
   pub runs : IfOk result (λ session. Runs T new session.state session.pages)
   pub moved : IfOk result (λ session. moves_for session.state ≡ 0)
+  pub reached : IsTrue T.tells → (kept : Kept) → Keeps (T.disk old).files kept → IfOk result (λ session. FromFormat (T.disk old).files kept (λ reached. reached_for session.state ≡ reached))
   pub cache : IfOk result (λ session. session.pages.capacity ≡ most)
   pub empty : IfOk result (λ session. session.pages.kept ≡ [])
   -- nothing is changed, also after an error; where no file failed, a read gives what it gave before
@@ -96,11 +102,11 @@ pub record AnswersByWorld {S : Type 0} (T : Ghosts S) (command : Command) (world
   pub told : OnOk result ((T.disk new).told ≡ (T.disk old).told ++ (act world command).1)
   pub any_moment : LeavesOnly (T.disk old) (T.disk new) (Meanwhile world command (T.disk old).told)
   pub undamaged : IfErr result IsNoDamage
-  pub moved : OnOk result (moves_for has ≡ made_behind world (moves_made state) command)
-  pub cost : (cost : Cost) → Costs world (moves_made state) command cost → Spends T cost old new
+  pub moved : OnOk result (reached_for has ≡ reached_behind world (reached_by state) command)
+  pub cost : (cost : Cost) → Costs world (reached_by state) command cost → Spends T cost old new
   -- a slice reads of its pages those alone that are not kept, where there is room, and keeps them
-  pub saves : (numbers : List ℕ) → GoesTo world command numbers → Saves before (live_file (live_of state)) numbers (T.reads old) (T.reads new)
-  pub keeps : (numbers : List ℕ) → GoesTo world command numbers → OnOk result (KeepsUp before after (live_file (live_of state)) numbers)
+  pub saves : (numbers : List ℕ) → GoesTo (format_of state) world command numbers → Saves before (live_file (live_of state)) numbers (T.reads old) (T.reads new)
+  pub keeps : (numbers : List ℕ) → GoesTo (format_of state) world command numbers → OnOk result (KeepsUp before after (live_file (live_of state)) numbers)
 
 -- the files hold what they may
 pub record AnswersAnyFiles {S : Type 0} (T : Ghosts S) (command : Command) (state : State) (old new : S) (result : Result (Unit {0}) Stop) : Type 0 where

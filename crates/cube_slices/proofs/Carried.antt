@@ -9,6 +9,7 @@ use Rattle.cube_slices.proofs.Names.{Cost, Spends, IsQuiet, Belongs, Stands, IsA
 use Rattle.cube_slices.proofs.Names.{asked_from, asks_pages, is_asked, store_of, State, Empty, Idle, Hollow, Pending, Stop, subst₂, IsUndamaged}
 use Rattle.cube_slices.specs.Told.{Tells, answer_stop}
 use Rattle.cube_slices.proofs.Costs.{none-covers, some-covers}
+use Rattle.cube_state.specs.Moves.{format_in, format_of}
 
 same_in : {A : Type 0} {x y : A} → Some x ≡ Some y → x ≡ y
 same_in is = cc
@@ -59,9 +60,9 @@ spared_all (Err stop) live files = spares_same live files stop
 
 -- ---- it is only answered
 
-goes_nowhere : (kept : Kept) (numbers : List ℕ) → GoesFrom kept None numbers → ⊥
-goes_nowhere None numbers goes = goes
-goes_nowhere (Some warehouse) numbers goes = goes
+goes_nowhere : (format : ℕ) (kept : Kept) (numbers : List ℕ) → GoesFrom format kept None numbers → ⊥
+goes_nowhere format None numbers goes = goes
+goes_nowhere format (Some warehouse) numbers goes = goes
 
 module _ {S : Type 0} (T : Ghosts S) (site : S) (state : State) (text reply : List ℕ) where
   only_says : (k : Option Store) → store_of state ≡ k
@@ -73,7 +74,7 @@ module _ {S : Type 0} (T : Ghosts S) (site : S) (state : State) (text reply : Li
       record {
         acts = λ t world stands. act_slice world text ∙ ap (λ (r : List ℕ). (world, r)) (its world stands).0;
         moves = λ t world stands. refl;
-        goes = λ t world stands numbers goes. goes_nowhere world.kept numbers (subst (λ (a : Option Slice). GoesFrom world.kept a numbers) (its world stands).1 goes);
+        goes = λ t world stands numbers goes. goes_nowhere (format_of state) world.kept numbers (subst (λ (a : Option Slice). GoesFrom (format_of state) world.kept a numbers) (its world stands).1 goes);
         gives = λ files. subst (λ (o : Option Store). SliceGives o files text reply) (sym has) (gives files);
         alone = λ none. refl;
       }
@@ -214,7 +215,7 @@ module _ {S : Type 0} (T : Ghosts S) (old new : S) (state : State) (store : Stor
       asks_slice : asked_slice world its ≡ Some s
       asks_slice = ap (λ (k : Kept). asked_over k its) kept.kept ∙ asked
 
-      pages_over : (numbers : List ℕ) → GoesOver store.forest.schema kept.facts (Some s) numbers → Pages (live_of state) numbers
+      pages_over : (numbers : List ℕ) → GoesOver store.forest.body.format store.forest.schema kept.facts (Some s) numbers → Pages (live_of state) numbers
       pages_over numbers goes =
           let agree = (fitting t).agree in
           let picks = subst (λ (counts : List ℕ). Picks store.forest.schema.views counts s goes.0) (sym kept.stored.live.at.body_is.counts) goes.1 in
@@ -222,15 +223,15 @@ module _ {S : Type 0} (T : Ghosts S) (old new : S) (state : State) (store : Stor
           (subst (Pages (Some store.forest.body)) (same-cost store s goes.0 goes.1.covering.0 kept.facts (T.disk old).files kept.stored ∙ sym goes.2)
           (is.visits t agree goes.0 picks, is.saves t agree goes.0 picks, ends.keeps t agree goes.0 picks))
 
-      pages : (numbers : List ℕ) → GoesFrom world.kept (Some s) numbers → Pages (live_of state) numbers
-      pages numbers goes = pages_over numbers (subst (λ (k : Kept). GoesFrom k (Some s) numbers) kept.kept goes)
+      pages : (numbers : List ℕ) → GoesFrom (format_of state) world.kept (Some s) numbers → Pages (live_of state) numbers
+      pages numbers goes = pages_over numbers (subst₂ (λ (b : Option Body) (k : Kept). GoesFrom (format_in b) k (Some s) numbers) live kept.kept goes)
 
-      goes_to : (numbers : List ℕ) → GoesTo world its numbers → Pages (live_of state) numbers
-      goes_to numbers goes = pages numbers (subst (λ (a : Option Slice). GoesFrom world.kept a numbers) asks_slice goes)
+      goes_to : (numbers : List ℕ) → GoesTo (format_of state) world its numbers → Pages (live_of state) numbers
+      goes_to numbers goes = pages numbers (subst (λ (a : Option Slice). GoesFrom (format_of state) world.kept a numbers) asks_slice goes)
 
-      spends : (cost : Cost) → ReadsFor world its cost → Spends T cost old new
+      spends : (cost : Cost) → ReadsFor (format_of state) world its cost → Spends T cost old new
       spends cost costs =
-          let its = subst (λ (a : Option Slice). ReadsFrom world.kept a cost) asks_slice costs in
+          let its = subst (λ (a : Option Slice). ReadsFrom (format_of state) world.kept a cost) asks_slice costs in
           record { reads = omega (arith, (pages its.0 its.1).0, ap (λ (c : Cost). c.reads) its.2); writes = omega (arith, is.looks.writes) }
 
       reply_is : (act world its).1 ≡ answer_text (rows kept.facts s)
