@@ -1,11 +1,10 @@
 -- Calls one after another, and what they leave of the files.
 use Rattle.cube_state.specs.declared.stop.Stop.TheVariants as stops
 use Rattle.forest_refresh.specs.declared.stop.RefreshStop.TheVariants as ends
-use Rattle.cube_batches.proofs.Names.{◌%◌, ◌+◌, ◌∙◌, ◌≡◌, ◌≢◌, Answer, AreAllWhole, Begun, Between, Body, CarriesOutAlone, ClosesGate, Command, Disk, Err, Fact, Files, ForEach, Forest, Ghosts}
-use Rattle.cube_batches.proofs.Names.{Gives, Global, IsAnswer, IsErrAnd, IsQuiet, IsTrue, KeepsEither, List, None, Ok, OnlyNow, Reply, Result, RunsOn, SaysOnly, Schema, Some, Spares, SparesOthers}
-use Rattle.cube_batches.proofs.Names.{Stands, State, Stop, StopCause, Store, TellsBatchDamage, TellsFirstDamage, TellsRefreshDamage, Vec, World, act, arith, asked_by, deltas_by, joined}
-use Rattle.cube_batches.proofs.Names.{live_of, made_alone, made_behind, moves_made, names_with, next_side, quiet, refl, runs_out, same-first-damage, same-whole, still, subst, sym, wider}
-use Rattle.cube_batches.proofs.Names.{with_file, with_file-other, ℕ}
+use Rattle.cube_batches.proofs.Names.{◌%◌, ◌+◌, ◌∙◌, ◌≡◌, ◌≢◌, Answer, AreAllWhole, Begun, Between, Body, CarriesOutAlone, ClosesGate, Command, Disk, Err, Fact, Files, ForEach, Forest, Ghosts, Gives}
+use Rattle.cube_batches.proofs.Names.{Global, IsAnswer, IsErrAnd, IsQuiet, IsTrue, KeepsEither, List, None, Ok, OnlyNow, Reply, Result, RunsOn, SaysOnly, Schema, Some, Spares, SparesOthers, Stands}
+use Rattle.cube_batches.proofs.Names.{State, Stop, StopCause, Store, TellsBatchDamage, TellsFirstDamage, TellsRefreshDamage, Vec, World, act, arith, asked_by, deltas_by, joined, live_of, made_alone}
+use Rattle.cube_batches.proofs.Names.{made_behind, moves_made, names_with, next_side, quiet, refl, runs_out, same-first-damage, same-whole, still, subst, sym, wider, with_file, with_file-other, ℕ}
 
 -- ---- a reply
 

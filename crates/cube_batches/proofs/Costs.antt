@@ -1,9 +1,9 @@
 -- What a batch costs, for a world.
 use Rattle.script_lang.specs.declared.command.Command.TheVariants as says
 use Rattle.cube_batches.proofs.Names.{◌++◌, ◌+◌, ◌-◌, ◌/◌, ◌<◌, ◌∙◌, ◌∷◌, ◌≡◌, ◌≤◌, AttendsAs, Begun, Fact, Ghosts, KeepsTo, Knows, List, Move, Schema, Some, Spends, Warehouse, World, [], act}
-use Rattle.cube_batches.proofs.Names.{act_finish, ap, arith, body_counts, commit_cost, committed, cond, finish_cost, forest-long, forest_moves, free, length, length-append, load_cost_of}
-use Rattle.cube_batches.proofs.Names.{makes_stage, min, moves_cost, moves_over, mul-div_cancel_left, nat_lt, nat_tests, page_count, page_total, pages_of_all, pending_moves, pending_over}
-use Rattle.cube_batches.proofs.Names.{reads-more, refl, selected, size, step_cost, storable, subst, sym, true, written-more, ℕ}
+use Rattle.cube_batches.proofs.Names.{act_finish, ap, arith, body_counts, commit_cost, committed, cond, finish_cost, forest-long, forest_moves, free, length, length-append, load_cost_of, makes_stage}
+use Rattle.cube_batches.proofs.Names.{min, moves_cost, moves_over, mul-div_cancel_left, nat_lt, nat_tests, page_count, page_total, pages_of_all, pending_moves, pending_over, reads-more, refl}
+use Rattle.cube_batches.proofs.Names.{selected, size, step_cost, storable, subst, sym, true, written-more, ℕ}
 
 -- all facts are more
 pub grows : (facts batch : List Fact) → 0 < length batch → nat_lt (length facts + 1) (length (facts ++ batch) + 1) ≡ true

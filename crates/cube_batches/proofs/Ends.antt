@@ -3,12 +3,12 @@ use Rattle.script_lang.specs.declared.command.Command.TheVariants as says
 use Rattle.cube_state.specs.declared.stop.Stop.TheVariants as stops
 use Rattle.forest_refresh.specs.declared.stop.RefreshStop.TheVariants as ends
 use Rattle.forest_refresh.specs.Refreshed as refreshes
-use Rattle.cube_batches.proofs.Names.{◌+◌, ◌-◌, ◌<◌, ◌∙◌, ◌∷◌, ◌≡◌, ◌≤◌, Answer, Attends, Begun, Belongs, Calls, CarriesOutAlone, Command, Cost, Disk, Empty, Ends, Err, Fact, Files, ForEach}
-use Rattle.cube_batches.proofs.Names.{Forest, Ghosts, Gives, Global, HasCauseWhere, HasNoFact, HoldsNow, Hollow, Idle, IsDropped, IsGoing, IsOpened, IsReady, IsRefreshOf, IsStoreOf, IsTrue}
-use Rattle.cube_batches.proofs.Names.{IsWithout, KeepsFacts, KeepsTo, Kept, Knows, LeavesOnly, List, None, Ok, OnlyNow, Option, Pending, RefreshStop, Result, RunsFor, RunsOn, Schema, SideStays}
-use Rattle.cube_batches.proofs.Names.{Some, Spares, Spends, Stands, StandsAt, State, Store, TellsFirstDamage, Vec, Warehouse, World, [], act, act_abandon, act_finish, act_step, ap, arith}
-use Rattle.cube_batches.proofs.Names.{asked_by, attends_belongs, beside, codes, committed, committed_text, forest_moves, holds_to, length, line, live_of, made_alone, made_behind, min, moves_made}
-use Rattle.cube_batches.proofs.Names.{moves_over, moves_tried, page_total, pending_line, pending_over, refl, refresh_stop, replied, replies_with, spared_stays, stopped, subst, sym, ℕ}
+use Rattle.cube_batches.proofs.Names.{◌+◌, ◌-◌, ◌<◌, ◌∙◌, ◌∷◌, ◌≡◌, ◌≤◌, Answer, Attends, Begun, Belongs, Calls, CarriesOutAlone, Command, Cost, Disk, Empty, Ends, Err, Fact, Files, ForEach, Forest}
+use Rattle.cube_batches.proofs.Names.{Ghosts, Gives, Global, HasCauseWhere, HasNoFact, HoldsNow, Hollow, Idle, IsDropped, IsGoing, IsOpened, IsReady, IsRefreshOf, IsStoreOf, IsTrue, IsWithout}
+use Rattle.cube_batches.proofs.Names.{KeepsFacts, KeepsTo, Kept, Knows, LeavesOnly, List, None, Ok, OnlyNow, Option, Pending, RefreshStop, Result, RunsFor, RunsOn, Schema, SideStays, Some, Spares}
+use Rattle.cube_batches.proofs.Names.{Spends, Stands, StandsAt, State, Store, TellsFirstDamage, Vec, Warehouse, World, [], act, act_abandon, act_finish, act_step, ap, arith, asked_by, attends_belongs}
+use Rattle.cube_batches.proofs.Names.{beside, codes, committed, committed_text, forest_moves, holds_to, length, line, live_of, made_alone, made_behind, min, moves_made, moves_over, moves_tried}
+use Rattle.cube_batches.proofs.Names.{page_total, pending_line, pending_over, refl, refresh_stop, replied, replies_with, spared_stays, stopped, subst, sym, ℕ}
 use Rattle.cube_batches.proofs.{Calls.answered_by, Calls.rests, Calls.side_spares, Costs.finish_answer, Costs.finish_is, Costs.step_made, Costs.step_spends, Takings.begin_moments}
 use Rattle.cube_batches.proofs.{Loads.empty_answer, Committed.refresh_quiet, Committed.refresh_quiet_on, Committed.refresh_tells, Committed.same_damage}
 

@@ -1,9 +1,9 @@
 -- A batch against the limits: what the plain machine makes of it.
 use Rattle.forest_refresh.specs.declared.stop.BeginStop.TheVariants as begins
 use Rattle.cube_batches.proofs.Names.{◌++◌, ◌+◌, ◌<◌, ◌∙◌, ◌∷◌, ◌≡◌, ◌≤◌, Agrees, All, AreAccepted, Attr, BeginStop, Bool, Fact, HasNames, IsSchema, List, None, Option, Schema, Some, TellsLimit}
-use Rattle.cube_batches.proofs.Names.{Warehouse, [], all-agree, ap, append-nil, arith, cases_Bool, cond, fact_limit, false, few_measures, first_full, first_heavy, full_refusal, get_or}
-use Rattle.cube_batches.proofs.Names.{heavy_refusal, inl, inr, length, length-map, mass, mass_limit, mass_past, max_at, max_of, names-past, names_of, nat_le, nat_lt, nat_tests, no_attr, refl}
-use Rattle.cube_batches.proofs.Names.{refusal_of, refusal_text, subst, suc, sym, true, zero, ℕ}
+use Rattle.cube_batches.proofs.Names.{Warehouse, [], all-agree, ap, append-nil, arith, cases_Bool, cond, fact_limit, false, few_measures, first_full, first_heavy, full_refusal, get_or, heavy_refusal}
+use Rattle.cube_batches.proofs.Names.{inl, inr, length, length-map, mass, mass_limit, mass_past, max_at, max_of, names-past, names_of, nat_le, nat_lt, nat_tests, no_attr, refl, refusal_of}
+use Rattle.cube_batches.proofs.Names.{refusal_text, subst, suc, sym, true, zero, ℕ}
 
 -- ---- the first of some items that passes
 

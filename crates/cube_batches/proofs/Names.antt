@@ -1,6 +1,6 @@
 -- The words of other rooms that the proofs here speak in.
-pub use Rattle.std.proofs.Common.{Bool, Err, Global, IfSome, IsTrue, List, None, Ok, Option, Result, Some, Vec, [], ap, append-nil, arith, cond, false, get_or, inl, inr, length, length-append}
-pub use Rattle.std.proofs.Common.{min, refl, subst, suc, sym, take, true, zero, ℕ, ◌%◌, ◌*◌, ◌++◌, ◌+◌, ◌-◌, ◌/◌, ◌<◌, ◌∙◌, ◌∷◌, ◌≡◌, ◌≤◌, ◌⊎◌}
+pub use Rattle.std.proofs.Common.{Bool, Err, Global, IfSome, IsTrue, List, None, Ok, Option, Result, Some, Vec, [], ap, append-nil, arith, cond, false, get_or, inl, inr, length, length-append, min}
+pub use Rattle.std.proofs.Common.{refl, subst, suc, sym, take, true, zero, ℕ, ◌%◌, ◌*◌, ◌++◌, ◌+◌, ◌-◌, ◌/◌, ◌<◌, ◌∙◌, ◌∷◌, ◌≡◌, ◌≤◌, ◌⊎◌}
 pub use Rattle.plain_machine.proofs.Acts.{act_abandon, act_begin, act_finish, act_generate, act_load, act_load_numbered, act_step, nothing_added}
 pub use Rattle.plain_machine.specs.Machine.{Answer, Given, act, asked_by, batch_from, begun, block_read, committed, fact_limit, first_full, first_heavy, full_refusal, heavy_refusal, in_turn, load}
 pub use Rattle.plain_machine.specs.Machine.{pending_over, read_by, refusal_of, replies_with, take_over, unless, with_last, with_number}
@@ -19,28 +19,27 @@ pub use Rattle.fact_model.{specs.Fact.mass, specs.Fact.mass_limit, specs.declare
 pub use Rattle.packing.{proofs.Moves.reads-more, proofs.Moves.written-more, specs.Moves.KeepsTo, specs.Moves.Move, specs.Moves.written}
 pub use Rattle.attr_dict.{proofs.Kept.all-agree, proofs.Kept.names-past, specs.Admitting.names_with}
 pub use Rattle.forest_refresh.proofs.{Rooted.same-first-damage, Rooted.same-whole}
-pub use Rattle.forest_refresh.specs.{Back.BeginCause, Back.IsBack, Begun.Begun, Begun.IsGoing, Begun.IsNextStore, Begun.IsReady, Begun.IsRefreshOf, Begun.StandsAt, Begun.next_side}
-pub use Rattle.forest_refresh.specs.{Limits.TellsLimit, Next.last_behind, Trees.AreAllWhole, Trees.TellsFirstDamage, Trees.deltas_by, declared.stop.BeginFault.BeginFault}
-pub use Rattle.forest_refresh.specs.{declared.stop.BeginStop.BeginStop, declared.stop.RefreshStop.RefreshStop}
+pub use Rattle.forest_refresh.specs.{Back.BeginCause, Back.IsBack, Begun.Begun, Begun.IsGoing, Begun.IsNextStore, Begun.IsReady, Begun.IsRefreshOf, Begun.StandsAt, Begun.next_side, Limits.TellsLimit}
+pub use Rattle.forest_refresh.specs.{Next.last_behind, Trees.AreAllWhole, Trees.TellsFirstDamage, Trees.deltas_by, declared.stop.BeginFault.BeginFault, declared.stop.BeginStop.BeginStop}
+pub use Rattle.forest_refresh.specs.{declared.stop.RefreshStop.RefreshStop}
 pub use Rattle.forest_root.specs.{Forest.pages_of_all, Root.ClosesGate, declared.body.Body.Body, declared.forest.Forest.Forest, declared.forest.Store.Store}
 pub use Rattle.forest_store.proofs.{Schemas.few_measures, Storable.storable}
 pub use Rattle.forest_store.specs.{Held.AreAccepted, Held.HasNames, Held.IsLive, Held.KeepsFacts, Opened.IsOpened, Sides.page_count, Sides.page_total, Stored.IsStoreOf}
 pub use Rattle.plain_machine.specs.{Histories.batch_by, Histories.batch_given, Histories.batch_sent, Histories.batch_with, Histories.number_of, Keeps.IsLawful, Keeps.Keeps, Stages.makes_stage}
 pub use Rattle.plain_machine.specs.{Stages.size, World.Kept, World.Knows, World.Warehouse, World.World, declared.batch_source.BatchSource.BatchSource}
-pub use Rattle.plain_machine.specs.{declared.batch_source.BatchSource.TheVariants.Generator, declared.batch_source.BatchSource.TheVariants.Numbered}
-pub use Rattle.plain_machine.specs.{declared.batch_source.BatchSource.TheVariants.Rows}
+pub use Rattle.plain_machine.specs.{declared.batch_source.BatchSource.TheVariants.Generator, declared.batch_source.BatchSource.TheVariants.Numbered, declared.batch_source.BatchSource.TheVariants.Rows}
 pub use Rattle.cube_state.proofs.{Answering.OnlyNow, Answering.quiet, Cached.live_no_root, Cached.spared_stays, Carried.runs_out, Carried.runs_out_as, Carried.says, Costs.spends_more}
 pub use Rattle.cube_state.proofs.{Looking.quiet_on, Looking.quiet_out, Standing.attends_belongs}
-pub use Rattle.cube_state.specs.{BatchDamage.LoadTells, BatchDamage.TellsBatchDamage, BatchDamage.TellsGivenDamage, BatchDamage.TellsRefreshDamage, Cached.SideStays, Cached.emptied}
-pub use Rattle.cube_state.specs.{Cached.live_file, Cached.live_of, Commands.Costs, Commands.Gives, Commands.HasNoFact, Commands.MakesNoCall, Commands.TellsDamage, Commands.load_of, Costs.Cost}
-pub use Rattle.cube_state.specs.{Costs.Spends, Costs.both, Costs.free, Frames.IsQuiet, Frames.RunsOn, Moves.made_behind, Moves.moves_made, Moves.moves_over, Moves.pending_moves, Session.Attends}
-pub use Rattle.cube_state.specs.{Session.AttendsAs, Session.Belongs, Session.Between, Session.IsAnswer, Session.KeepsEither, Session.Stands, Stops.IsNoDamage, Stops.StopCause, Stops.refresh_stop}
+pub use Rattle.cube_state.specs.{BatchDamage.LoadTells, BatchDamage.TellsBatchDamage, BatchDamage.TellsGivenDamage, BatchDamage.TellsRefreshDamage, Cached.SideStays, Cached.emptied, Cached.live_file}
+pub use Rattle.cube_state.specs.{Cached.live_of, Commands.Costs, Commands.Gives, Commands.HasNoFact, Commands.MakesNoCall, Commands.TellsDamage, Commands.load_of, Costs.Cost, Costs.Spends, Costs.both}
+pub use Rattle.cube_state.specs.{Costs.free, Frames.IsQuiet, Frames.RunsOn, Moves.made_behind, Moves.moves_made, Moves.moves_over, Moves.pending_moves, Session.Attends, Session.AttendsAs}
+pub use Rattle.cube_state.specs.{Session.Belongs, Session.Between, Session.IsAnswer, Session.KeepsEither, Session.Stands, Stops.IsNoDamage, Stops.StopCause, Stops.refresh_stop}
 pub use Rattle.cube_state.specs.{declared.state.State.State, declared.state.State.TheVariants.Empty, declared.state.State.TheVariants.Hollow, declared.state.State.TheVariants.Idle}
 pub use Rattle.cube_state.specs.{declared.state.State.TheVariants.Pending, declared.stop.Stop.Stop}
-pub use Rattle.cube_batches.specs.{Committing.Commits, Committing.Ends, Committing.SaysOnly, Committing.SparesOthers, Committing.fact_count, Dropping.IsDropped, Dropping.IsWithout}
-pub use Rattle.cube_batches.specs.{Dropping.hollow_of, Reading.IsBatchFor, Reading.IsRead, declared.batch.Read.Read, declared.batch.Read.TheVariants.Batch}
-pub use Rattle.cube_batches.specs.{declared.batch.Read.TheVariants.Refused as NotRead, declared.taking.Taken.Taken, declared.taking.Taken.TheVariants.Begun as Began}
-pub use Rattle.cube_batches.specs.{declared.taking.Taken.TheVariants.Empty as Nothing, declared.taking.Taken.TheVariants.Refused}
+pub use Rattle.cube_batches.specs.{Committing.Commits, Committing.Ends, Committing.SaysOnly, Committing.SparesOthers, Committing.fact_count, Dropping.IsDropped, Dropping.IsWithout, Dropping.hollow_of}
+pub use Rattle.cube_batches.specs.{Reading.IsBatchFor, Reading.IsRead, declared.batch.Read.Read, declared.batch.Read.TheVariants.Batch, declared.batch.Read.TheVariants.Refused as NotRead}
+pub use Rattle.cube_batches.specs.{declared.taking.Taken.Taken, declared.taking.Taken.TheVariants.Begun as Began, declared.taking.Taken.TheVariants.Empty as Nothing}
+pub use Rattle.cube_batches.specs.{declared.taking.Taken.TheVariants.Refused}
 pub use Rattle.{page_cache.specs.Giving.Cache, view_points.specs.Codes.names_of, select_map.specs.Views.selected, merge_pack.specs.Standing.moves_tried, forest_moves.specs.Forest.bytes_after}
 pub use Rattle.{forest_moves.specs.Forest.forest_moves, forest_open.proofs.Openings.mass_past, forest_pages.proofs.Scanned.forest-long, forest_pages.specs.Forest.body_counts}
 pub use Rattle.{reply_text.specs.Replies.committed_text, reply_text.specs.Replies.line, script_lang.specs.declared.command.Block.Block, script_lang.specs.declared.command.Command.Command}

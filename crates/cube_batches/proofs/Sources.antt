@@ -1,11 +1,11 @@
 -- What the plain machine makes of the batch of a source, and what is said of each command that sends one.
 use Rattle.script_lang.specs.declared.command.Command.TheVariants as says
-use Rattle.cube_batches.proofs.Names.{◌++◌, ◌+◌, ◌<◌, ◌∙◌, ◌∷◌, ◌≡◌, ◌⊎◌, Answer, BatchSource, BeginGives, Block, Command, Cost, Costs, Empty, Err, Fact, Files, Generator, Given, Gives}
-use Rattle.cube_batches.proofs.Names.{GivesBatch, GivesBegun, GivesGiven, Hollow, Idle, IsFitting, IsRefused, IsStep, IsTakenIn, Kept, Knows, List, LoadGives, MakesNoCall, MayWrite, None}
-use Rattle.cube_batches.proofs.Names.{Numbered, Ok, Option, Pending, RefusesBy, RefusesGiven, Result, Rows, Schema, Sends, Some, State, Store, Warehouse, World, [], act, act_begin, act_generate}
-use Rattle.cube_batches.proofs.Names.{act_load, act_load_numbered, answer_by, ap, arith, asked_by, batch_by, batch_from, batch_given, batch_sent, batch_with, begins, begins_over, begun}
-use Rattle.cube_batches.proofs.Names.{block_read, committed, cond, forest_moves, free, given_to, inl, length, length-append, load, load_cost, load_cost_of, load_of, made_alone, made_behind}
-use Rattle.cube_batches.proofs.Names.{makes_stage, moves_of, nat_lt, number_of, read_by, refl, refusal_of, size, sym, take_over, true, unless, with_last, ℕ}
+use Rattle.cube_batches.proofs.Names.{◌++◌, ◌+◌, ◌<◌, ◌∙◌, ◌∷◌, ◌≡◌, ◌⊎◌, Answer, BatchSource, BeginGives, Block, Command, Cost, Costs, Empty, Err, Fact, Files, Generator, Given, Gives, GivesBatch}
+use Rattle.cube_batches.proofs.Names.{GivesBegun, GivesGiven, Hollow, Idle, IsFitting, IsRefused, IsStep, IsTakenIn, Kept, Knows, List, LoadGives, MakesNoCall, MayWrite, None, Numbered, Ok, Option}
+use Rattle.cube_batches.proofs.Names.{Pending, RefusesBy, RefusesGiven, Result, Rows, Schema, Sends, Some, State, Store, Warehouse, World, [], act, act_begin, act_generate, act_load}
+use Rattle.cube_batches.proofs.Names.{act_load_numbered, answer_by, ap, arith, asked_by, batch_by, batch_from, batch_given, batch_sent, batch_with, begins, begins_over, begun, block_read, committed}
+use Rattle.cube_batches.proofs.Names.{cond, forest_moves, free, given_to, inl, length, length-append, load, load_cost, load_cost_of, load_of, made_alone, made_behind, makes_stage, moves_of, nat_lt}
+use Rattle.cube_batches.proofs.Names.{number_of, read_by, refl, refusal_of, size, sym, take_over, true, unless, with_last, ℕ}
 use Rattle.cube_batches.proofs.Costs.{grows}
 
 -- ---- the commands that take one in at once
