@@ -4,7 +4,9 @@ use Rattle.forest_refresh.specs.declared.stop.RefreshStop.TheVariants as ends
 use Rattle.cube_batches.proofs.Names.{◌%◌, ◌+◌, ◌∙◌, ◌≡◌, ◌≢◌, Answer, AreAllWhole, Begun, Between, Body, CarriesOutAlone, ClosesGate, Command, Disk, Err, Fact, Files, ForEach, Forest, Ghosts, Gives}
 use Rattle.cube_batches.proofs.Names.{Global, IsAnswer, IsErrAnd, IsQuiet, IsTrue, KeepsEither, List, None, Ok, OnlyNow, Reply, Result, RunsOn, SaysOnly, Schema, Some, Spares, SparesOthers, Stands}
 use Rattle.cube_batches.proofs.Names.{State, Stop, StopCause, Store, TellsBatchDamage, TellsFirstDamage, TellsRefreshDamage, Vec, World, act, arith, asked_by, deltas_by, joined, live_of, made_alone}
-use Rattle.cube_batches.proofs.Names.{made_behind, moves_made, names_with, next_side, quiet, refl, runs_out, same-first-damage, same-whole, still, subst, sym, wider, with_file, with_file-other, ℕ}
+use Rattle.cube_batches.proofs.Names.{moves_made, names_with, next_side, quiet, refl, runs_out, same-first-damage, same-whole, still, subst, sym, wider, with_file, with_file-other, ℕ}
+use Rattle.cube_state.specs.Moves.{reached_behind, reached_by}
+use Rattle.cube_state.proofs.Moves.{reached_next}
 
 -- ---- a reply
 
@@ -27,11 +29,11 @@ answered_by disk answer other state reply same stands said = subst (λ (a : Answ
 -- no call is made
 pub rests : {S : Type 0} (T : Ghosts S) (command : Command) → ((schema : Schema) → asked_by schema command ≡ None) → (state next : State) (site : S) → (IsTrue T.tells → OnlyNow (T.disk site))
     → (reply : Vec ℕ Global) → ForEach T state site (λ world. IsAnswer (T.disk site) (act world command) next reply.items) → ((world : World) → Stands state (T.disk site) world
-    → moves_made next ≡ made_behind world (moves_made state) command) → ((files : Files) → Gives state files command reply.items) → (RunsOn T site state → RunsOn T site next)
+    → moves_made next ≡ (reached_behind world (reached_by state) command).made) → ((files : Files) → Gives state files command reply.items) → (RunsOn T site state → RunsOn T site next)
     → moves_made next ≡ made_alone command (moves_made state) → live_of next ≡ live_of state → CarriesOutAlone T command state next site site (Ok reply)
 rests T command none_asked state next site only reply answer moved gives runs made live = λ cache ready. still T command none_asked state next site only cache ready reply (record {
   answer = answer;
-  moved = λ t world it. moved world it;
+  moved = λ t world it. reached_next world command state next live (moved world it);
   uncalled = λ t world it none. refl;
   answered = λ t. gives (T.disk site).files;
   runs = runs ready.runs;

@@ -8,6 +8,9 @@ use Rattle.cube_batches.proofs.Names.{KeepsFacts, KeepsTo, LeavesOnly, List, Ok,
 use Rattle.cube_batches.proofs.Names.{TellsRefreshDamage, Vec, Warehouse, World, [], act, ap, arith, both, committed, committed_text, emptied, fact_count, forest_moves, inl, inr, length}
 use Rattle.cube_batches.proofs.Names.{length-append, onward, page_total, quiet_out, refl, refresh_stop, replied, stable_holds, stopped, subst, sym, unharmed, wider, ℕ}
 use Rattle.cube_batches.proofs.{Calls.answered_by, Calls.says_either, Costs.commit_spends, Costs.pages_read, Takings.all_fine}
+use Rattle.forest_moves.specs.Forest.{forest_moves}
+use Rattle.forest_refresh.specs.Begun.{moves_of}
+use Rattle.cube_state.specs.Moves.{format_in, format_of, unmoved}
 
 -- ---- stops of a refresh
 
@@ -84,7 +87,7 @@ pub record Finishes {S : Type 0} (T : Ghosts S) (r : Begun) (old new : S) (resul
       → LeavesOnly (T.disk old) (T.disk new) (λ told files.
       (told ≡ (T.disk old).told) × refreshes.KeepsEither r.store.forest.schema accepted r.store.forest.body.last (accepted ++ batch) r.next.last files)
   pub cost : IsTrue T.tells → (accepted batch : List Fact) → IsRefreshOf r accepted batch (T.disk old).files
-      → KeepsTo (forest_moves r.store.forest.schema accepted batch) r.progress.taken (length (forest_moves r.store.forest.schema accepted batch))
+      → KeepsTo (moves_of r accepted batch) r.progress.taken (length (moves_of r accepted batch))
       (T.reads old, T.writes old + 3) (T.reads new, T.writes new)
   pub told : IsTrue T.tells → (T.disk new).told ≡ (T.disk old).told
   pub calls : Calls T (HasCauseWhere ends.Disk) (page_total r.store.forest.body r.store.forest.schema) old new result
@@ -101,8 +104,12 @@ module _ {S : Type 0} (T : Ghosts S) (r : Begun) (mid new : S) (before : Cache) 
       record {
         any_moment = for.any_moment new (subst (λ (a : Answer). Between (T.disk mid) (T.disk new) world a.0) (sym for.acts)
             (commit_moments for.last r (T.disk mid) (T.disk new) for.warehouse for.batch for.attends world for.kept (is.any_moment t for.warehouse.facts for.batch adds)));
-        cost = λ cost costs. for.costs cost costs new (commit_spends T mid new r for.warehouse for.batch for.attends (is.cost t for.warehouse.facts for.batch adds.read))
-            (pages_read T mid new r for.warehouse for.batch for.attends is.calls.reads);
+        cost = λ cost costs.
+            let same : r.store.forest.body.format ≡ format_of state = ap format_in (sym to.live) in
+            for.costs cost costs new
+            (subst (λ (f : ℕ). Spends T (commit_cost (forest_moves f f for.warehouse.schema for.warehouse.facts for.batch) r.progress.taken) mid new) same
+            (commit_spends T mid new r for.warehouse for.batch for.attends (is.cost t for.warehouse.facts for.batch adds.read)))
+            (subst (λ (f : ℕ). T.reads new ≤ T.reads mid + page_count f for.warehouse.schema for.warehouse.facts) same (pages_read T mid new r for.warehouse for.batch for.attends is.calls.reads));
       }
 
   -- it stopped
@@ -141,14 +148,14 @@ module _ {S : Type 0} (T : Ghosts S) (r : Begun) (mid new : S) (before : Cache) 
                 record { kept = refl; pending = refl },
                 commit_belongs for.last r (T.disk mid) (T.disk new) for.warehouse for.batch for.attends store next kept (stable t) (opened t),
               ) (said ∙ ap committed_text kept.live.at.body_is.facts));
-          moved = λ t world stands. sym (to.by_world t world stands).moves;
+          moved = λ t world stands. (let for = to.by_world t world stands in ap unmoved (next.format ∙ for.attends.format ∙ ap format_in (sym to.live)) ∙ sym for.moves);
           uncalled = λ t world stands none. absurd ((to.by_world t world stands).calls none);
           answered = gives;
           runs = record { running = next.whole; fit = opened };
           made = λ no. sym to.alone;
           said = λ alone files. absurd (to.reads alone);
         })
-        (onward T command to.none_asked state (Idle store) old new to.writes to.no_live to.no_step before after (next.generation ∙ ap (λ n. n + 1) (sym to.live)) forgets)
+        (onward T command to.none_asked state (Idle store) old new to.writes to.no_live to.no_step before after (next.generation ∙ ap (λ (b : Option Body). generation b + 1) (sym to.live)) forgets)
         (to.quiet new (Ok reply) (refresh_quiet_on T mid new pages is.told store reply is.calls))
 
     wants_room : Commits T r (Idle store) mid new before after (Err stops.Memory)

@@ -4,76 +4,82 @@ use Rattle.cube_batches.proofs.Names.{◌++◌, ◌+◌, ◌-◌, ◌/◌, ◌<�
 use Rattle.cube_batches.proofs.Names.{act_finish, ap, arith, body_counts, commit_cost, committed, cond, finish_cost, forest-long, forest_moves, free, length, length-append, load_cost_of, makes_stage}
 use Rattle.cube_batches.proofs.Names.{min, moves_cost, moves_over, mul-div_cancel_left, nat_lt, nat_tests, page_count, page_total, pages_of_all, pending_moves, pending_over, reads-more, refl}
 use Rattle.cube_batches.proofs.Names.{selected, size, step_cost, storable, subst, sym, true, written-more, ℕ}
+use Rattle.forest_refresh.specs.Begun.{moves_of}
+use Rattle.cube_state.specs.Moves.{Reached, reached_by}
+use Rattle.cube_state.specs.declared.state.State.TheVariants.{Pending}
 
 -- all facts are more
 pub grows : (facts batch : List Fact) → 0 < length batch → nat_lt (length facts + 1) (length (facts ++ batch) + 1) ≡ true
 grows facts batch some = let long = length-append facts batch in grind (arith, nat_tests)
 
 -- the moves of a batch that is not empty
-pub moves_are : (warehouse : Warehouse) (batch : List Fact) → 0 < length batch → moves_over (Some warehouse) (Some batch) ≡ forest_moves warehouse.schema warehouse.facts batch
-moves_are warehouse [] some = absurd (omega (arith, some))
-moves_are warehouse (x ∷ xs) some = refl
+pub moves_are : (format : ℕ) (warehouse : Warehouse) (batch : List Fact) → 0 < length batch → moves_over format (Some warehouse) (Some batch) ≡ forest_moves format format warehouse.schema warehouse.facts batch
+moves_are format warehouse [] some = absurd (omega (arith, some))
+moves_are format warehouse (x ∷ xs) some = refl
 
 -- ---- a batch that is pending
 
 module _ (world : World) (warehouse : Warehouse) (batch : List Fact) (knows : Knows (Some warehouse) (Some batch) world) where
-  pub pending_are : 0 < length batch → pending_moves world ≡ forest_moves warehouse.schema warehouse.facts batch
-  pending_are some = (λ i. moves_over (knows.kept i) (knows.pending i)) ∙ moves_are warehouse batch some
+  pub pending_are : (format : ℕ) → 0 < length batch → pending_moves format world ≡ forest_moves format format warehouse.schema warehouse.facts batch
+  pending_are format some = (λ i. moves_over format (knows.kept i) (knows.pending i)) ∙ moves_are format warehouse batch some
 
   pub finish_answer : act world says.Finish ≡ committed world warehouse batch warehouse.last
   finish_answer = act_finish world ∙ (λ i. pending_over world (λ w b. committed world w b w.last) (knows.kept i) (knows.pending i))
 
   -- it is accepted
-  pub finish_is : 0 < length batch → (made : ℕ) → finish_cost world made ≡ commit_cost (forest_moves warehouse.schema warehouse.facts batch) made
-  finish_is some made =
+  pub finish_is : 0 < length batch → (reached : Reached) → finish_cost world reached ≡ commit_cost (forest_moves reached.format reached.format warehouse.schema warehouse.facts batch) reached.made
+  finish_is some reached =
       let stage : makes_stage world says.Finish ≡ true = (λ i. nat_lt (size (knows.kept i)) (size (finish_answer i).0.kept)) ∙ grows warehouse.facts batch some in
-      (λ i. cond (stage i) (commit_cost (pending_are some i) made) free)
+      (λ i. cond (stage i) (commit_cost (pending_are reached.format some i) reached.made) free)
 
 -- ---- moves of a refresh
 
 module _ {last : ℕ} {S : Type 0} (T : Ghosts S) (old new : S) (r : Begun) (warehouse : Warehouse) (batch : List Fact) (is : AttendsAs last r (T.disk old) warehouse batch) where
   abbrev own : List Move
-  own = forest_moves r.store.forest.schema warehouse.facts batch
+  own = moves_of r warehouse.facts batch
 
-  own_are : own ≡ forest_moves warehouse.schema warehouse.facts batch
-  own_are = ap (λ (s : Schema). forest_moves s warehouse.facts batch) is.schema
+  abbrev format : ℕ
+  format = r.store.forest.body.format
+
+  own_are : own ≡ forest_moves format format warehouse.schema warehouse.facts batch
+  own_are = λ i. forest_moves format (is.format i) (is.schema i) warehouse.facts batch
 
   pub step_spends : (world : World) → Knows (Some warehouse) (Some batch) world → (n tried : ℕ) → tried ≤ n
-      → KeepsTo own r.progress.taken (r.progress.taken + tried) (T.reads old, T.writes old) (T.reads new, T.writes new) → Spends T (step_cost world r.progress.taken n) old new
+      → KeepsTo own r.progress.taken (r.progress.taken + tried) (T.reads old, T.writes old) (T.reads new, T.writes new) → Spends T (step_cost world (reached_by (Pending r)) n) old new
   step_spends world knows n tried few keeps =
       let more : r.progress.taken + tried ≤ r.progress.taken + n = omega (arith, few) in
-      subst (λ (ms : List Move). Spends T (moves_cost ms r.progress.taken (r.progress.taken + n)) old new) (own_are ∙ sym (pending_are world warehouse batch knows is.some)) (record {
+      subst (λ (ms : List Move). Spends T (moves_cost ms r.progress.taken (r.progress.taken + n)) old new) (own_are ∙ sym (pending_are world warehouse batch knows format is.some)) (record {
         reads = omega (arith, keeps.read, reads-more (r.progress.taken + tried) (r.progress.taken + n) own more);
         writes = omega (arith, keeps.wrote, written-more (r.progress.taken + tried) (r.progress.taken + n) own more);
       })
 
   pub commit_spends : KeepsTo own r.progress.taken (length own) (T.reads old, T.writes old + 3) (T.reads new, T.writes new)
-      → Spends T (commit_cost (forest_moves warehouse.schema warehouse.facts batch) r.progress.taken) old new
+      → Spends T (commit_cost (forest_moves format format warehouse.schema warehouse.facts batch) r.progress.taken) old new
   commit_spends keeps =
       subst (λ (ms : List Move). Spends T (commit_cost ms r.progress.taken) old new) own_are (record { reads = omega (arith, keeps.read); writes = omega (arith, keeps.wrote) })
 
   -- nor more reads than there are pages
-  pub pages_read : T.reads new ≤ T.reads old + page_total r.store.forest.body r.store.forest.schema → T.reads new ≤ T.reads old + page_count warehouse.schema warehouse.facts
+  pub pages_read : T.reads new ≤ T.reads old + page_total r.store.forest.body r.store.forest.schema → T.reads new ≤ T.reads old + page_count format warehouse.schema warehouse.facts
   pages_read few =
       let lawful = is.lawful.schema in
-      let n : ℕ = pages_of_all warehouse.schema (body_counts warehouse.schema warehouse.facts) (selected warehouse.schema.views).trees in
-      let many : page_count warehouse.schema warehouse.facts ≡ n =
-      ap (λ (l : ℕ). l / 4096) (forest-long warehouse.schema lawful warehouse.facts (storable warehouse.schema warehouse.facts lawful is.lawful.accepted)) ∙ mul-div_cancel_left n (omega arith) in
+      let n : ℕ = pages_of_all format warehouse.schema (body_counts warehouse.schema warehouse.facts) (selected warehouse.schema.views).trees in
+      let many : page_count format warehouse.schema warehouse.facts ≡ n =
+      ap (λ (l : ℕ). l / 4096) (forest-long warehouse.schema lawful warehouse.facts (storable warehouse.schema warehouse.facts lawful is.lawful.accepted format is.adds.read.live.fits)) ∙ mul-div_cancel_left n (omega arith) in
       let total : page_total r.store.forest.body r.store.forest.schema ≡ n =
-      ap (λ (counts : List ℕ). pages_of_all r.store.forest.schema counts (selected r.store.forest.schema.views).trees) is.adds.read.live.at.body_is.counts
-      ∙ ap (λ (s : Schema). pages_of_all s (body_counts s warehouse.facts) (selected s.views).trees) is.schema in
+      ap (λ (counts : List ℕ). pages_of_all format r.store.forest.schema counts (selected r.store.forest.schema.views).trees) is.adds.read.live.at.body_is.counts
+      ∙ ap (λ (s : Schema). pages_of_all format s (body_counts s warehouse.facts) (selected s.views).trees) is.schema in
       omega (arith, few, many, total)
 
   -- a step makes so many moves more, or all that are left
   pub step_made : (world : World) → Knows (Some warehouse) (Some batch) world → (n made now : ℕ) → now ≡ r.progress.taken + made → made ≡ min n (length own - r.progress.taken)
-      → now ≡ min (r.progress.taken + n) (length (pending_moves world))
-  step_made world knows n made now sum least = omega (arith, sum, least, ap length (own_are ∙ sym (pending_are world warehouse batch knows is.some)), is.moved.within)
+      → now ≡ min (r.progress.taken + n) (length (pending_moves format world))
+  step_made world knows n made now sum least = omega (arith, sum, least, ap length (own_are ∙ sym (pending_are world warehouse batch knows format is.some)), is.moved.within)
 
 -- a batch begins, and is committed before a move is made
-pub committed_spends : {S : Type 0} (T : Ghosts S) (old mid new : S) (warehouse : Warehouse) (batch : List Fact) → Spends T (record { reads = 1; writes = 1 }) old mid
-    → (made : ℕ) → made ≡ 0 → Spends T (commit_cost (forest_moves warehouse.schema warehouse.facts batch) made) mid new
-    → T.reads new ≤ T.reads mid + page_count warehouse.schema warehouse.facts
-    → Spends T (load_cost_of (Some warehouse) (forest_moves warehouse.schema warehouse.facts batch)) old new
-committed_spends T old mid new warehouse batch first made none then pages =
-    let ends = subst (λ (m : ℕ). Spends T (commit_cost (forest_moves warehouse.schema warehouse.facts batch) m) mid new) none then in
+pub committed_spends : {S : Type 0} (T : Ghosts S) (old mid new : S) (format : ℕ) (warehouse : Warehouse) (batch : List Fact) → Spends T (record { reads = 1; writes = 1 }) old mid
+    → (made : ℕ) → made ≡ 0 → Spends T (commit_cost (forest_moves format format warehouse.schema warehouse.facts batch) made) mid new
+    → T.reads new ≤ T.reads mid + page_count format warehouse.schema warehouse.facts
+    → Spends T (load_cost_of format (Some warehouse) (forest_moves format format warehouse.schema warehouse.facts batch)) old new
+committed_spends T old mid new format warehouse batch first made none then pages =
+    let ends = subst (λ (m : ℕ). Spends T (commit_cost (forest_moves format format warehouse.schema warehouse.facts batch) m) mid new) none then in
     record { reads = omega (arith, first.reads, pages); writes = omega (arith, first.writes, ends.writes) }

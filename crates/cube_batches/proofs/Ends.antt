@@ -7,10 +7,13 @@ use Rattle.cube_batches.proofs.Names.{◌+◌, ◌-◌, ◌<◌, ◌∙◌, ◌�
 use Rattle.cube_batches.proofs.Names.{Ghosts, Gives, Global, HasCauseWhere, HasNoFact, HoldsNow, Hollow, Idle, IsDropped, IsGoing, IsOpened, IsReady, IsRefreshOf, IsStoreOf, IsTrue, IsWithout}
 use Rattle.cube_batches.proofs.Names.{KeepsFacts, KeepsTo, Kept, Knows, LeavesOnly, List, None, Ok, OnlyNow, Option, Pending, RefreshStop, Result, RunsFor, RunsOn, Schema, SideStays, Some, Spares}
 use Rattle.cube_batches.proofs.Names.{Spends, Stands, StandsAt, State, Store, TellsFirstDamage, Vec, Warehouse, World, [], act, act_abandon, act_finish, act_step, ap, arith, asked_by, attends_belongs}
-use Rattle.cube_batches.proofs.Names.{beside, codes, committed, committed_text, forest_moves, holds_to, length, line, live_of, made_alone, made_behind, min, moves_made, moves_over, moves_tried}
+use Rattle.cube_batches.proofs.Names.{beside, codes, committed, committed_text, forest_moves, holds_to, length, line, live_of, made_alone, min, moves_made, moves_over, moves_tried}
 use Rattle.cube_batches.proofs.Names.{page_total, pending_line, pending_over, refl, refresh_stop, replied, replies_with, spared_stays, stopped, subst, sym, ℕ}
 use Rattle.cube_batches.proofs.{Calls.answered_by, Calls.rests, Calls.side_spares, Costs.finish_answer, Costs.finish_is, Costs.step_made, Costs.step_spends, Takings.begin_moments}
 use Rattle.cube_batches.proofs.{Loads.empty_answer, Committed.refresh_quiet, Committed.refresh_quiet_on, Committed.refresh_tells, Committed.same_damage}
+use Rattle.forest_refresh.specs.Begun.{moves_of}
+use Rattle.cube_state.specs.Moves.{format_of, reached_behind, reached_by, unmoved}
+use Rattle.cube_state.proofs.Moves.{reached_next}
 
 -- a batch that has a fact is not one without
 no_fact : (batch : List Fact) (pending : Option (List Fact)) → pending ≡ Some batch → 0 < length batch → HasNoFact pending → ⊥
@@ -27,7 +30,7 @@ pub record Moves {S : Type 0} (T : Ghosts S) (n : ℕ) (r now : Begun) (old new 
   pub any_moment : IsTrue T.tells → (accepted batch : List Fact) → HoldsNow (IsRefreshOf r accepted batch) (T.disk old)
       → LeavesOnly (T.disk old) (T.disk new) (λ told files. (told ≡ (T.disk old).told) × KeepsFacts r.store.forest.schema accepted r.store.forest.body.last files)
   pub cost : IsTrue T.tells → (accepted batch : List Fact) → IsRefreshOf r accepted batch (T.disk old).files
-      → KeepsTo (forest_moves r.store.forest.schema accepted batch) r.progress.taken (r.progress.taken + moves_tried n result) (T.reads old, T.writes old) (T.reads new, T.writes new)
+      → KeepsTo (moves_of r accepted batch) r.progress.taken (r.progress.taken + moves_tried n result) (T.reads old, T.writes old) (T.reads new, T.writes new)
   pub side : IsTrue T.tells → refreshes.SparesLive r.store.forest.body (T.disk old) (T.disk new)
   pub told : IsTrue T.tells → (T.disk new).told ≡ (T.disk old).told
   pub calls : Calls T (HasCauseWhere ends.Disk) (page_total r.store.forest.body r.store.forest.schema) old new result
@@ -46,7 +49,7 @@ module _ {S : Type 0} (T : Ghosts S) (n : ℕ) (r now : Begun) (old new : S) whe
   -- it moved on
   module _ (made : ℕ) (is : Moves T n r now old new (Ok made)) (same : now ≡ record r { progress = now.progress }) (taken : now.progress.taken ≡ r.progress.taken + made) (few : made ≤ n)
       (stands : IsTrue T.tells → (accepted batch : List Fact) → IsRefreshOf r accepted batch (T.disk old).files → StandsAt now accepted batch (T.disk new).files
-      × (made ≡ min n (length (forest_moves r.store.forest.schema accepted batch) - r.progress.taken)))
+      × (made ≡ min n (length (moves_of r accepted batch) - r.progress.taken)))
       (adds : IsTrue T.tells → (accepted batch : List Fact) → HoldsNow (IsRefreshOf r accepted batch) (T.disk old) → HoldsNow (IsRefreshOf now accepted batch) (T.disk new))
       (goes : IsGoing now) (ready_now : IsTrue T.tells → IsReady now (T.disk new)) where
     attends_on : IsTrue T.tells → (warehouse : Warehouse) (batch : List Fact) → Attends r (T.disk old) warehouse batch → Attends now (T.disk new) warehouse batch
@@ -55,6 +58,7 @@ module _ {S : Type 0} (T : Ghosts S) (n : ℕ) (r now : Begun) (old new : S) whe
       schema = ap (λ (b : Begun). b.store.forest.schema) same ∙ attends.schema;
       last = ap (λ (b : Begun). b.store.forest.body.last) same ∙ attends.last;
       next = ap (λ (b : Begun). b.next.last) same ∙ attends.next;
+      format = ap (λ (b : Begun). b.next.format) same ∙ attends.format ∙ ap (λ (b : Begun). b.store.forest.body.format) (sym same);
       due = attends.due;
       adds = adds t warehouse.facts batch attends.adds;
       some = attends.some;
@@ -66,7 +70,8 @@ module _ {S : Type 0} (T : Ghosts S) (n : ℕ) (r now : Begun) (old new : S) whe
     moves_on reply said = λ cache ready. replied T (says.Step n) (λ schema. refl) (Pending r) (Pending now) old new cache cache reply (moves_run is few) (record {
       answer = λ t world it. answered_by (T.disk new) (act world (says.Step n)) (world, line (codes "stepped")) (Pending now) reply.items
           (act_step world n ∙ (λ i. pending_over world (λ w b. replies_with world (codes "stepped")) (it.2.kept i) (it.2.pending i))) (it.0, it.1, it.2, attends_on t it.0 it.1 it.3) said;
-      moved = λ t world it. step_made T old new r it.0 it.1 it.3 world it.2 n made now.progress.taken taken (stands t it.0.facts it.1 it.3.adds.read).1;
+      moved = λ t world it. reached_next world (says.Step n) (Pending r) (Pending now) (ap (λ (b : Begun). Some b.store.forest.body) same)
+          (step_made T old new r it.0 it.1 it.3 world it.2 n made now.progress.taken taken (stands t it.0.facts it.1 it.3.adds.read).1);
       uncalled = λ t world it none. absurd (no_fact it.1 world.pending it.2.pending it.3.some none);
       answered = λ t. said;
       runs = record { running = goes; fit = ready_now };
@@ -115,7 +120,7 @@ finish_ends T r site = record {
     any_moment = λ new run. run;
     moves = refl;
     calls = no_fact it.1 world.pending it.2.pending it.3.some;
-    costs = λ cost costs new ends pages. subst (λ (c : Cost). Spends T c site new) (sym (costs ∙ finish_is world it.0 it.1 it.2 it.3.some r.progress.taken)) ends;
+    costs = λ cost costs new ends pages. subst (λ (c : Cost). Spends T c site new) (sym (costs ∙ finish_is world it.0 it.1 it.2 it.3.some (reached_by (Pending r)))) ends;
   };
   quiet = λ new result quiet. quiet;
   damage = λ t stop told. told;
@@ -142,7 +147,7 @@ module _ {S : Type 0} (T : Ghosts S) (command : Command) (none_asked : (schema :
   -- by what is kept and pending
   over : (state next : State) (reply : Vec ℕ Global) → ((world : World) → Stands state (T.disk site) world → (kept : Kept) × (pending : Option (List Fact)) × Knows kept pending world
       × Stands next (T.disk site) (pending_over world (answer world) kept pending).0 × (reply.items ≡ (pending_over world (answer world) kept pending).1))
-      → ((world : World) → Stands state (T.disk site) world → moves_made next ≡ made_behind world (moves_made state) command) → ((files : Files) → Gives state files command reply.items)
+      → ((world : World) → Stands state (T.disk site) world → moves_made next ≡ (reached_behind world (reached_by state) command).made) → ((files : Files) → Gives state files command reply.items)
       → (RunsOn T site state → RunsOn T site next) → moves_made next ≡ made_alone command (moves_made state) → live_of next ≡ live_of state → CarriesOutAlone T command state next site site (Ok reply)
   over state next reply by = rests T command none_asked state next site only reply (λ t world it. (let is = by world it in
       answered_by (T.disk site) (act world command) (pending_over world (answer world) is.0 is.1) next reply.items
@@ -169,16 +174,17 @@ module _ {S : Type 0} (T : Ghosts S) (site : S) (only : IsTrue T.tells → OnlyN
 
 -- a step, where no batch with a fact is pending
 module _ {S : Type 0} (T : Ghosts S) (n : ℕ) (site : S) (only : IsTrue T.tells → OnlyNow (T.disk site)) (reply : Vec ℕ Global) where
-  no_moves : (world : World) (kept : Kept) (pending : Option (List Fact)) → Knows kept pending world → length (moves_over kept pending) ≡ 0 → 0 ≡ made_behind world 0 (says.Step n)
-  no_moves world kept pending knows none =
-      let all : length (moves_over world.kept world.pending) ≡ 0 = (λ i. length (moves_over (knows.kept i) (knows.pending i))) ∙ none in omega (arith, all)
+  no_moves : (format : ℕ) (world : World) (kept : Kept) (pending : Option (List Fact)) → Knows kept pending world → length (moves_over format kept pending) ≡ 0
+      → 0 ≡ (reached_behind world (unmoved format) (says.Step n)).made
+  no_moves format world kept pending knows none =
+      let all : length (moves_over format world.kept world.pending) ≡ 0 = (λ i. length (moves_over format (knows.kept i) (knows.pending i))) ∙ none in omega (arith, all)
 
   steps : (state : State) → moves_made state ≡ 0 → reply.items ≡ pending_line state (codes "stepped") → ((world : World) → Stands state (T.disk site) world → (kept : Kept) × (pending : Option (List Fact))
-      × Knows kept pending world × (pending_over world (λ w b. replies_with world (codes "stepped")) kept pending ≡ (world, pending_line state (codes "stepped"))) × (length (moves_over kept pending) ≡ 0))
+      × Knows kept pending world × (pending_over world (λ w b. replies_with world (codes "stepped")) kept pending ≡ (world, pending_line state (codes "stepped"))) × (length (moves_over (format_of state) kept pending) ≡ 0))
       → CarriesOutAlone T (says.Step n) state state site site (Ok reply)
   steps state none said by = over T (says.Step n) (λ schema. refl) (λ world w b. replies_with world (codes "stepped")) (λ world. act_step world n) site only state state reply
       (λ world it. (let is = by world it in (is.0, is.1, is.2, subst (λ (a : Answer). Stands state (T.disk site) a.0) (sym is.3) it, said ∙ ap (λ (a : Answer). a.1) (sym is.3))))
-      (λ world it. (let is = by world it in subst (λ m. m ≡ made_behind world m (says.Step n)) (sym none) (no_moves world is.0 is.1 is.2 is.4))) (λ files. said) (λ runs. runs) refl refl
+      (λ world it. (let is = by world it in subst (λ (m : ℕ). m ≡ (reached_behind world (record { format = format_of state; made = m }) (says.Step n)).made) (sym none) (no_moves (format_of state) world is.0 is.1 is.2 is.4))) (λ files. said) (λ runs. runs) refl refl
 
   pub steps_none : (state : State) → ((r : Begun) → state ≡ Pending r → ⊥) → reply.items ≡ pending_line state (codes "stepped") → CarriesOutAlone T (says.Step n) state state site site (Ok reply)
   steps_none Empty not said = steps Empty refl said (λ world it. (None, None, it.0, refl, refl))

@@ -9,6 +9,8 @@ use Rattle.cube_batches.proofs.Names.{quiet_on, quiet_out, refl, replied, spends
 use Rattle.cube_batches.proofs.{Limits.empty_fits, Calls.answered_by, Calls.batch_told, Calls.batch_whole, Calls.between_then, Calls.closed_spares, Calls.or_out, Calls.quiet_then, Calls.rests}
 use Rattle.cube_batches.proofs.{Calls.says_either, Costs.committed_spends, Sources.begin_answer, Sources.begin_sends, Sources.begins_is, Sources.each_load, Sources.given_some, Sources.load_answer}
 use Rattle.cube_batches.proofs.{Sources.load_calls, Sources.load_gives, Sources.load_is, Sources.load_sends, Sources.rows_last, Takings.begun_fits, Takings.known}
+use Rattle.cube_state.specs.Moves.{Reached, reached_by}
+use Rattle.cube_state.proofs.Moves.{reached_next}
 
 -- nothing was done with an empty batch
 pub done_none : {S : Type 0} (source : BatchSource) (state next : State) (old new : S) (is : HasNone source state next old new) (P : State → State → S → Type 0)
@@ -43,7 +45,7 @@ module _ {S : Type 0} (T : Ghosts S) (source : BatchSource) (site : S) (only : I
   acknowledged reply said = rests T (load_of source) (load_sends source).none_asked (Idle store) (Idle store) site only reply
       (λ t world stands. subst (λ (a : Answer). IsAnswer (T.disk site) a (Idle store) reply.items)
       (sym (load_answer world source stands.0 [] stands.0.last (empty_fitting source store (T.disk site) given world stands))) (empty_answer world stands.0 store (T.disk site) stands.2 reply.items said))
-      (λ world stands. sym ((load_sends source).moves world 0))
+      (λ world stands. ap (λ (r : Reached). r.made) (sym ((load_sends source).moves world (reached_by (Idle store)))))
       (λ files. load_gives source (Idle store) files reply.items (subst (λ (g : Given). GivesGiven store files g reply.items) (sym given) said)) (λ runs. runs) (sym ((load_sends source).alone 0)) refl
 
 pub loads_none : {S : Type 0} (T : Ghosts S) (source : BatchSource) (state next : State) (old new : S) → (IsTrue T.tells → OnlyNow (T.disk old)) → HasNone source state next old new
@@ -76,10 +78,10 @@ module _ {S : Type 0} (T : Ghosts S) (source : BatchSource) (store : Store) (old
           acts = acts;
           any_moment = λ new run. between_then (T.disk old) (T.disk mid) (T.disk new) world (act world (load_of source)).0 (is.quiet.told t)
               (is.any_moment t stands.0 stands.2 world (act world (load_of source)).0 stands.1.kept) run;
-          moves = (load_sends source).moves world 0;
+          moves = (load_sends source).moves world (reached_by (Idle store));
           calls = load_calls world source stands.0 is.batch is.last fits is.some;
-          costs = λ cost costs new ends pages. subst (λ (c : Cost). Spends T c old new) (sym (load_is world source stands.0 is.batch is.last fits is.some 0 cost costs))
-              (committed_spends T old mid new stands.0 is.batch is.spent r.progress.taken is.none_made ends pages);
+          costs = λ cost costs new ends pages. subst (λ (c : Cost). Spends T c old new) (sym (load_is world source stands.0 is.batch is.last fits is.some (reached_by (Idle store)) cost costs))
+              (committed_spends T old mid new store.forest.body.format stands.0 is.batch is.spent r.progress.taken is.none_made ends pages);
         });
     quiet = λ new result then. quiet_then T old mid new is.quiet result then;
     damage = λ t stop told. each_load (λ s c. LoadTells (Idle store) (T.disk old).files s stop → TellsDamage (Idle store) (T.disk old).files c stop) (λ b is. is) (λ n b is. is) (λ s r is. is) source
@@ -93,7 +95,7 @@ module _ {S : Type 0} (T : Ghosts S) (source : BatchSource) (store : Store) (old
         }))));
     spares = λ t new stop spares. closed_spares store.forest.body (T.disk old).files (T.disk mid).files (T.disk new).files (is.closes t) stop
         (subst (λ (f : Forest). SparesOthers f.body (T.disk mid).files (T.disk new).files stop) is.forest spares);
-    live = ap (λ (f : Forest). f.body.generation) (sym is.forest);
+    live = ap (λ (f : Forest). Some f.body) (sym is.forest);
   }
 
 pub loads : {S : Type 0} (T : Ghosts S) (source : BatchSource) (state : State) (old mid : S) (r : Begun) → (store : Store) × (state ≡ Idle store) × HasBegun T source store old mid r
@@ -121,7 +123,7 @@ module _ {S : Type 0} (T : Ghosts S) (block : Block) (store : Store) (old new : 
   begin_runs : ForEach T (Idle store) old (RunsFor T (says.Begin block) (Idle store) old new)
   begin_runs t world stands = record {
     any_moment = is.any_moment t stands.0 stands.2 world (act world (says.Begin block)).0 stands.1.kept;
-    cost = λ cost costs. (let least = (begin_sends block).costs world 0 cost costs stands.0 is.batch is.last (begun_fits T (Rows block) store old new r is t world stands) is.some in
+    cost = λ cost costs. (let least = (begin_sends block).costs world (reached_by (Idle store)) cost costs stands.0 is.batch is.last (begun_fits T (Rows block) store old new r is t world stands) is.some in
         spends_more T (record { reads = 1; writes = 1 }) cost old new least.0 least.1 is.spent);
   }
 
@@ -140,7 +142,7 @@ module _ {S : Type 0} (T : Ghosts S) (block : Block) (store : Store) (old new : 
                 record { kept = stands.1.kept; pending = refl },
                 subst (λ n. AttendsAs n r (T.disk new) stands.0 is.batch) (rows_last stands.0.schema stands.0.last is.last block is.batch fits.read) (is.attends t stands.0 stands.2),
               ) said);
-          moved = λ t world stands. is.none_made;
+          moved = λ t world stands. reached_next world (says.Begin block) (Idle store) (Pending r) (ap (λ (f : Forest). Some f.body) is.forest) is.none_made;
           uncalled = λ t world stands none. absurd (omega (arith, none, begins_is world block stands.0 is.batch is.last (begun_fits T (Rows block) store old new r is t world stands) is.some));
           answered = λ t. gives;
           runs = record { running = is.goes; fit = is.ready };

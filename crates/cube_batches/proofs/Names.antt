@@ -32,7 +32,7 @@ pub use Rattle.cube_state.proofs.{Answering.OnlyNow, Answering.quiet, Cached.liv
 pub use Rattle.cube_state.proofs.{Looking.quiet_on, Looking.quiet_out, Standing.attends_belongs}
 pub use Rattle.cube_state.specs.{BatchDamage.LoadTells, BatchDamage.TellsBatchDamage, BatchDamage.TellsGivenDamage, BatchDamage.TellsRefreshDamage, Cached.SideStays, Cached.emptied, Cached.live_file}
 pub use Rattle.cube_state.specs.{Cached.live_of, Commands.Costs, Commands.Gives, Commands.HasNoFact, Commands.MakesNoCall, Commands.TellsDamage, Commands.load_of, Costs.Cost, Costs.Spends, Costs.both}
-pub use Rattle.cube_state.specs.{Costs.free, Frames.IsQuiet, Frames.RunsOn, Moves.made_behind, Moves.moves_made, Moves.moves_over, Moves.pending_moves, Session.Attends, Session.AttendsAs}
+pub use Rattle.cube_state.specs.{Costs.free, Frames.IsQuiet, Frames.RunsOn, Moves.moves_made, Moves.moves_over, Moves.pending_moves, Session.Attends, Session.AttendsAs}
 pub use Rattle.cube_state.specs.{Session.Belongs, Session.Between, Session.IsAnswer, Session.KeepsEither, Session.Stands, Stops.IsNoDamage, Stops.StopCause, Stops.refresh_stop}
 pub use Rattle.cube_state.specs.{declared.state.State.State, declared.state.State.TheVariants.Empty, declared.state.State.TheVariants.Hollow, declared.state.State.TheVariants.Idle}
 pub use Rattle.cube_state.specs.{declared.state.State.TheVariants.Pending, declared.stop.Stop.Stop}

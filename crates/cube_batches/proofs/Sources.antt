@@ -4,9 +4,10 @@ use Rattle.cube_batches.proofs.Names.{◌++◌, ◌+◌, ◌<◌, ◌∙◌, ◌
 use Rattle.cube_batches.proofs.Names.{GivesBegun, GivesGiven, Hollow, Idle, IsFitting, IsRefused, IsStep, IsTakenIn, Kept, Knows, List, LoadGives, MakesNoCall, MayWrite, None, Numbered, Ok, Option}
 use Rattle.cube_batches.proofs.Names.{Pending, RefusesBy, RefusesGiven, Result, Rows, Schema, Sends, Some, State, Store, Warehouse, World, [], act, act_begin, act_generate, act_load}
 use Rattle.cube_batches.proofs.Names.{act_load_numbered, answer_by, ap, arith, asked_by, batch_by, batch_from, batch_given, batch_sent, batch_with, begins, begins_over, begun, block_read, committed}
-use Rattle.cube_batches.proofs.Names.{cond, forest_moves, free, given_to, inl, length, length-append, load, load_cost, load_cost_of, load_of, made_alone, made_behind, makes_stage, moves_of, nat_lt}
+use Rattle.cube_batches.proofs.Names.{cond, forest_moves, free, given_to, inl, length, length-append, load, load_cost, load_cost_of, load_of, made_alone, makes_stage, moves_of, nat_lt}
 use Rattle.cube_batches.proofs.Names.{number_of, read_by, refl, refusal_of, size, sym, take_over, true, unless, with_last, ℕ}
 use Rattle.cube_batches.proofs.Costs.{grows}
+use Rattle.cube_state.specs.Moves.{Reached, reached_behind}
 
 -- ---- the commands that take one in at once
 
@@ -60,17 +61,18 @@ module _ (world : World) (source : BatchSource) (warehouse : Warehouse) (batch :
   pub load_answer : act world (load_of source) ≡ committed world warehouse batch last
   load_answer = act_load_of world source ∙ answer_batch world source (committed world) warehouse is.knows batch last None is.read is.fits
 
-  moves_with : (number : Option ℕ) (facts : List Fact) → 0 < length facts → moves_of (Some warehouse) (batch_with number facts) ≡ forest_moves warehouse.schema warehouse.facts facts
-  moves_with number [] some = absurd (omega (arith, some))
-  moves_with number (x ∷ xs) some = refl
+  moves_with : (format : ℕ) (number : Option ℕ) (facts : List Fact) → 0 < length facts → moves_of format (Some warehouse) (batch_with number facts) ≡ forest_moves format format warehouse.schema warehouse.facts facts
+  moves_with format number [] some = absurd (omega (arith, some))
+  moves_with format number (x ∷ xs) some = refl
 
-  pub load_is : 0 < length batch → (made : ℕ) (cost : Cost) → Costs world made (load_of source) cost → cost ≡ load_cost_of (Some warehouse) (forest_moves warehouse.schema warehouse.facts batch)
-  load_is some made cost costs =
+  pub load_is : 0 < length batch → (reached : Reached) (cost : Cost) → Costs world reached (load_of source) cost
+      → cost ≡ load_cost_of reached.format (Some warehouse) (forest_moves reached.format reached.format warehouse.schema warehouse.facts batch)
+  load_is some reached cost costs =
       let sent : batch_by world (load_of source) ≡ batch_with (number_of source) batch
       = each_load (λ s c. batch_by world c ≡ batch_sent world.kept s) (λ b. refl) (λ n b. refl) (λ s r. refl) source ∙ (ap (λ (k : Kept). batch_sent k source) is.knows.kept ∙ ap (batch_given (number_of source)) is.read) in
       let stage : makes_stage world (load_of source) ≡ true = (λ i. nat_lt (size (is.knows.kept i)) (size (load_answer i).0.kept)) ∙ grows warehouse.facts batch some in
-      each_load (λ s c. Costs world made c cost → cost ≡ load_cost world c) (λ b is. is) (λ n b is. is) (λ s r is. is) source costs
-      ∙ ((λ i. cond (stage i) (load_cost_of (is.knows.kept i) (moves_of (is.knows.kept i) (sent i))) free) ∙ ap (load_cost_of (Some warehouse)) (moves_with (number_of source) batch some))
+      each_load (λ s c. Costs world reached c cost → cost ≡ load_cost reached.format world c) (λ b is. is) (λ n b is. is) (λ s r is. is) source costs
+      ∙ ((λ i. cond (stage i) (load_cost_of reached.format (is.knows.kept i) (moves_of reached.format (is.knows.kept i) (sent i))) free) ∙ ap (load_cost_of reached.format (Some warehouse)) (moves_with reached.format (number_of source) batch some))
 
   -- what is kept then is not what was kept
   pub load_calls : 0 < length batch → MakesNoCall world (load_of source) → ⊥
@@ -121,11 +123,11 @@ load_sends source = record {
   no_step = each_load (λ s c. IsStep c → ⊥) (λ b is. is) (λ n b is. is) (λ s r is. is) source;
   after = committed;
   acts = λ world. act_load_of world source;
-  moves = λ world made. each_load (λ s c. made_behind world made c ≡ made) (λ b. refl) (λ n b. refl) (λ s r. refl) source;
+  moves = λ world reached. each_load (λ s c. reached_behind world reached c ≡ reached) (λ b. refl) (λ n b. refl) (λ s r. refl) source;
   alone = λ made. each_load (λ s c. made_alone c made ≡ made) (λ b. refl) (λ n b. refl) (λ s r. refl) source;
   refuses = λ state files reply is. load_gives source state files reply (source_refused state files source reply is);
-  costs = λ world made cost costs warehouse batch last is some.
-      let exact = load_is world source warehouse batch last is some made cost costs in
+  costs = λ world reached cost costs warehouse batch last is some.
+      let exact = load_is world source warehouse batch last is some reached cost costs in
       (omega (arith, ap (λ (c : Cost). c.reads) exact), omega (arith, ap (λ (c : Cost). c.writes) exact));
 }
 

@@ -9,6 +9,8 @@ use Rattle.cube_batches.proofs.Names.{Store, Taken, TakesIn, TellsLimit, Vec, Wa
 use Rattle.cube_batches.proofs.Names.{goes_nowhere, holds_to, inl, inr, last_behind, length, line, moves_made, next_side, nothing_added, refl, refusal_of, refusal_text, runs_out, says, slice_index}
 use Rattle.cube_batches.proofs.Names.{spends_more, stable_holds, stopped, subst, sym, take, take_over, unharmed, unless, wider, written, ℕ}
 use Rattle.cube_batches.proofs.{Limits.none_refused, Limits.one_refused, Calls.answered_by, Calls.rests, Sources.answer_batch, Sources.answer_read}
+use Rattle.forest_refresh.specs.Begun.{moves_of}
+use Rattle.cube_state.specs.Moves.{Reached, reached_by}
 
 -- ---- the store, the refresh and the warehouse
 
@@ -16,8 +18,8 @@ use Rattle.cube_batches.proofs.{Limits.none_refused, Limits.one_refused, Calls.a
 none_moved : (r : Begun) (files : Files) (facts batch : List Fact) → r.progress.taken ≡ 0 → StandsAt r facts batch files
 none_moved r files facts batch none = record {
   within = omega (arith, none);
-  pages = (λ i. take (4096 * written (none i) (forest_moves r.store.forest.schema facts batch)) (files (next_side r.store.forest.body)))
-      ∙ (λ i. bytes_after r.store.forest.schema facts batch (sym none i));
+  pages = (λ i. take (4096 * written (none i) (moves_of r facts batch)) (files (next_side r.store.forest.body)))
+      ∙ (λ i. bytes_after r.store.forest.body.format r.next.format r.store.forest.schema facts batch (sym none i));
 }
 
 -- the number of a batch is the next one, or none
@@ -38,14 +40,15 @@ module _ (store : Store) (old new : Disk) (warehouse : Warehouse) (is : Belongs 
   )) run
 
   -- it has begun
-  pub begin_attends : (batch : List Fact) (number : Option ℕ) (r : Begun) → r.store.forest ≡ store.forest → r.next.last ≡ last_behind store.forest.body.last number
+  pub begin_attends : (batch : List Fact) (number : Option ℕ) (r : Begun) → r.store.forest ≡ store.forest → r.next.last ≡ last_behind store.forest.body.last number → r.next.format ≡ store.forest.body.format
       → IfSome number (λ n. n ≡ store.forest.body.last + 1) → IsRefreshOf r warehouse.facts batch new.files → IsStable new → 0 < length batch → IsReady r new → r.progress.taken ≡ 0
       → AttendsAs (last_behind store.forest.body.last number) r new warehouse batch
-  begin_attends batch number r same next due adds stable some ready none = record {
+  begin_attends batch number r same next format due adds stable some ready none = record {
     lawful = is.lawful;
     schema = ap (λ (f : Forest). f.schema) same ∙ is.schema;
     last = ap (λ (f : Forest). f.body.last) same ∙ is.last;
     next = next;
+    format = format ∙ ap (λ (f : Forest). f.body.format) (sym same);
     due = subst (λ n. last_behind store.forest.body.last number ≤ n + 1) is.last (last_due store.forest.body.last number due);
     adds = stable_holds (IsRefreshOf r warehouse.facts batch) new stable adds;
     some = some;
@@ -99,7 +102,7 @@ module _ {S : Type 0} (T : Ghosts S) (source : BatchSource) (state : State) (sit
       → RefusesBy state source text → (reply : Vec ℕ Global) → reply.items ≡ text → Answers T source state state site site (Ok reply)
   refuses text answers by reply said = λ command sends cache ready. says T command state site cache only text reply ready (record {
     acts = λ t world stands. sends.acts world ∙ answers world stands (sends.after world);
-    moves = λ t world stands. sends.moves world (moves_made state);
+    moves = λ t world stands. sends.moves world (reached_by state);
     goes = λ t world stands numbers goes. goes_nowhere command sends.none_asked world numbers goes;
     gives = λ files. sends.refuses state files text by;
     alone = λ no. sends.alone (moves_made state);
@@ -231,7 +234,7 @@ module _ {S : Type 0} (T : Ghosts S) (source : BatchSource) (store : Store) (bat
       (sends.acts world ∙ answer_batch world source (sends.after world) stands.0 stands.1 batch last (Some reply.items) (read_by_world world stands)
       (by_limit store (T.disk old) stands.0 batch fault.why stands.2 agree (limit stands.0.facts (T.disk old).files stands.2.stored.read) reply.items here))
       (stands.0, stands.1, back_belongs store fault.store back (T.disk old) stands.0 stands.2) refl)
-      (λ world stands. sym (sends.moves world 0)) (λ files. sends.refuses (Idle store) files reply.items by) (back_runs store fault.store back T old) (sym (sends.alone 0))
+      (λ world stands. ap (λ (r : Reached). r.made) (sym (sends.moves world (reached_by (Idle store))))) (λ files. sends.refuses (Idle store) files reply.items by) (back_runs store fault.store back T old) (sym (sends.alone 0))
       (ap (λ (f : Forest). Some f.body) back.forest) cache ready)
 
   -- none is
@@ -242,7 +245,7 @@ module _ {S : Type 0} (T : Ghosts S) (source : BatchSource) (store : Store) (bat
       failed disk = λ command sends cache ready. stopped T command sends.none_asked (Idle store) next old new sends.writes cache cache refl stops.Disk
           (λ t world stands. record {
             any_moment = begin_between T store old new is t stands.0 stands.2 world (act world command).0 stands.1.kept;
-            cost = λ cost costs. (let least = sends.costs world 0 cost costs stands.0 batch last (record {
+            cost = λ cost costs. (let least = sends.costs world (reached_by (Idle store)) cost costs stands.0 batch last (record {
               knows = stands.1;
               read = read_by_world world stands;
               fits = none_refused stands.0 batch stands.2.lawful.schema (subst (λ (s : Schema). AreAccepted s (stands.0.facts ++ batch)) stands.2.schema

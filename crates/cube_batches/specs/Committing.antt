@@ -19,12 +19,12 @@ use Rattle.cube_state.specs.declared.stop.Stop.TheVariants as stops
 use Rattle.cube_state.specs.BatchCosts.{commit_cost}
 use Rattle.cube_state.specs.BatchDamage.{TellsRefreshDamage}
 use Rattle.cube_state.specs.Batches.{IsFinished}
-use Rattle.cube_state.specs.Cached.{generation, live_of}
+use Rattle.cube_state.specs.Cached.{live_of}
 use Rattle.cube_state.specs.Carried.{CarriesOut, IsStep, LeavesLive, MayWrite, Reply, RepliesAlone, Spares, TellsNone, made_alone}
 use Rattle.cube_state.specs.Commands.{Costs, Gives, MakesNoCall, TellsDamage}
 use Rattle.cube_state.specs.Costs.{Cost, Spends}
 use Rattle.cube_state.specs.Frames.{IsQuiet}
-use Rattle.cube_state.specs.Moves.{made_behind, moves_made}
+use Rattle.cube_state.specs.Moves.{format_of, moves_made, reached_behind, reached_by, unmoved}
 use Rattle.cube_state.specs.Session.{AttendsAs, Between, Stands}
 
 -- ---- a reply
@@ -59,10 +59,11 @@ pub record EndsFor {S : Type 0} (T : Ghosts S) (command : Command) (state : Stat
   pub kept : world.kept ≡ Some warehouse
   pub acts : act world command ≡ committed world warehouse batch last
   pub any_moment : (new : S) → Between (T.disk mid) (T.disk new) world (act world command).0 → Between (T.disk old) (T.disk new) world (act world command).0
-  pub moves : made_behind world (moves_made state) command ≡ 0
+  pub moves : reached_behind world (reached_by state) command ≡ unmoved (format_of state)
   pub calls : MakesNoCall world command → ⊥
-  pub costs : (cost : Cost) → Costs world (moves_made state) command cost → (new : S) → Spends T (commit_cost (forest_moves warehouse.schema warehouse.facts batch) refresh.progress.taken) mid new
-      → T.reads new ≤ T.reads mid + page_count warehouse.schema warehouse.facts → Spends T cost old new
+  pub costs : (cost : Cost) → Costs world (reached_by state) command cost → (new : S)
+      → Spends T (commit_cost (forest_moves (format_of state) (format_of state) warehouse.schema warehouse.facts batch) refresh.progress.taken) mid new
+      → T.reads new ≤ T.reads mid + page_count (format_of state) warehouse.schema warehouse.facts → Spends T cost old new
 
 -- the command ends with the commit of a refresh, which stands from mid on
 pub record Ends {S : Type 0} (T : Ghosts S) (command : Command) (state : State) (refresh : Begun) (old mid : S) : Type 0 where
@@ -79,7 +80,7 @@ pub record Ends {S : Type 0} (T : Ghosts S) (command : Command) (state : State) 
   pub gives : IsTrue T.tells → (reply : List ℕ) → IsFinished refresh (T.disk mid).files reply → Gives state (T.disk old).files command reply
   pub spares : IsTrue T.tells → (new : S) (stop : Stop) → SparesOthers refresh.store.forest.body (T.disk mid).files (T.disk new).files stop
       → Spares (live_of state) (T.disk old).files (T.disk new).files stop
-  pub live : generation (live_of state) ≡ refresh.store.forest.body.generation
+  pub live : live_of state ≡ Some refresh.store.forest.body
 
 -- each command that ends so is carried out
 abbrev pub Commits : {S : Type 0} (T : Ghosts S) (refresh : Begun) (next : State) (mid new : S) (before after : Cache) (result : Reply) → Type 0

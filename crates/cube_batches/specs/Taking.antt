@@ -25,7 +25,7 @@ use Rattle.cube_state.specs.Carried.{CarriesOutAlone, IsStep, MayWrite, Reply, m
 use Rattle.cube_state.specs.Commands.{Costs, Gives}
 use Rattle.cube_state.specs.Costs.{Cost, Spends}
 use Rattle.cube_state.specs.Frames.{IsQuiet}
-use Rattle.cube_state.specs.Moves.{made_behind}
+use Rattle.cube_state.specs.Moves.{Reached, reached_behind}
 use Rattle.cube_state.specs.Session.{AttendsAs, Belongs, Between, IsLine}
 use Rattle.cube_batches.specs.declared.taking.Taken.{Taken}
 use Rattle.cube_batches.specs.declared.taking.Taken.TheVariants.{Refused, Empty as Nothing, Begun as Began}
@@ -83,11 +83,11 @@ pub record Sends (command : Command) (source : BatchSource) : Type 0 where
   -- what follows on a batch that keeps the limits
   pub after : World → Warehouse → List Fact → ℕ → Answer
   pub acts : (world : World) → act world command ≡ answer_by world (after world) source
-  pub moves : (world : World) (made : ℕ) → made_behind world made command ≡ made
+  pub moves : (world : World) (reached : Reached) → reached_behind world reached command ≡ reached
   pub alone : (made : ℕ) → made_alone command made ≡ made
   pub refuses : (state : State) (files : Files) (reply : List ℕ) → RefusesBy state source reply → Gives state files command reply
   -- it asks for a read and a write at least
-  pub costs : (world : World) (made : ℕ) (cost : Cost) → Costs world made command cost → (warehouse : Warehouse) (batch : List Fact) (last : ℕ)
+  pub costs : (world : World) (reached : Reached) (cost : Cost) → Costs world reached command cost → (warehouse : Warehouse) (batch : List Fact) (last : ℕ)
       → IsFitting world source warehouse batch last → 0 < length batch → (1 ≤ cost.reads) × (1 ≤ cost.writes)
 
 -- whatever command sends it is carried out so

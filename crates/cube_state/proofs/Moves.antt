@@ -1,5 +1,5 @@
 -- The pages of the moves made, as a session that stands for a world has them.
-use Rattle.std.proofs.Common.{◌≡◌, ◌*◌, ℕ, List, [], ◌∷◌, Option, Some, None, sym, subst, take}
+use Rattle.std.proofs.Common.{◌≡◌, ◌∙◌, ap, refl, ◌*◌, ℕ, List, [], ◌∷◌, Option, Some, None, sym, subst, take}
 use Rattle.site_core.specs.Disk.{Disk, Files}
 use Rattle.cube_schema.specs.declared.schema.Schema.{Schema}
 use Rattle.fact_model.specs.declared.fact.Fact.{Fact}
@@ -10,7 +10,10 @@ use Rattle.forest_root.specs.declared.body.Body.{Body}
 use Rattle.forest_store.specs.Held.{IsLive}
 use Rattle.forest_refresh.specs.Begun.{Begun, next_side}
 use Rattle.plain_machine.specs.World.{Kept, Knows, Warehouse, World}
-use Rattle.cube_state.specs.Moves.{HasMovedTo, HasPagesOver, moves_made}
+use Rattle.script_lang.specs.declared.command.Command.{Command}
+use Rattle.script_lang.specs.declared.command.Command.TheVariants as says
+use Rattle.cube_state.specs.Cached.{live_of}
+use Rattle.cube_state.specs.Moves.{HasMovedTo, HasPagesOver, Reached, format_in, moves_made, reached_behind, reached_by}
 use Rattle.cube_state.specs.Session.{Attends, Stands}
 use Rattle.cube_state.specs.declared.state.State.{State}
 use Rattle.cube_state.specs.declared.state.State.TheVariants.{Empty, Idle, Hollow, Pending}
@@ -43,3 +46,15 @@ stands_moved Empty disk world is = moved_over disk.files 0 None None world is.0 
 stands_moved (Idle store) disk world is = moved_over disk.files 0 (Some is.0) None world is.1 tt
 stands_moved (Hollow store) disk world is = moved_over disk.files 0 (Some is.0) (Some []) world is.1 tt
 stands_moved (Pending r) disk world is = moved_over disk.files r.progress.taken (Some is.0) (Some is.1) world is.2 (attended_pages r disk is.0 is.1 is.3)
+
+-- no command changes the format
+format_behind : (world : World) (reached : Reached) (command : Command) → (reached_behind world reached command).format ≡ reached.format
+format_behind world reached (says.Step n) = refl
+format_behind world reached says.Finish = refl
+format_behind world reached says.Abandon = refl
+format_behind world reached _ = refl
+
+-- where what is live stays, the moves tell what is reached
+pub reached_next : (world : World) (command : Command) (state next : State) → live_of next ≡ live_of state → moves_made next ≡ (reached_behind world (reached_by state) command).made
+    → reached_by next ≡ reached_behind world (reached_by state) command
+reached_next world command state next live made = λ i. record { format = (ap format_in live ∙ sym (format_behind world (reached_by state) command)) i; made = made i }
