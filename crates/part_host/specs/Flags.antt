@@ -4,7 +4,7 @@ use Rattle.site_core.specs.Disk.{Disk, Files}
 use Rattle.site_core.specs.Moments.{IsStable}
 use Rattle.site_folder.specs.Ledger.{Ledger}
 
--- all files that are there are open, and listed; these are synced, no output is held back, and so many syncs were asked for
+-- all files that are there are open, and listed; these are synced, no output is held back, and these syncs were asked for
 abbrev pub flags_ledger : List Bool → List Bool → List ℕ → Ledger
 flags_ledger is_there synced asked = record {
   opened = λ file. slice_index_or is_there file true;

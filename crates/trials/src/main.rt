@@ -1,30 +1,17 @@
-//! Trials: scenarios from standard input, carried out over files in memory. Each line is printed again, and below each command
-//! what came of it, so a trial with its answers holds where it is printed as it is. The commands stand in `trials/README.md`.
+//! Trials: scenarios from standard input, carried out over files in memory.
 #![tactic(auto)]
 
-mod block;
-mod changed;
-mod each;
-mod endings;
-mod files;
-mod print;
-mod request;
-mod scene;
-mod show;
-mod sweep;
-mod table;
-mod trial;
-mod trouble;
-mod words;
+mod warehouse;
 
 use fact_model::Memory;
 use std::io;
 use std::io::{BufRead, BufReader, Print};
-use trial::Trial;
+use trial_text::Trial;
+use warehouse::Warehouse;
 
 fn main(rt: HostRuntime) -> io::Result<()> {
     let alloc = rt.alloc();
-    let mut trial = Trial::new(alloc)?;
+    let mut trial = Trial::new(alloc, Warehouse)?;
     for line in BufReader::new(alloc, rt.reader())?.lines(alloc) {
         let mut out = String::new(alloc);
         had_memory(trial.line(line?.as_str(), &mut out))?;

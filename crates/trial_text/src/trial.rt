@@ -5,7 +5,8 @@ use crate::block::{push_line, push_text};
 use crate::changed::{each_byte, each_place};
 use crate::each::{Kind, each, each_stop};
 use crate::files::{PAGE, copies, page_of, put, set_length, with_file};
-use crate::print::{push_lines, push_status};
+use crate::print::push_ran;
+use crate::program::Program;
 use crate::request::Request;
 use crate::scene::Scene;
 use crate::show::{calls, cost, differing, dump};
@@ -46,8 +47,8 @@ const NO_RUN: LastRun = LastRun {
 
 /// The scene, the last run, files under names, and the command that waits.
 #[derive(Drop)]
-pub struct Trial {
-    scene: Scene,
+pub struct Trial<P: Program> {
+    scene: Scene<P>,
     last: LastRun,
     kept: Vec<Kept>,
     waiting: Waiting,
@@ -72,11 +73,12 @@ fn answered(outcome: Result<(), Trouble>, out: &mut String) -> Result<(), Memory
     }
 }
 
-impl Trial {
-    /// Empty files, an empty script, and a look by `status`.
-    pub fn new(alloc: Global) -> Result<Trial, AllocError> {
+impl<P: Program + Drop> Trial<P> {
+    /// Of this program: empty files, an empty script, and a look by `status`.
+    pub fn new(alloc: Global, program: P) -> Result<Trial<P>, AllocError> {
         Ok(Trial {
             scene: Scene {
+                program,
                 alloc,
                 site: MemorySite::new(alloc),
                 script: Vec::new(alloc),
@@ -109,11 +111,12 @@ impl Trial {
 
     /// Carries out the command that waits.
     pub fn end(&mut self, out: &mut String) -> Result<(), Memory> {
-        let command = mem::replace(&mut self.waiting, Waiting::none(self.scene.alloc));
-        answered(self.obey(command, out), out)
+        let mut command = mem::replace(&mut self.waiting, Waiting::none(self.scene.alloc));
+        answered(self.obey(&mut command, out), out)
     }
 
-    fn obey(&mut self, command: Waiting, out: &mut String) -> Result<(), Trouble> {
+    // Carries a command out. The scene keeps its block where that is a script.
+    fn obey(&mut self, command: &mut Waiting, out: &mut String) -> Result<(), Trouble> {
         let Waiting {
             line,
             block,
@@ -123,18 +126,18 @@ impl Trial {
         let verb = words.next();
         match verb {
             "" => {}
-            "look" => self.scene.look = block,
-            "put" => self.put(words, &block)?,
-            "exchange" => self.exchange(words)?,
-            "length" => self.set_length(words)?,
-            "new" | "reopen" | "take" => self.restart(verb, words)?,
-            "keep" => self.keep(words)?,
-            "same" | "calls" | "cost" | "pulled" | "dump" => self.show(verb, words, out)?,
+            "look" => mem::swap(&mut self.scene.look, block),
+            "put" => return self.put(words, block),
+            "exchange" => return self.exchange(words),
+            "length" => return self.set_length(words),
+            "new" | "reopen" | "take" => return self.restart(verb, words),
+            "keep" => return self.keep(words),
+            "same" | "calls" | "cost" | "pulled" | "dump" => return self.show(verb, words, out),
             _ => {
-                if has_block {
-                    self.scene.script = block;
+                if *has_block {
+                    mem::swap(&mut self.scene.script, block);
                 }
-                self.run_by(verb, words, out)?;
+                return self.run_by(verb, words, out);
             }
         }
         Ok(())
@@ -150,21 +153,21 @@ impl Trial {
     }
 
     fn run(&mut self, words: Words<'_>, out: &mut String) -> Result<(), Trouble> {
-        let scene = &mut self.scene;
-        let request = Request::read(scene.alloc, words)?;
-        let site = mem::replace(&mut scene.site, MemorySite::new(scene.alloc));
+        let Scene {
+            program,
+            alloc,
+            site,
+            script,
+            ..
+        } = &mut self.scene;
         let calls = site.calls().len();
         let told = site.told().len();
-        let (site, ran) = request.carry_out(scene.alloc, &scene.script, site)?;
-        out.push_str("> ")?;
-        push_status(out, ran.status)?;
-        out.push('\n')?;
-        push_lines(out, site.told().get(told..).unwrap_or(&[]))?;
-        scene.site = site;
+        let ran = Request::read(*alloc, words)?.carry_out(program, *alloc, script, site)?;
         self.last = LastRun {
             calls,
             pulled: ran.pulled,
         };
+        push_ran(out, ran.ended, site.told().get(told..).unwrap_or(&[]))?;
         Ok(())
     }
 
@@ -183,12 +186,11 @@ impl Trial {
             }
             _ => return Err(Trouble::Unclear),
         };
-        each(scene, kind, Request::read(scene.alloc, words)?, out)
+        each(scene, kind, &mut Request::read(scene.alloc, words)?, out)
     }
 
     fn look_by(&self, verb: &str, mut words: Words<'_>, out: &mut String) -> Result<(), Trouble> {
-        let file = words.file()?;
-        let first = words.number()?;
+        let (file, first) = words.file_and_number()?;
         if verb == "each-byte" {
             return each_byte(&self.scene, file, first, out);
         }
@@ -202,14 +204,18 @@ impl Trial {
     }
 
     // `new`, `reopen`, `reopen IMAGE` or `take NAME`.
-    fn restart(&mut self, verb: &str, mut words: Words<'_>) -> Result<(), Trouble> {
-        let alloc = self.scene.alloc;
-        let files = match verb {
-            "new" => MemorySite::new(alloc).image(alloc, 0)?,
-            "reopen" => self.scene.site.image(alloc, words.number_or(1)?)?,
-            _ => copies(alloc, self.kept(words.rest())?)?,
-        };
+    fn restart(&mut self, verb: &str, words: Words<'_>) -> Result<(), Trouble> {
+        let files = self.files_by(verb, words)?;
         self.begin_with(files)
+    }
+
+    fn files_by(&self, verb: &str, mut words: Words<'_>) -> Result<[Text; 4], Trouble> {
+        let Scene { alloc, site, .. } = &self.scene;
+        Ok(match verb {
+            "new" => MemorySite::new(*alloc).image(*alloc, 0)?,
+            "reopen" => site.image(*alloc, words.number_or(1)?)?,
+            _ => copies(*alloc, self.kept(words.rest())?)?,
+        })
     }
 
     fn keep(&mut self, words: Words<'_>) -> Result<(), Trouble> {
@@ -231,8 +237,7 @@ impl Trial {
 
     // `put FILE PLACE TEXT`, or a block in the place of the text.
     fn put(&mut self, mut words: Words<'_>, block: &[u8]) -> Result<(), Trouble> {
-        let file = words.file()?;
-        let place = words.number()?;
+        let (file, place) = words.file_and_number()?;
         let mut given = Vec::new(self.scene.alloc);
         push_text(&mut given, words.rest(), 0)?;
         given.extend_from_slice(block)?;
@@ -241,15 +246,20 @@ impl Trial {
 
     // `exchange FILE PAGE FILE PAGE`.
     fn exchange(&mut self, mut words: Words<'_>) -> Result<(), Trouble> {
-        let Scene { alloc, site, .. } = &self.scene;
-        let first = words.file()?;
-        let at = words.number()?.saturating_mul(PAGE);
-        let second = words.file()?;
-        let to = words.number()?.saturating_mul(PAGE);
-        let one = Vec::from_slice(*alloc, page_of(site.file(first), at))?;
-        let other = Vec::from_slice(*alloc, page_of(site.file(second), to))?;
+        let (first, page) = words.file_and_number()?;
+        let at = page.saturating_mul(PAGE);
+        let (second, page) = words.file_and_number()?;
+        let to = page.saturating_mul(PAGE);
+        let one = self.page(first, at)?;
+        let other = self.page(second, to)?;
         self.put_bytes(first, at, &other)?;
         self.put_bytes(second, to, &one)
+    }
+
+    fn page(&self, file: u32, at: u64) -> Result<Vec<u8>, AllocError>
+        requires { file < 4 }
+    {
+        Vec::from_slice(self.scene.alloc, page_of(self.scene.site.file(file), at))
     }
 
     fn put_bytes(&mut self, file: u32, place: u64, given: &[u8]) -> Result<(), Trouble>
@@ -265,9 +275,9 @@ impl Trial {
     // `length FILE LENGTH`.
     fn set_length(&mut self, mut words: Words<'_>) -> Result<(), Trouble> {
         let Scene { alloc, site, .. } = &self.scene;
-        let file = words.file()?;
+        let (file, length) = words.file_and_number()?;
         let mut bytes = Vec::from_slice(*alloc, site.file(file))?;
-        set_length(&mut bytes, words.number()?)?;
+        set_length(&mut bytes, length)?;
         let files = with_file(*alloc, site, file, bytes)?;
         self.begin_with(files)
     }
@@ -287,15 +297,14 @@ impl Trial {
             "same" => differing(site, self.kept(words.rest())?, out)?,
             "cost" => cost(self.last_calls(), out)?,
             "pulled" => writeln!(out, "> {} bytes", self.last.pulled)?,
-            "calls" => calls(
-                self.last_calls(),
-                words.number_or(0)?,
-                words.number_or(u64::MAX)?,
-                out,
-            )?,
+            "calls" => {
+                let (first, last) = words.range()?;
+                calls(self.last_calls(), first, last, out)?;
+            }
             _ => {
-                let bytes = site.file(words.file()?);
-                dump(bytes, words.number_or(0)?, words.number_or(u64::MAX)?, out)?;
+                let file = words.file()?;
+                let (first, last) = words.range()?;
+                dump(site.file(file), first, last, out)?;
             }
         }
         Ok(())

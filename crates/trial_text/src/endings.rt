@@ -1,32 +1,34 @@
 //! What looks at files tell, each named by a letter.
 
-use crate::print::{push_joined, push_status};
+use crate::print::{push_ended, push_joined};
+use crate::program::{Ended, Program};
 use crate::request::MOST;
 use crate::trouble::Trouble;
-use cube_shell::{Status, run_within};
 use fact_model::Text;
-use site_mem::{SureSite, SureSource};
+use site_mem::{MemorySite, SureSite, SureSource};
 use std::alloc::{AllocError, Global};
 
 /// How a look ended and what it told.
 #[derive(Drop)]
 struct Ending {
-    status: Status,
+    ended: Ended,
     told: Vec<u8>,
 }
 
-/// The script of the looks, and their endings in the order of their first appearance.
+/// The program and the script of the looks, and their endings in the order of their first appearance.
 #[derive(Drop)]
-pub struct Endings<'a> {
+pub struct Endings<'a, P: Program> {
+    program: &'a P,
     alloc: Global,
     look: &'a [u8],
     known: Vec<Ending>,
 }
 
-impl Endings<'_> {
+impl<'a, P: Program> Endings<'a, P> {
     /// None yet.
-    pub fn new(alloc: Global, look: &[u8]) -> Endings<'_> {
+    pub fn new(program: &'a P, alloc: Global, look: &'a [u8]) -> Endings<'a, P> {
         Endings {
+            program,
             alloc,
             look,
             known: Vec::new(alloc),
@@ -45,35 +47,46 @@ impl Endings<'_> {
         let mut source = SureSource::new(Text::from_bytes(alloc, self.look)?, 65_536);
         // A run makes a buffer for what its limit lets come, so the limit is the look's own length.
         let limit = (self.look.len() as u64).min(MOST);
-        let status = run_within(alloc, &[], &mut source, &mut site, limit);
-        self.number(status, site.told())
+        let ended = self.program.look(alloc, &mut source, &mut site, limit);
+        self.number(ended, site.told())
     }
 
-    fn number(&mut self, status: Status, told: &[u8]) -> Result<usize, Trouble> {
+    /// The number of what a look at one image of a site tells.
+    pub fn look_at(&mut self, site: &MemorySite, choice: u64) -> Result<usize, Trouble> {
+        self.look(site.image(self.alloc, choice)?)
+    }
+
+    fn number(&mut self, ended: Ended, told: &[u8]) -> Result<usize, Trouble> {
         for (i, known) in self.known.iter().enumerate() {
-            if known.status == status && known.told.as_slice() == told {
+            if known.ended == ended && known.told.as_slice() == told {
                 return Ok(i);
             }
         }
         let told = Vec::from_slice(self.alloc, told)?;
-        self.known.push(Ending { status, told })?;
+        self.known.push(Ending { ended, told })?;
         Ok(self.known.len().saturating_sub(1))
     }
 
     /// Prints the letters and what they stand for.
     pub fn print(&self, out: &mut String) -> Result<(), AllocError> {
         for (i, ending) in self.known.iter().enumerate() {
-            write!(out, "> {}: ", letter(i))?;
-            push_joined(out, &ending.told)?;
-            if ending.status != Status::Done {
-                if !ending.told.is_empty() {
-                    out.push_str(" | ")?;
-                }
-                push_status(out, ending.status)?;
-            }
-            out.push('\n')?;
+            ending.print(letter(i), out)?;
         }
         Ok(())
+    }
+}
+
+impl Ending {
+    fn print(&self, letter: char, out: &mut String) -> Result<(), AllocError> {
+        write!(out, "> {letter}: ")?;
+        push_joined(out, &self.told)?;
+        if self.ended != Ended::Done {
+            if !self.told.is_empty() {
+                out.push_str(" | ")?;
+            }
+            push_ended(out, self.ended)?;
+        }
+        out.push('\n')
     }
 }
 

@@ -1,13 +1,13 @@
 //! A run as a trial asks for it.
 
 use crate::block::push_text;
+use crate::program::{Ended, Program};
 use crate::trouble::Trouble;
 use crate::words::{Words, number};
-use cube_shell::{Status, run_within};
-use fact_model::Text;
+use fact_model::{Memory, Text};
 use site_mem::{MemorySite, MemorySource, ShortSite};
 use std::alloc::Global;
-use std::str;
+use std::{mem, str};
 
 /// The most bytes of a script.
 pub const MOST: u64 = 1 << 30;
@@ -70,37 +70,50 @@ impl Request {
         Ok(())
     }
 
-    /// Runs a script over a site, which it gives back.
-    pub fn carry_out(
+    /// Has a program run a script over a site.
+    pub fn carry_out<P: Program>(
         &self,
+        program: &P,
         alloc: Global,
         script: &[u8],
-        mut site: MemorySite,
-    ) -> Result<(MemorySite, Ran), Trouble> {
+        site: &mut MemorySite,
+    ) -> Result<Ran, Trouble> {
+        let mut source = self.source(alloc, script)?;
         let before = site.calls().len() as u64;
-        if let Some(call) = self.fail_call {
-            site.fail_at(before.saturating_add(call))?;
-        }
-        if let Some(call) = self.stop_after {
-            site.stop_after(before.saturating_add(call));
-        }
+        self.name_faults(site, before)?;
         let short = self.short_read.map(|call| before.saturating_add(call));
-        let mut site = ShortSite::new(site, short);
+        let mut over = ShortSite::new(mem::replace(site, MemorySite::new(alloc)), short);
+        let limit = self.limit.min(MOST);
+        let ended = program.run(alloc, &self.words, &mut source, &mut over, limit);
+        *site = over.into_site();
+        let pulled = source.given();
+        Ok(Ran { ended, pulled })
+    }
+
+    fn source(&self, alloc: Global, script: &[u8]) -> Result<MemorySource, Memory> {
         let mut source = MemorySource::new(Text::from_bytes(alloc, script)?, self.pieces.max(1));
         if let Some(pull) = self.fail_pull {
             source.fail_at(pull);
         }
-        let limit = self.limit.min(MOST);
-        let status = run_within(alloc, &self.words, &mut source, &mut site, limit);
-        let pulled = source.given();
-        Ok((site.into_site(), Ran { status, pulled }))
+        Ok(source)
+    }
+
+    // Tells a site, which has had `before` calls, which call fails and from which on all do.
+    fn name_faults(&self, site: &mut MemorySite, before: u64) -> Result<(), Memory> {
+        if let Some(call) = self.stop_after {
+            site.stop_after(before.saturating_add(call));
+        }
+        match self.fail_call {
+            Some(call) => site.fail_at(before.saturating_add(call)),
+            None => Ok(()),
+        }
     }
 }
 
 /// How a run ended, and how many bytes of its script it had.
 #[derive(Clone, Copy)]
 pub struct Ran {
-    pub status: Status,
+    pub ended: Ended,
     pub pulled: u64,
 }
 

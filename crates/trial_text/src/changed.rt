@@ -3,14 +3,14 @@ ghost use Rattle.std.specs.Prelude.{◌<◌};
 
 use crate::endings::{Endings, letter};
 use crate::files::{put, with_file};
+use crate::program::Program;
 use crate::scene::Scene;
-use crate::table::Table;
 use crate::trouble::Trouble;
 
 // The letter of what a look tells with this byte at a place of a file.
-fn look_with(
-    scene: &Scene,
-    endings: &mut Endings<'_>,
+fn look_with<P: Program>(
+    scene: &Scene<P>,
+    endings: &mut Endings<'_, P>,
     file: u32,
     place: u64,
     byte: u8,
@@ -26,22 +26,25 @@ fn look_with(
 }
 
 /// Looks at the files with each byte at one place.
-pub fn each_byte(scene: &Scene, file: u32, place: u64, out: &mut String) -> Result<(), Trouble>
+pub fn each_byte<P: Program>(
+    scene: &Scene<P>,
+    file: u32,
+    place: u64,
+    out: &mut String,
+) -> Result<(), Trouble>
     requires { file < 4 }
 {
-    let mut endings = scene.endings();
-    let mut table = Table::new(scene.alloc);
+    let mut rows = scene.rows();
     for byte in 0..=255u8 {
-        let text = look_with(scene, &mut endings, file, place, byte)?;
-        table.add(out, byte as u64, text)?;
+        let text = look_with(scene, &mut rows.endings, file, place, byte)?;
+        rows.add(out, byte as u64, text)?;
     }
-    table.print(out)?;
-    Ok(endings.print(out)?)
+    rows.print(out)
 }
 
 /// Looks at the files with one more in each byte in turn, from a place on to another.
-pub fn each_place(
-    scene: &Scene,
+pub fn each_place<P: Program>(
+    scene: &Scene<P>,
     file: u32,
     first: u64,
     last: u64,
@@ -49,8 +52,7 @@ pub fn each_place(
 ) -> Result<(), Trouble>
     requires { file < 4 }
 {
-    let mut endings = scene.endings();
-    let mut table = Table::new(scene.alloc);
+    let mut rows = scene.rows();
     for place in first..=last {
         let byte = scene
             .site
@@ -58,9 +60,8 @@ pub fn each_place(
             .get(place as usize)
             .unwrap_or(&0)
             .wrapping_add(1);
-        let text = look_with(scene, &mut endings, file, place, byte)?;
-        table.add(out, place, text)?;
+        let text = look_with(scene, &mut rows.endings, file, place, byte)?;
+        rows.add(out, place, text)?;
     }
-    table.print(out)?;
-    Ok(endings.print(out)?)
+    rows.print(out)
 }

@@ -1,6 +1,6 @@
 //! Bytes, statuses and calls as a trial prints them.
 
-use cube_shell::Status;
+use crate::program::Ended;
 use site_mem::Call;
 use std::alloc::AllocError;
 
@@ -45,17 +45,20 @@ pub fn push_joined(out: &mut String, bytes: &[u8]) -> Result<(), AllocError> {
 }
 
 /// Prints how a run ended.
-pub fn push_status(out: &mut String, status: Status) -> Result<(), AllocError> {
-    match status {
-        Status::Done => out.push_str("done"),
-        Status::Usage => out.push_str("usage"),
-        Status::Input => out.push_str("input fault"),
-        Status::Disk => out.push_str("disk fault"),
-        Status::Output => out.push_str("output fault"),
-        Status::Damaged { file, offset } => write!(out, "damaged file {file} at {offset}"),
-        Status::Memory => out.push_str("out of memory"),
-        Status::TooLong => out.push_str("script too long"),
+pub fn push_ended(out: &mut String, ended: Ended) -> Result<(), AllocError> {
+    match ended {
+        Ended::Done => out.push_str("done"),
+        Ended::Damaged { file, offset } => write!(out, "damaged file {file} at {offset}"),
+        Ended::Early(words) => out.push_str(words),
     }
+}
+
+/// Prints how a run ended, and the lines that it told.
+pub fn push_ran(out: &mut String, ended: Ended, told: &[u8]) -> Result<(), AllocError> {
+    out.push_str("> ")?;
+    push_ended(out, ended)?;
+    out.push('\n')?;
+    push_lines(out, told)
 }
 
 /// Prints a call with its number.

@@ -40,6 +40,20 @@ impl<'a> Words<'a> {
         self.number()
     }
 
+    /// Takes the first number and the last of a range, each of which may be left out.
+    pub fn range(&mut self) -> Result<(u64, u64), Trouble> {
+        let first = self.number_or(0)?;
+        Ok((first, self.number_or(u64::MAX)?))
+    }
+
+    /// Takes the number of a file, and one behind it.
+    pub fn file_and_number(&mut self) -> Result<(u32, u64), Trouble>
+        ensures { IfOk result (λ taken. taken.0 < 4) }
+    {
+        let file = self.file()?;
+        Ok((file, self.number()?))
+    }
+
     /// Takes the number of a file.
     pub fn file(&mut self) -> Result<u32, Trouble>
         ensures { IfOk result (λ file. file < 4) }

@@ -1,0 +1,34 @@
+//! The program that trials are about.
+ghost use Rattle.std.specs.Prelude.{◌≤◌, ◌^◌};
+
+use site_mem::{MemorySource, ShortSite, SureSite, SureSource};
+use std::alloc::Global;
+
+/// How a run ended.
+#[derive(Clone, Copy, PartialEq, Eq)]
+pub enum Ended {
+    /// The script was read to its end.
+    Done,
+    /// Damage was found at this place of a file.
+    Damaged { file: u32, offset: u64 },
+    /// It ended early, as these words say.
+    Early(&'static str),
+}
+
+/// A program that carries out a script, within a limit of bytes, over four files and an output.
+pub trait Program {
+    /// Runs with these words, over files and a script that may fail.
+    fn run(
+        &self,
+        alloc: Global,
+        words: &[String],
+        source: &mut MemorySource,
+        site: &mut ShortSite,
+        limit: u64,
+    ) -> Ended
+        requires { limit ≤ 2 ^ 30 };
+
+    /// Runs without words, over files and a script of which nothing fails.
+    fn look(&self, alloc: Global, source: &mut SureSource, site: &mut SureSite, limit: u64) -> Ended
+        requires { limit ≤ 2 ^ 30 };
+}

@@ -1,0 +1,33 @@
+//! A table whose rows name what looks tell.
+
+use crate::endings::Endings;
+use crate::program::Program;
+use crate::table::Table;
+use crate::trouble::Trouble;
+use std::alloc::AllocError;
+
+/// The endings that looks have had so far, and the rows that name them by their letters.
+#[derive(Drop)]
+pub struct Rows<'a, P: Program> {
+    pub endings: Endings<'a, P>,
+    table: Table,
+}
+
+impl<'a, P: Program> Rows<'a, P> {
+    /// No rows.
+    pub fn new(endings: Endings<'a, P>) -> Rows<'a, P> {
+        let table = Table::new(endings.alloc());
+        Rows { endings, table }
+    }
+
+    /// Adds what is said of a number, which follows the one before.
+    pub fn add(&mut self, out: &mut String, number: u64, text: String) -> Result<(), AllocError> {
+        self.table.add(out, number, text)
+    }
+
+    /// Prints the last row, and what the letters stand for.
+    pub fn print(&self, out: &mut String) -> Result<(), Trouble> {
+        self.table.print(out)?;
+        Ok(self.endings.print(out)?)
+    }
+}
