@@ -1,10 +1,10 @@
 -- Calls one after another, and what they leave of the files.
 use Rattle.cube_state.specs.declared.stop.Stop.TheVariants as stops
 use Rattle.forest_refresh.specs.declared.stop.RefreshStop.TheVariants as ends
-use Rattle.cube_batches.proofs.Names.{◌%◌, ◌+◌, ◌∙◌, ◌≡◌, ◌≢◌, Answer, AreAllWhole, Begun, Between, Body, CarriesOutAlone, ClosesGate, Command, Disk, Err, Fact, Files, ForEach, Forest, Ghosts, Gives}
-use Rattle.cube_batches.proofs.Names.{Global, IsAnswer, IsErrAnd, IsQuiet, IsTrue, KeepsEither, List, None, Ok, OnlyNow, Reply, Result, RunsOn, SaysOnly, Schema, Some, Spares, SparesOthers, Stands}
-use Rattle.cube_batches.proofs.Names.{State, Stop, StopCause, Store, TellsBatchDamage, TellsFirstDamage, TellsRefreshDamage, Vec, World, act, arith, asked_by, deltas_by, joined, live_of, made_alone}
-use Rattle.cube_batches.proofs.Names.{moves_made, names_with, next_side, quiet, refl, runs_out, same-first-damage, same-whole, still, subst, sym, wider, with_file, with_file-other, ℕ}
+use Rattle.cube_batches.proofs.Names.{◌%◌, ◌+◌, ◌∙◌, ◌≡◌, ◌≢◌, Answer, AreAllWhole, Begun, Between, Body, CarriesOutAlone, ClosesGate, Command, Disk, Err, Fact, Files, ForEach, Forest, Ghosts}
+use Rattle.cube_batches.proofs.Names.{Gives, Global, IsAnswer, IsErrAnd, IsQuiet, IsTrue, KeepsEither, List, None, Ok, OnlyNow, Reply, Result, RunsOn, SaysOnly, Schema, Some, Spares, SparesOthers}
+use Rattle.cube_batches.proofs.Names.{Stands, State, Stop, StopCause, Store, TellsBatchDamage, TellsFirstDamage, TellsRefreshDamage, Vec, World, act, arith, asked_by, deltas_by, joined, live_of}
+use Rattle.cube_batches.proofs.Names.{made_alone, moves_made, names_with, next_side, quiet, refl, runs_out, same-first-damage, same-whole, still, subst, sym, wider, with_file, with_file-other, ℕ}
 use Rattle.cube_state.specs.Moves.{reached_behind, reached_by}
 use Rattle.cube_state.proofs.Moves.{reached_next}
 

@@ -2,12 +2,13 @@
 use Rattle.cube_state.specs.declared.stop.Stop.TheVariants as stops
 use Rattle.forest_refresh.specs.declared.stop.RefreshStop.TheVariants as ends
 use Rattle.forest_refresh.specs.Refreshed as refreshes
-use Rattle.cube_batches.proofs.Names.{◌++◌, ◌+◌, ◌∙◌, ◌≡◌, ◌≢◌, Answer, AreAllWhole, AttendsAs, Begun, Belongs, Between, Cache, Calls, Command, Commits, Disk, Ends, Err, Fact, Files, ForEach, Ghosts}
-use Rattle.cube_batches.proofs.Names.{Gives, Global, HasCauseWhere, HoldsNow, Idle, IsLawful, IsNextStore, IsNoDamage, IsOpened, IsQuiet, IsRefreshOf, IsStable, IsStoreOf, IsTrue, Keeps, KeepsEither}
-use Rattle.cube_batches.proofs.Names.{KeepsFacts, KeepsTo, LeavesOnly, List, Ok, RefreshStop, Reply, Result, RunsFor, SaysOnly, Schema, Some, SparesOthers, State, StopCause, Store, TellsFirstDamage}
-use Rattle.cube_batches.proofs.Names.{TellsRefreshDamage, Vec, Warehouse, World, [], act, ap, arith, both, committed, committed_text, emptied, fact_count, forest_moves, inl, inr, length}
-use Rattle.cube_batches.proofs.Names.{length-append, onward, page_total, quiet_out, refl, refresh_stop, replied, stable_holds, stopped, subst, sym, unharmed, wider, ℕ}
-use Rattle.cube_batches.proofs.{Calls.answered_by, Calls.says_either, Costs.commit_spends, Costs.pages_read, Takings.all_fine}
+use Rattle.cube_batches.proofs.Names.{◌++◌, ◌+◌, ◌∙◌, ◌≡◌, ◌≢◌, Answer, AreAllWhole, AttendsAs, Begun, Belongs, Between, Cache, Calls, Command, Commits, Disk, Ends, Err, Fact, Files, ForEach}
+use Rattle.cube_batches.proofs.Names.{Ghosts, Gives, Global, HasCauseWhere, HoldsNow, Idle, IsLawful, IsNextStore, IsNoDamage, IsOpened, IsQuiet, IsRefreshOf, IsStable, IsStoreOf, IsTrue, Keeps}
+use Rattle.cube_batches.proofs.Names.{KeepsEither, KeepsFacts, KeepsTo, LeavesOnly, List, Ok, RefreshStop, Reply, Result, RunsFor, SaysOnly, Schema, Some, SparesOthers, State, StopCause, Store}
+use Rattle.cube_batches.proofs.Names.{TellsFirstDamage, TellsRefreshDamage, Vec, Warehouse, World, [], act, ap, arith, both, committed, committed_text, emptied, fact_count, forest_moves, inl, inr}
+use Rattle.cube_batches.proofs.Names.{length, length-append, onward, page_total, quiet_out, refl, refresh_stop, replied, stable_holds, stopped, subst, sym, unharmed, wider, ℕ}
+use Rattle.cube_batches.proofs.{Calls.answered_by, Calls.says_either, Takings.all_fine}
+use Rattle.cube_state.proofs.BatchCosts.{commit_spends, pages_read}
 use Rattle.forest_moves.specs.Forest.{forest_moves}
 use Rattle.forest_refresh.specs.Begun.{moves_of}
 use Rattle.cube_state.specs.Moves.{format_in, format_of, unmoved}

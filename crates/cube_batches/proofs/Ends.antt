@@ -6,10 +6,11 @@ use Rattle.forest_refresh.specs.Refreshed as refreshes
 use Rattle.cube_batches.proofs.Names.{◌+◌, ◌-◌, ◌<◌, ◌∙◌, ◌∷◌, ◌≡◌, ◌≤◌, Answer, Attends, Begun, Belongs, Calls, CarriesOutAlone, Command, Cost, Disk, Empty, Ends, Err, Fact, Files, ForEach, Forest}
 use Rattle.cube_batches.proofs.Names.{Ghosts, Gives, Global, HasCauseWhere, HasNoFact, HoldsNow, Hollow, Idle, IsDropped, IsGoing, IsOpened, IsReady, IsRefreshOf, IsStoreOf, IsTrue, IsWithout}
 use Rattle.cube_batches.proofs.Names.{KeepsFacts, KeepsTo, Kept, Knows, LeavesOnly, List, None, Ok, OnlyNow, Option, Pending, RefreshStop, Result, RunsFor, RunsOn, Schema, SideStays, Some, Spares}
-use Rattle.cube_batches.proofs.Names.{Spends, Stands, StandsAt, State, Store, TellsFirstDamage, Vec, Warehouse, World, [], act, act_abandon, act_finish, act_step, ap, arith, asked_by, attends_belongs}
-use Rattle.cube_batches.proofs.Names.{beside, codes, committed, committed_text, forest_moves, holds_to, length, line, live_of, made_alone, min, moves_made, moves_over, moves_tried}
-use Rattle.cube_batches.proofs.Names.{page_total, pending_line, pending_over, refl, refresh_stop, replied, replies_with, spared_stays, stopped, subst, sym, ℕ}
-use Rattle.cube_batches.proofs.{Calls.answered_by, Calls.rests, Calls.side_spares, Costs.finish_answer, Costs.finish_is, Costs.step_made, Costs.step_spends, Takings.begin_moments}
+use Rattle.cube_batches.proofs.Names.{Spends, Stands, StandsAt, State, Store, TellsFirstDamage, Vec, Warehouse, World, [], act, act_abandon, act_finish, act_step, ap, arith, asked_by}
+use Rattle.cube_batches.proofs.Names.{attends_belongs, beside, codes, committed, committed_text, holds_to, length, line, live_of, made_alone, min, moves_made, moves_over, moves_tried, page_total}
+use Rattle.cube_batches.proofs.Names.{pending_line, pending_over, refl, refresh_stop, replied, replies_with, spared_stays, stopped, subst, sym, ℕ}
+use Rattle.cube_batches.proofs.{Calls.answered_by, Calls.rests, Calls.side_spares, Takings.begin_moments}
+use Rattle.cube_state.proofs.BatchCosts.{finish_answer, finish_is, step_made, step_spends}
 use Rattle.cube_batches.proofs.{Loads.empty_answer, Committed.refresh_quiet, Committed.refresh_quiet_on, Committed.refresh_tells, Committed.same_damage}
 use Rattle.forest_refresh.specs.Begun.{moves_of}
 use Rattle.cube_state.specs.Moves.{format_of, reached_behind, reached_by, unmoved}

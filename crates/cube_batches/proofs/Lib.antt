@@ -1,8 +1,6 @@
 pub mod Calls
 pub mod Committed
-pub mod Costs
 pub mod Ends
-pub mod Limits
 pub mod Loads
 pub mod Names
 pub mod Nexts

@@ -4,10 +4,11 @@ use Rattle.cube_state.specs.declared.stop.Stop.TheVariants as stops
 use Rattle.cube_batches.proofs.Names.{◌++◌, ◌∙◌, ◌≡◌, Answer, AttendsAs, BatchSource, BeginGives, Begun, Belongs, Block, CarriesOutAlone, Cost, Disk, Ends, Err, Fact, ForEach, Forest, Ghosts, Given}
 use Rattle.cube_batches.proofs.Names.{GivesBegun, GivesGiven, Global, HasBegun, HasNone, Hollow, Idle, IsAnswer, IsFitting, IsTrue, LeavesLive, List, LoadTells, Ok, OnlyNow, Pending, RepliesAlone}
 use Rattle.cube_batches.proofs.Names.{Reply, Rows, RunsFor, SaysOnly, Some, SparesOthers, Spends, Stands, State, Store, TellsDamage, TellsGivenDamage, TellsNone, Vec, Warehouse, World, [], act, ap}
-use Rattle.cube_batches.proofs.Names.{append-nil, arith, begun, beside, codes, committed, committed_text, fact_count, given_to, hollow_of, inr, length, line, live_file, live_no_root, live_of, load_of}
-use Rattle.cube_batches.proofs.Names.{quiet_on, quiet_out, refl, replied, spends_more, stopped, subst, sym, unharmed, ℕ}
-use Rattle.cube_batches.proofs.{Limits.empty_fits, Calls.answered_by, Calls.batch_told, Calls.batch_whole, Calls.between_then, Calls.closed_spares, Calls.or_out, Calls.quiet_then, Calls.rests}
-use Rattle.cube_batches.proofs.{Calls.says_either, Costs.committed_spends, Sources.begin_answer, Sources.begin_sends, Sources.begins_is, Sources.each_load, Sources.given_some, Sources.load_answer}
+use Rattle.cube_batches.proofs.Names.{append-nil, arith, begun, beside, codes, committed, committed_text, fact_count, given_to, hollow_of, inr, length, line, live_file, live_no_root, live_of}
+use Rattle.cube_batches.proofs.Names.{load_of, quiet_on, quiet_out, refl, replied, spends_more, stopped, subst, sym, unharmed, ℕ}
+use Rattle.cube_state.proofs.{BatchCosts.committed_spends, Limits.empty_fits}
+use Rattle.cube_batches.proofs.{Calls.answered_by, Calls.batch_told, Calls.batch_whole, Calls.between_then, Calls.closed_spares, Calls.or_out, Calls.quiet_then, Calls.rests}
+use Rattle.cube_batches.proofs.{Calls.says_either, Sources.begin_answer, Sources.begin_sends, Sources.begins_is, Sources.each_load, Sources.given_some, Sources.load_answer}
 use Rattle.cube_batches.proofs.{Sources.load_calls, Sources.load_gives, Sources.load_is, Sources.load_sends, Sources.rows_last, Takings.begun_fits, Takings.known}
 use Rattle.cube_state.specs.Moves.{Reached, reached_by}
 use Rattle.cube_state.proofs.Moves.{reached_next}

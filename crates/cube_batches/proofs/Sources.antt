@@ -4,9 +4,9 @@ use Rattle.cube_batches.proofs.Names.{◌++◌, ◌+◌, ◌<◌, ◌∙◌, ◌
 use Rattle.cube_batches.proofs.Names.{GivesBegun, GivesGiven, Hollow, Idle, IsFitting, IsRefused, IsStep, IsTakenIn, Kept, Knows, List, LoadGives, MakesNoCall, MayWrite, None, Numbered, Ok, Option}
 use Rattle.cube_batches.proofs.Names.{Pending, RefusesBy, RefusesGiven, Result, Rows, Schema, Sends, Some, State, Store, Warehouse, World, [], act, act_begin, act_generate, act_load}
 use Rattle.cube_batches.proofs.Names.{act_load_numbered, answer_by, ap, arith, asked_by, batch_by, batch_from, batch_given, batch_sent, batch_with, begins, begins_over, begun, block_read, committed}
-use Rattle.cube_batches.proofs.Names.{cond, forest_moves, free, given_to, inl, length, length-append, load, load_cost, load_cost_of, load_of, made_alone, makes_stage, moves_of, nat_lt}
-use Rattle.cube_batches.proofs.Names.{number_of, read_by, refl, refusal_of, size, sym, take_over, true, unless, with_last, ℕ}
-use Rattle.cube_batches.proofs.Costs.{grows}
+use Rattle.cube_batches.proofs.Names.{cond, forest_moves, free, given_to, inl, length, length-append, load, load_cost, load_cost_of, load_of, made_alone, makes_stage, moves_of, nat_lt, number_of}
+use Rattle.cube_batches.proofs.Names.{read_by, refl, refusal_of, size, sym, take_over, true, unless, with_last, ℕ}
+use Rattle.cube_state.proofs.BatchCosts.{grows}
 use Rattle.cube_state.specs.Moves.{Reached, reached_behind}
 
 -- ---- the commands that take one in at once

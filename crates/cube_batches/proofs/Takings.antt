@@ -1,14 +1,15 @@
 -- What becomes of the batch of a source, at each end of taking it in.
 use Rattle.cube_state.specs.declared.stop.Stop.TheVariants as stops
 use Rattle.forest_refresh.specs.declared.stop.BeginStop.TheVariants as begins
-use Rattle.cube_batches.proofs.Names.{◌*◌, ◌++◌, ◌+◌, ◌<◌, ◌∙◌, ◌≡◌, ◌≢◌, ◌≤◌, ◌⊎◌, Agrees, All, All-append, Answer, Answers, AreAccepted, AttendsAs, Batch, BatchSource, Began, BeginCause, BeginFault}
-use Rattle.cube_batches.proofs.Names.{BeginStop, Begun, Belongs, Between, CallsOnly, CarriesOut, Disk, Empty, Err, Fact, Files, Forest, Ghosts, Given, Global, HasBegun, HoldsNow, Hollow, Idle, IfSome}
-use Rattle.cube_batches.proofs.Names.{IsBack, IsBatchFor, IsFitting, IsLive, IsOpened, IsRead, IsReady, IsRefreshOf, IsStable, IsStoreOf, IsTrue, Keeps, KeepsFacts, Kept, LeavesOnly, List, None}
-use Rattle.cube_batches.proofs.Names.{NotRead, Nothing, Ok, OnlyNow, OnlyRefuses, Option, Pending, Read, Refused, RefusesBy, RefusesGiven, Result, RunsOn, Schema, Some, Stands, StandsAt, State, Stop}
-use Rattle.cube_batches.proofs.Names.{Store, Taken, TakesIn, TellsLimit, Vec, Warehouse, World, [], act, answer_by, ap, arith, batch_from, begin_stop, bytes_after, codes, forest_moves, given_to}
+use Rattle.cube_batches.proofs.Names.{◌*◌, ◌++◌, ◌+◌, ◌<◌, ◌∙◌, ◌≡◌, ◌≢◌, ◌≤◌, ◌⊎◌, Agrees, All, All-append, Answer, Answers, AreAccepted, AttendsAs, Batch, BatchSource, Began, BeginCause}
+use Rattle.cube_batches.proofs.Names.{BeginFault, BeginStop, Begun, Belongs, Between, CallsOnly, CarriesOut, Disk, Empty, Err, Fact, Files, Forest, Ghosts, Given, Global, HasBegun, HoldsNow, Hollow}
+use Rattle.cube_batches.proofs.Names.{Idle, IfSome, IsBack, IsBatchFor, IsFitting, IsLive, IsOpened, IsRead, IsReady, IsRefreshOf, IsStable, IsStoreOf, IsTrue, Keeps, KeepsFacts, Kept, LeavesOnly}
+use Rattle.cube_batches.proofs.Names.{List, None, NotRead, Nothing, Ok, OnlyNow, OnlyRefuses, Option, Pending, Read, Refused, RefusesBy, RefusesGiven, Result, RunsOn, Schema, Some, Stands, StandsAt}
+use Rattle.cube_batches.proofs.Names.{State, Stop, Store, Taken, TakesIn, TellsLimit, Vec, Warehouse, World, [], act, answer_by, ap, arith, batch_from, begin_stop, bytes_after, codes, given_to}
 use Rattle.cube_batches.proofs.Names.{goes_nowhere, holds_to, inl, inr, last_behind, length, line, moves_made, next_side, nothing_added, refl, refusal_of, refusal_text, runs_out, says, slice_index}
 use Rattle.cube_batches.proofs.Names.{spends_more, stable_holds, stopped, subst, sym, take, take_over, unharmed, unless, wider, written, ℕ}
-use Rattle.cube_batches.proofs.{Limits.none_refused, Limits.one_refused, Calls.answered_by, Calls.rests, Sources.answer_batch, Sources.answer_read}
+use Rattle.cube_state.proofs.Limits.{none_refused, one_refused}
+use Rattle.cube_batches.proofs.{Calls.answered_by, Calls.rests, Sources.answer_batch, Sources.answer_read}
 use Rattle.forest_refresh.specs.Begun.{moves_of}
 use Rattle.cube_state.specs.Moves.{Reached, reached_by}
 

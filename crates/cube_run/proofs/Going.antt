@@ -3,9 +3,8 @@ use Rattle.std.proofs.Common.{◌≡◌, ◌∙◌, ◌++◌, ℕ, IsTrue, false
 use Rattle.std.proofs.Common.{length-append, arith}
 use Rattle.cube_run.proofs.Names.{Answers, AnswersByWorld, Cache, CarriesOn, Command, Cost, CostTogether, Costs, Disk, Files, Finished, Ghosts, Gives, HasGone, HasMovedTo, HasReplied, HasStopped}
 use Rattle.cube_run.proofs.Names.{IsErrAnd, IsFirstWhole, IsLeft, IsWithin, Keeps, OnlyNow, Onward, Reading, Reads, Replied, RepliesTo, Runs, Spends, StandsFor, State, Stop, World, act, at_rest}
-use Rattle.cube_run.proofs.Names.{carried_command, carried_start, carried_then, during, joined, one_costs, ready, stands_left, stands_moved}
-use Rattle.cube_run.proofs.Names.{stands_read, started, to_come, whole_with, wider}
-use Rattle.cube_run.proofs.Gives.{gives_some}
+use Rattle.cube_run.proofs.Names.{carried_command, carried_start, carried_then, during, joined, one_costs, ready, stands_left, stands_moved, stands_read, started, to_come, whole_with, wider}
+use Rattle.cube_state.proofs.Giving.{gives_some}
 use Rattle.cube_state.specs.declared.stop.Stop.TheVariants as stops
 use Rattle.cube_state.specs.Moves.{Reached, reached_behind, reached_by, reached_from}
 use Rattle.cube_session.specs.Session.{reached_for}

@@ -1,4 +1,3 @@
-pub mod Gives
 pub mod Going
 pub mod Moments
 pub mod Names

@@ -1,8 +1,8 @@
 -- What a stop at any moment of a run leaves, and that histories go on with it.
 use Rattle.std.proofs.Common.{◌≡◌, ◌∙◌, ◌++◌, inl, inr, ℕ, List, length, take, ap, sym, subst, append-nil, arith}
 use Rattle.std.proofs.Math.Seq.{take-append_seam}
-use Rattle.cube_run.proofs.Names.{AfterRun, AfterStop, Command, Disk, Elapses, Files, Headline, HistoriesGoOn, Kept, LeavesOnly, OnlyNow, Opened, Status, Stays, TellsFront, TellsNothing, World, bare}
-use Rattle.cube_run.proofs.Names.{each_moment, goes_on_once, joined, replies_from, wider}
+use Rattle.cube_run.proofs.Names.{AfterRun, AfterStop, Command, Disk, Elapses, Files, Headline, HistoriesGoOn, Kept, LeavesOnly, OnlyNow, Opened, Status, Stays, TellsFront, TellsNothing, World}
+use Rattle.cube_run.proofs.Names.{bare, each_moment, goes_on_once, joined, replies_from, wider}
 
 -- what was told in the end
 pub told_front : (old new : Disk) (w : World) (cs : List Command) → LeavesOnly old new (AfterRun w cs old)

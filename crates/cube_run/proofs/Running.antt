@@ -1,9 +1,9 @@
 -- How a run goes: it ends before the first pull, or as the script is served.
 use Rattle.std.proofs.Common.{◌≡◌, ◌≤◌, ◌+◌, ◌∷◌, ℕ, IsTrue, inl, inr, List, [], Option, IfSome, Ok, Err, ap, refl, sym, subst, arith}
 use Rattle.cube_run.proofs.Names.{AreValid, BreaksAt, ByEnd, Changes-refl, Command, Cost, CostTogether, Costs, CostsRun, Elapses, EndsAt, EndsForBreak, EndsUnpulled, EndsUntouched, Faults, Files}
-use Rattle.cube_run.proofs.Names.{Gave, Ghosts, HasReplied, Headline, IsNoDamage, IsPastOpening, IsSomeAnd, IsUndamaged, IsUsageOrMemory, Keeps, KeepsLimit, Kept, OnlyNow, Outcome, Place, RunsScript}
-use Rattle.cube_run.proofs.Names.{Serves, Session, Sites, Sources, Spends, Starts, Status, StatusCause, Stays, Stop, StopsAt, TellsBreak, TellsNothing, WordsStop, World, act, bare, both, commands}
-use Rattle.cube_run.proofs.Names.{faults, none_cost, one_costs, open_cost, opening_and, slice_costs, status_of, stop_of, words_status}
+use Rattle.cube_run.proofs.Names.{Gave, Ghosts, HasReplied, Headline, IsNoDamage, IsPastOpening, IsSomeAnd, IsUndamaged, IsUsageOrMemory, Keeps, KeepsLimit, Kept, OnlyNow, Outcome, Place}
+use Rattle.cube_run.proofs.Names.{RunsScript, Serves, Session, Sites, Sources, Spends, Starts, Status, StatusCause, Stays, Stop, StopsAt, TellsBreak, TellsNothing, WordsStop, World, act, bare, both}
+use Rattle.cube_run.proofs.Names.{commands, faults, none_cost, one_costs, open_cost, opening_and, slice_costs, status_of, stop_of, words_status}
 use Rattle.cube_run.proofs.Moments.{histories_go_on, opened_behind, opened_moments, opening_moments, told_front}
 use Rattle.cube_run.proofs.Statuses.{complete, never, none_told, of_stop, still_closed, stop_cause}
 use Rattle.script_lang.specs.declared.command.Command.TheVariants as says

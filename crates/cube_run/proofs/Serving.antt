@@ -3,8 +3,8 @@ use Rattle.std.proofs.Common.{◌≡◌, ◌≤◌, ◌<◌, ◌+◌, ◌∙◌,
 use Rattle.std.proofs.Common.{length-append, length-take, arith}
 use Rattle.std.proofs.Math.Seq.{take-append_seam}
 use Rattle.cube_run.proofs.Names.{Cache, CarriesOn, Command, Finished, Gave, GaveAtMost, HasGone, HasReplied, HasStopped, IsNoDamage, IsWithin, OnlyNow, PullsInto, Reading, Reads, RoseOnce, Runs}
-use Rattle.cube_run.proofs.Names.{Serves, Sites, Sources, StandsFor, State, Status, Stop, World, commands, fed, fed_whole, feeding_ended, none_to_come, none_whole, nothing_read, ready}
-use Rattle.cube_run.proofs.Names.{status_of, to_come, whole, with_more}
+use Rattle.cube_run.proofs.Names.{Serves, Sites, Sources, StandsFor, State, Status, Stop, World, commands, fed, fed_whole, feeding_ended, none_to_come, none_whole, nothing_read, ready, status_of}
+use Rattle.cube_run.proofs.Names.{to_come, whole, with_more}
 use Rattle.cube_run.proofs.Going.{gone_none, gone_then, onward_done, reads_then, stopped_out, stopped_then}
 use Rattle.cube_run.proofs.Statuses.{by_stop, of_stop, stop_cause}
 use Rattle.cube_state.specs.declared.stop.Stop.TheVariants as stops

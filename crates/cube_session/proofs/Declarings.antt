@@ -1,11 +1,11 @@
 -- A schema is declared in files that keep none.
-use Rattle.cube_session.proofs.Names.{declared_text, Vec, Global, Result, List, sym, subst, ap, Some, ◌∙◌, None, ◌≡◌, ℕ, [], inr, refl, arith, Bool, true, cond, inl, Ok, IsTrue, Err, IfErr, ◌⊎◌, IfOk}
-use Rattle.cube_session.proofs.Names.{OnOk, nat_lt, IsErrOf, IsErrAnd, wider, stable_holds, HasCauseWhere, CallsOnly, IsStable, LeavesOnly, Ghosts, IsSchema, schema_of, Schema, SchemaRefusal, Cache}
-use Rattle.cube_session.proofs.Names.{Keeps, none_accepted, InitStop, KeepsNothing, Store, KeepsFacts, IsOpened, IsStoreOf, IsWhole, Whole, Command, line, act_schema, IsLawful, Answer, act, declare}
-use Rattle.cube_session.proofs.Names.{declare_over, declared, empty, makes_stage, size, Kept, World, bare, kept_same, none_fit, quiet_out, spares_none, schema_cost, KeepsUp, Saves, kept_over}
-use Rattle.cube_session.proofs.Names.{CarriesOut, IsReadyFor, Reply, Cost, Spends, free, IsQuiet, RunsOn, Belongs, Between, KeepsEither, Stands, IsAnswer, IsNoDamage, init_stop, GoesTo, State, Empty}
-use Rattle.cube_session.proofs.Names.{Idle, Stop, ⊎_elim, subst₂}
-use Rattle.cube_session.proofs.Known.{goes_nowhere, some_none}
+use Rattle.cube_session.proofs.Names.{declared_text, Vec, Global, Result, List, sym, subst, ap, Some, ◌∙◌, None, ◌≡◌, ℕ, [], inr, refl, arith, Bool, true, cond, inl, Ok, IsTrue, Err, IfErr, ◌⊎◌}
+use Rattle.cube_session.proofs.Names.{IfOk, OnOk, nat_lt, IsErrOf, IsErrAnd, wider, stable_holds, HasCauseWhere, CallsOnly, IsStable, LeavesOnly, Ghosts, IsSchema, schema_of, Schema, SchemaRefusal}
+use Rattle.cube_session.proofs.Names.{Cache, Keeps, none_accepted, InitStop, KeepsNothing, Store, KeepsFacts, IsOpened, IsStoreOf, IsWhole, Whole, Command, line, act_schema, IsLawful, Answer, act}
+use Rattle.cube_session.proofs.Names.{declare, declare_over, declared, empty, makes_stage, size, Kept, World, bare, kept_same, none_fit, quiet_out, spares_none, schema_cost, KeepsUp, Saves}
+use Rattle.cube_session.proofs.Names.{kept_over, CarriesOut, IsReadyFor, Reply, Cost, Spends, free, IsQuiet, RunsOn, Belongs, Between, KeepsEither, Stands, IsAnswer, IsNoDamage, init_stop, GoesTo}
+use Rattle.cube_session.proofs.Names.{State, Empty, Idle, Stop, ⊎_elim, subst₂}
+use Rattle.cube_state.proofs.{Known.some_none, Writing.goes_nowhere}
 use Rattle.cube_state.specs.Moves.{reached_by, unmoved}
 
 -- ---- what the call promises
@@ -73,7 +73,7 @@ module _ {S : Type 0} (T : Ghosts S) (schema : Schema) (lawful : IsSchema schema
 
   -- it goes to no page
   no_pages : (P : List ℕ → Type 0) (world : World) (numbers : List ℕ) → GoesTo 1 world its numbers → P numbers
-  no_pages P world numbers goes = absurd (goes_nowhere 1 world.kept its (λ schema. refl) numbers goes)
+  no_pages P world numbers goes = absurd (goes_nowhere its (λ schema. refl) 1 world numbers goes)
 
   -- and makes a call
   called : (P : Type 0) (world : World) → world.kept ≡ None → (act world its).0.kept ≡ world.kept → P

@@ -6,7 +6,7 @@ use Rattle.cube_session.proofs.Names.{Stands, open_stop, State, Stop, IsOpenUnda
 use Rattle.cube_session.specs.Costs.{open_cost}
 use Rattle.cube_session.specs.Session.{Runs, StandsFor, Starts, moves_for, opened_state}
 use Rattle.cube_session.specs.declared.session.Session.{Session}
-use Rattle.cube_session.proofs.Known.{some_none}
+use Rattle.cube_state.proofs.Known.{some_none}
 use Rattle.forest_root.specs.Live.{IsLiveBody}
 use Rattle.cube_state.specs.Moves.{FromFormat, reached_by}
 use Rattle.cube_state.proofs.Moves.{live_root}

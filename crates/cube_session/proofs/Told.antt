@@ -1,8 +1,8 @@
 -- A command that was carried out and its reply told.
-use Rattle.cube_session.proofs.Names.{Vec, Global, List, sym, subst, ap, Some, ◌∙◌, None, ◌≡◌, ℕ, [], ◌++◌, length, take, drop, inr, refl, append-nil, arith, Ok, IsTrue, Err, take-append-drop, goes_on}
-use Rattle.cube_session.proofs.Names.{wider, Emits, RoseOnce, Disk, Files, LeavesOnly, Ghosts, Cache, Keeps, Command, reply_some, act, Meanwhile, World, emits_left, fit_on, stands_on, stands_left}
-use Rattle.cube_session.proofs.Names.{tells_none, Saves, Fits, live_file, live_of, ByWorld, CarriesOut, MayWrite, Costs, Cost, Spends, RunsOn, moves_made, Between, KeepsEither, Stands, GoesTo, State}
-use Rattle.cube_session.proofs.Names.{Stop}
+use Rattle.cube_session.proofs.Names.{Vec, Global, List, sym, subst, ap, Some, ◌∙◌, None, ◌≡◌, ℕ, [], ◌++◌, length, take, drop, inr, refl, append-nil, arith, Ok, IsTrue, Err, take-append-drop}
+use Rattle.cube_session.proofs.Names.{goes_on, wider, Emits, RoseOnce, Disk, Files, LeavesOnly, Ghosts, Cache, Keeps, Command, reply_some, act, Meanwhile, World, emits_left, fit_on, stands_on}
+use Rattle.cube_session.proofs.Names.{stands_left, tells_none, Saves, Fits, live_file, live_of, ByWorld, CarriesOut, MayWrite, Costs, Cost, Spends, RunsOn, Between, KeepsEither, Stands, GoesTo}
+use Rattle.cube_session.proofs.Names.{State, Stop}
 use Rattle.cube_session.specs.Session.{Answers}
 use Rattle.cube_state.specs.Moves.{format_of, reached_by}
 

@@ -1,14 +1,14 @@
 -- A slice is carried out: it is only answered, or it goes to the pages of a view.
-use Rattle.cube_slices.proofs.Names.{RepliesAlone, no_schema, SideStays, Vec, Global, Agrees, LiesIn, GivesFound, StopCause, Option, Result, List, sym, subst, ap, Some, ◌∙◌, None, ◌≡◌, ℕ, length, inr}
-use Rattle.cube_slices.proofs.Names.{refl, arith, Bool, true, false, cond, inl, true≢false, Ok, IsTrue, Err, IfErr, ◌≤◌, ◌+◌, IfOk, OnOk, cases_Bool, IfOk-weaker, ◌↔◌, IsErrOf, HasCauseWhere, Disk}
-use Rattle.cube_slices.proofs.Names.{Files, Looks, Ghosts, rows, Fact, Row, Slice, Schema, Picks, covers, Cache, HasRoom, Keeps, Body, Store, side_of, IsStoreOf, Command, same-cost, IsJudged}
-use Rattle.cube_slices.proofs.Names.{IsUncovered, visits_of, AnswerStop, slice_of, SliceRefusal, answer_text, line, not_covered, act_slice, Answer, act, asked_by, asked_over, asked_slice, slice_over}
-use Rattle.cube_slices.proofs.Names.{slice_reply, covered, is_covered, Kept, Warehouse, World, OnlyNow, fit_rests, resting, stands_rests, holds, kept_same, OnlySays, runs_out_as, only_replies}
-use Rattle.cube_slices.proofs.Names.{attends_belongs, spares_same, AreLive, KeepsUp, Saves, Fits, FitsLive, live_file, live_of, ByWorld, CarriesOut, IsReadyFor, OverAnyFiles, Reply, Spares, Gives}
-use Rattle.cube_slices.proofs.Names.{Cost, Spends, IsQuiet, Belongs, Stands, IsAnswer, GivesRead, TellsSpoilt, SliceGives, SliceTells, IsNoDamage, GoesFrom, GoesOver, GoesTo, ReadsFor, ReadsFrom}
-use Rattle.cube_slices.proofs.Names.{asked_from, asks_pages, is_asked, store_of, State, Empty, Idle, Hollow, Pending, Stop, subst₂, IsUndamaged}
+use Rattle.cube_slices.proofs.Names.{RepliesAlone, no_schema, SideStays, Vec, Global, Agrees, LiesIn, GivesFound, StopCause, Option, Result, List, sym, subst, ap, Some, ◌∙◌, None, ◌≡◌, ℕ, length}
+use Rattle.cube_slices.proofs.Names.{inr, refl, arith, Bool, true, false, cond, inl, true≢false, Ok, IsTrue, Err, IfErr, ◌≤◌, ◌+◌, IfOk, OnOk, cases_Bool, IfOk-weaker, ◌↔◌, IsErrOf, HasCauseWhere}
+use Rattle.cube_slices.proofs.Names.{Disk, Files, Looks, Ghosts, rows, Fact, Row, Slice, Schema, Picks, covers, Cache, HasRoom, Keeps, Body, Store, side_of, IsStoreOf, Command, same-cost, IsJudged}
+use Rattle.cube_slices.proofs.Names.{IsUncovered, visits_of, AnswerStop, slice_of, SliceRefusal, answer_text, line, not_covered, act_slice, Answer, act, asked_by, asked_over, asked_slice}
+use Rattle.cube_slices.proofs.Names.{slice_over, slice_reply, covered, is_covered, Kept, Warehouse, World, OnlyNow, fit_rests, resting, stands_rests, holds, kept_same, OnlySays, runs_out_as}
+use Rattle.cube_slices.proofs.Names.{only_replies, attends_belongs, spares_same, AreLive, KeepsUp, Saves, Fits, FitsLive, live_file, live_of, ByWorld, CarriesOut, IsReadyFor, OverAnyFiles, Reply}
+use Rattle.cube_slices.proofs.Names.{Spares, Gives, Cost, Spends, IsQuiet, Belongs, Stands, IsAnswer, GivesRead, TellsSpoilt, SliceGives, SliceTells, IsNoDamage, GoesFrom, GoesOver, GoesTo}
+use Rattle.cube_slices.proofs.Names.{ReadsFor, ReadsFrom, asked_from, asks_pages, is_asked, store_of, State, Empty, Idle, Hollow, Pending, Stop, subst₂, IsUndamaged}
 use Rattle.cube_slices.specs.Told.{Tells, answer_stop}
-use Rattle.cube_slices.proofs.Costs.{none-covers, some-covers}
+use Rattle.cube_state.proofs.SliceCosts.{none-covers, some-covers}
 use Rattle.cube_state.specs.Moves.{format_in, format_of}
 
 same_in : {A : Type 0} {x y : A} → Some x ≡ Some y → x ≡ y

@@ -1,9 +1,14 @@
 pub mod Answering
+pub mod BatchCosts
 pub mod Cached
 pub mod Carried
 pub mod Costs
+pub mod Giving
+pub mod Known
+pub mod Limits
 pub mod Looking
 pub mod Moves
+pub mod SliceCosts
 pub mod Standing
 pub mod Told
 pub mod Writing

@@ -1,5 +1,5 @@
 use Rattle.cube_session.proofs.Names.{is_declared, long_schema, schema_text, sym, ap, ◌∙◌, None, refl, Ok, Err, Whole, Command, line, declare_over, declared, World}
-use Rattle.cube_session.proofs.Known.{declared_says, only_answers, refused_says}
+use Rattle.cube_state.proofs.Known.{declared_says, only_answers, refused_says}
 use Rattle.cube_session.proofs.Declarings.{Inits, declares_as, fails_as}
 use Rattle.cube_session.proofs.declaring.declare.Goals as goal
 

@@ -1,5 +1,5 @@
 use Rattle.cube_session.proofs.Names.{long_line, open_block, is_unknown, Command, line, state_text}
-use Rattle.cube_session.proofs.Known.{long_line_says, only_answers, open_block_says, status_says, unknown_says}
+use Rattle.cube_state.proofs.Known.{long_line_says, only_answers, open_block_says, status_says, unknown_says}
 use Rattle.cube_session.proofs.machine.act.Goals as goal
 
 pub returns-in-Status : goal.returns-in-Status

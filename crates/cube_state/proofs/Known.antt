@@ -1,17 +1,32 @@
 -- Commands that only answer: what they reply, by what the session has.
-use Rattle.cube_session.proofs.Names.{is_declared, long_line, open_block, is_unknown, Option, List, sym, subst, ap, Some, ◌∙◌, None, ◌≡◌, ℕ, length, refl, arith, IsTrue, IfErr, length-append, IfOk}
-use Rattle.cube_session.proofs.Names.{Disk, Ghosts, Fact, Slice, Schema, Cache, batch_size, Block, Command, line, facts_text, pending_text, act_long_line, act_open_block, act_schema, act_status}
-use Rattle.cube_session.proofs.Names.{act_unknown, Answer, asked_by, asked_over, declare_over, status_over, status_text, Kept, Knows, World, bare, OnlyNow, OnlySays, says_or_out}
-use Rattle.cube_session.proofs.Names.{CarriesOut, IsReadyFor, Reply, SchemaGives, Stands, state_text, GoesFrom, GoesOver, State, Empty, Idle, Hollow, Pending, Stop}
+use Rattle.cube_schema.specs.declared.schema.Schema.{Schema}
+use Rattle.cube_state.proofs.Answering.{OnlyNow}
+use Rattle.cube_state.proofs.Carried.{OnlySays, says_or_out}
+use Rattle.cube_state.specs.Carried.{CarriesOut, IsReadyFor, Reply}
+use Rattle.cube_state.specs.Commands.{SchemaGives}
+use Rattle.cube_state.specs.Session.{Stands, state_text}
+use Rattle.cube_state.specs.Visits.{GoesFrom, GoesOver}
+use Rattle.cube_state.specs.declared.state.State.{State}
+use Rattle.cube_state.specs.declared.state.State.TheVariants.{Empty, Hollow, Idle, Pending}
+use Rattle.cube_state.specs.declared.stop.Stop.{Stop}
+use Rattle.fact_model.specs.declared.fact.Fact.{Fact}
+use Rattle.fact_model.specs.declared.slice.Slice.{Slice}
+use Rattle.forest_refresh.specs.Begun.{batch_size}
+use Rattle.page_cache.specs.Giving.{Cache}
+use Rattle.plain_machine.proofs.Acts.{act_long_line, act_open_block, act_schema, act_status, act_unknown}
+use Rattle.plain_machine.specs.Machine.{Answer, asked_by, asked_over, declare_over, status_over, status_text}
+use Rattle.plain_machine.specs.World.{Kept, Knows, World, bare}
+use Rattle.reply_text.specs.Replies.{facts_text, is_declared, is_unknown, line, long_line, open_block, pending_text}
+use Rattle.script_lang.specs.declared.command.Block.{Block}
+use Rattle.script_lang.specs.declared.command.Command.{Command}
+use Rattle.site_core.specs.Disk.{Disk}
+use Rattle.site_core.specs.declared.site.Site.{Ghosts}
+use Rattle.std.proofs.Common.{IfErr, IfOk, IsTrue, List, None, Option, Some, ap, arith, length, length-append, refl, subst, sym, ℕ, ◌∙◌, ◌≡◌}
 use Rattle.cube_state.specs.Moves.{format_of}
+use Rattle.cube_state.proofs.Writing.{goes_nowhere}
 
 pub some_none : {A : Type 0} {x : A} → Some x ≡ None → ⊥
 some_none same = absurd (cc)
-
--- a command that has no slice answered goes to no page
-pub goes_nowhere : (format : ℕ) (kept : Kept) (command : Command) → ((schema : Schema) → asked_by schema command ≡ None) → (numbers : List ℕ) → GoesFrom format kept (asked_over kept command) numbers → ⊥
-goes_nowhere format None command none numbers goes = goes
-goes_nowhere format (Some warehouse) command none numbers goes = subst (λ (a : Option Slice). GoesOver format warehouse.schema warehouse.facts a numbers) (none warehouse.schema) goes
 
 -- ---- how many facts
 
@@ -35,7 +50,7 @@ module _ {S : Type 0} (T : Ghosts S) (state : State) (site : S) where
   status_says = record {
     acts = λ t world stands. act_status world ∙ ap (λ text. (world, text)) (sym (status_known state (T.disk site) world stands));
     moves = λ t world stands. refl;
-    goes = λ t world stands. goes_nowhere (format_of state) world.kept Command.Status (λ schema. refl);
+    goes = λ t world stands. goes_nowhere Command.Status (λ schema. refl) (format_of state) world;
     gives = λ files. refl;
     alone = λ none. refl;
   }
@@ -55,7 +70,7 @@ module _ {S : Type 0} (T : Ghosts S) (state : State) (site : S) where
   schema_says block text declares gives = record {
     acts = λ t world stands. act_schema world block ∙ declares world stands;
     moves = λ t world stands. refl;
-    goes = λ t world stands. goes_nowhere (format_of state) world.kept (Command.Schema block) (λ schema. refl);
+    goes = λ t world stands. goes_nowhere (Command.Schema block) (λ schema. refl) (format_of state) world;
     gives = λ files. gives;
     alone = λ none. refl;
   }

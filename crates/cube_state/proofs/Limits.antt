@@ -1,9 +1,28 @@
 -- A batch against the limits: what the plain machine makes of it.
+use Rattle.attr_dict.proofs.Kept.{all-agree, names-past}
+use Rattle.cube_schema.specs.Agreeing.{Agrees}
+use Rattle.cube_schema.specs.Kinds.{max_at, max_of, no_attr}
+use Rattle.cube_schema.specs.Lawful.{IsSchema}
+use Rattle.cube_schema.specs.declared.schema.Attr.{Attr}
+use Rattle.cube_schema.specs.declared.schema.Schema.{Schema}
+use Rattle.cube_state.specs.Batches.{refusal_text}
+use Rattle.fact_model.specs.Fact.{mass, mass_limit}
+use Rattle.fact_model.specs.declared.fact.Fact.{Fact}
+use Rattle.forest_open.proofs.Openings.{mass_past}
+use Rattle.forest_refresh.specs.Limits.{TellsLimit}
+use Rattle.forest_refresh.specs.declared.stop.BeginStop.{BeginStop}
+use Rattle.forest_store.proofs.Schemas.{few_measures}
+use Rattle.forest_store.specs.Held.{AreAccepted, HasNames}
+use Rattle.plain_machine.specs.Machine.{fact_limit, first_full, first_heavy, full_refusal, heavy_refusal, refusal_of}
+use Rattle.plain_machine.specs.World.{Warehouse}
+use Rattle.std.proofs.Common.{Bool, List, None, Option, Some, [], ap, append-nil, arith, cond, false, get_or, inl, inr, length, refl, subst, suc, sym, true, zero, ℕ, ◌++◌, ◌+◌, ◌<◌, ◌∙◌, ◌∷◌, ◌≡◌, ◌≤◌}
+use Rattle.std.proofs.lemmas.Bool.{cases_Bool}
+use Rattle.std.proofs.lemmas.Bool.Decides.{nat_tests}
+use Rattle.std.proofs.lemmas.List.{length-map}
+use Rattle.std.specs.List.{All}
+use Rattle.std.specs.Prelude.{nat_le, nat_lt}
+use Rattle.view_points.specs.Codes.{names_of}
 use Rattle.forest_refresh.specs.declared.stop.BeginStop.TheVariants as begins
-use Rattle.cube_batches.proofs.Names.{◌++◌, ◌+◌, ◌<◌, ◌∙◌, ◌∷◌, ◌≡◌, ◌≤◌, Agrees, All, AreAccepted, Attr, BeginStop, Bool, Fact, HasNames, IsSchema, List, None, Option, Schema, Some, TellsLimit}
-use Rattle.cube_batches.proofs.Names.{Warehouse, [], all-agree, ap, append-nil, arith, cases_Bool, cond, fact_limit, false, few_measures, first_full, first_heavy, full_refusal, get_or, heavy_refusal}
-use Rattle.cube_batches.proofs.Names.{inl, inr, length, length-map, mass, mass_limit, mass_past, max_at, max_of, names-past, names_of, nat_le, nat_lt, nat_tests, no_attr, refl, refusal_of}
-use Rattle.cube_batches.proofs.Names.{refusal_text, subst, suc, sym, true, zero, ℕ}
 
 -- ---- the first of some items that passes
 

@@ -1,9 +1,30 @@
 -- What a batch costs, for a world.
+use Rattle.cube_schema.specs.declared.schema.Schema.{Schema}
+use Rattle.cube_state.specs.BatchCosts.{commit_cost, finish_cost, load_cost_of, moves_cost, step_cost}
+use Rattle.cube_state.specs.Costs.{Spends, free}
+use Rattle.cube_state.specs.Moves.{moves_over, pending_moves}
+use Rattle.cube_state.specs.Session.{AttendsAs}
+use Rattle.fact_model.specs.declared.fact.Fact.{Fact}
+use Rattle.forest_moves.specs.Forest.{forest_moves}
+use Rattle.forest_pages.proofs.Scanned.{forest-long}
+use Rattle.forest_pages.specs.Forest.{body_counts}
+use Rattle.forest_refresh.specs.Begun.{Begun}
+use Rattle.forest_root.specs.Forest.{pages_of_all}
+use Rattle.forest_store.proofs.Storable.{storable}
+use Rattle.forest_store.specs.Sides.{page_count, page_total}
+use Rattle.packing.proofs.Moves.{reads-more, written-more}
+use Rattle.packing.specs.Moves.{KeepsTo, Move}
+use Rattle.plain_machine.proofs.Acts.{act_finish}
+use Rattle.plain_machine.specs.Machine.{act, committed, pending_over}
+use Rattle.plain_machine.specs.Stages.{makes_stage, size}
+use Rattle.plain_machine.specs.World.{Knows, Warehouse, World}
+use Rattle.select_map.specs.Views.{selected}
+use Rattle.site_core.specs.declared.site.Site.{Ghosts}
+use Rattle.std.proofs.Common.{List, Some, [], ap, arith, cond, length, length-append, min, refl, subst, sym, true, ℕ, ◌++◌, ◌+◌, ◌-◌, ◌/◌, ◌<◌, ◌∙◌, ◌∷◌, ◌≡◌, ◌≤◌}
+use Rattle.std.proofs.Math.Nat.{mul-div_cancel_left}
+use Rattle.std.proofs.lemmas.Bool.Decides.{nat_tests}
+use Rattle.std.specs.Prelude.{nat_lt}
 use Rattle.script_lang.specs.declared.command.Command.TheVariants as says
-use Rattle.cube_batches.proofs.Names.{◌++◌, ◌+◌, ◌-◌, ◌/◌, ◌<◌, ◌∙◌, ◌∷◌, ◌≡◌, ◌≤◌, AttendsAs, Begun, Fact, Ghosts, KeepsTo, Knows, List, Move, Schema, Some, Spends, Warehouse, World, [], act}
-use Rattle.cube_batches.proofs.Names.{act_finish, ap, arith, body_counts, commit_cost, committed, cond, finish_cost, forest-long, forest_moves, free, length, length-append, load_cost_of, makes_stage}
-use Rattle.cube_batches.proofs.Names.{min, moves_cost, moves_over, mul-div_cancel_left, nat_lt, nat_tests, page_count, page_total, pages_of_all, pending_moves, pending_over, reads-more, refl}
-use Rattle.cube_batches.proofs.Names.{selected, size, step_cost, storable, subst, sym, true, written-more, ℕ}
 use Rattle.forest_refresh.specs.Begun.{moves_of}
 use Rattle.cube_state.specs.Moves.{Reached, reached_by}
 use Rattle.cube_state.specs.declared.state.State.TheVariants.{Pending}

@@ -1,6 +1,9 @@
 -- Each reply that a command gives has a byte.
+use Rattle.cube_state.specs.declared.state.State.{State}
+use Rattle.plain_machine.specs.World.{bare}
+use Rattle.script_lang.specs.declared.command.Command.{Command}
+use Rattle.site_core.specs.Disk.{Files}
 use Rattle.std.proofs.Common.{◌≡◌, ◌<◌, ℕ, inl, inr, List, [], ◌∷◌, length, Option, Some, None, Result, Ok, Err, codes, decimal, sym, subst}
-use Rattle.cube_run.proofs.Names.{Command, Files, State, bare}
 use Rattle.cube_schema.specs.declared.schema.Schema.{Schema}
 use Rattle.cube_schema.specs.Kinds.{name_at, measure_name_at}
 use Rattle.fact_model.specs.declared.fact.Fact.{Fact}
