@@ -11,6 +11,12 @@ use Rattle.cube_batches.proofs.{Calls.answered_by, Calls.says_either, Takings.al
 use Rattle.cube_state.proofs.BatchCosts.{commit_spends, pages_read}
 use Rattle.forest_moves.specs.Forest.{forest_moves}
 use Rattle.forest_refresh.specs.Begun.{moves_of}
+use Rattle.std.proofs.Common.{Option, ◌≤◌}
+use Rattle.forest_store.specs.Sides.{page_count}
+use Rattle.forest_root.specs.declared.body.Body.{Body}
+use Rattle.cube_state.specs.Cached.{generation}
+use Rattle.cube_state.specs.Costs.{Spends}
+use Rattle.cube_state.specs.BatchCosts.{commit_cost}
 use Rattle.cube_state.specs.Moves.{format_in, format_of, unmoved}
 
 -- ---- stops of a refresh

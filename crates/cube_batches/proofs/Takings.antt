@@ -11,7 +11,7 @@ use Rattle.cube_batches.proofs.Names.{spends_more, stable_holds, stopped, subst,
 use Rattle.cube_state.proofs.Limits.{none_refused, one_refused}
 use Rattle.cube_batches.proofs.{Calls.answered_by, Calls.rests, Sources.answer_batch, Sources.answer_read}
 use Rattle.forest_refresh.specs.Begun.{moves_of}
-use Rattle.cube_state.specs.Moves.{Reached, reached_by}
+use Rattle.cube_state.specs.Moves.{Reached, format_of, reached_by}
 
 -- ---- the store, the refresh and the warehouse
 
@@ -104,7 +104,7 @@ module _ {S : Type 0} (T : Ghosts S) (source : BatchSource) (state : State) (sit
   refuses text answers by reply said = λ command sends cache ready. says T command state site cache only text reply ready (record {
     acts = λ t world stands. sends.acts world ∙ answers world stands (sends.after world);
     moves = λ t world stands. sends.moves world (reached_by state);
-    goes = λ t world stands numbers goes. goes_nowhere command sends.none_asked world numbers goes;
+    goes = λ t world stands numbers goes. goes_nowhere command sends.none_asked (format_of state) world numbers goes;
     gives = λ files. sends.refuses state files text by;
     alone = λ no. sends.alone (moves_made state);
   }) said

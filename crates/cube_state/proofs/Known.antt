@@ -56,13 +56,13 @@ module _ {S : Type 0} (T : Ghosts S) (state : State) (site : S) where
   }
 
   pub long_line_says : OnlySays T Command.LongLine state site (line long_line)
-  long_line_says = search (act_long_line, goes_nowhere)
+  long_line_says = search (act_long_line, goes_nowhere Command.LongLine (λ schema. refl) (format_of state))
 
   pub open_block_says : OnlySays T Command.OpenBlock state site (line open_block)
-  open_block_says = search (act_open_block, goes_nowhere)
+  open_block_says = search (act_open_block, goes_nowhere Command.OpenBlock (λ schema. refl) (format_of state))
 
   pub unknown_says : OnlySays T Command.Unknown state site (line is_unknown)
-  unknown_says = search (act_unknown, goes_nowhere)
+  unknown_says = search (act_unknown, goes_nowhere Command.Unknown (λ schema. refl) (format_of state))
 
   -- a schema is declared only where there is none
   schema_says : (block : Block) (text : List ℕ) → ((world : World) → Stands state (T.disk site) world → declare_over world world.kept block ≡ (world, text)) → SchemaGives state block text
