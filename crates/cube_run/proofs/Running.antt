@@ -68,12 +68,12 @@ module _ {A B : Type 0} (S : Sources A) (T : Sites B) (laws : Laws T) (given : L
       record {
         headline = λ s t kept keeps. head t kept;
         histories = λ s t kept keeps. histories_go_on kept _ _ _ _ _ (laws.read now t) (head t kept);
-        cost = λ s t kept keeps. costs_run T kept _ site now (has_format _ kept keeps).0 (has_format _ kept keeps).1 (λ cost costs. record { reads = omega (arith, (opens t kept keeps).1); writes = omega (arith, writes) });
+        cost = λ s t kept keeps. costs_run T kept _ site now (has_format (T.disk site).files kept keeps).0 (has_format (T.disk site).files kept keeps).1 (λ cost costs. record { reads = omega (arith, (opens t kept keeps).1); writes = omega (arith, writes) });
         undamaged = λ t kept keeps. (opens t kept keeps).0;
         complete = λ s t kept keeps valid short. complete status (faults_of S T source site) (faults_of S T source now) (opens t kept keeps).0 cause (λ same. usage same valid) (other TooLong tt);
         short = λ s t kept keeps. record {
-          format = (has_format _ kept keeps).0;
-          has = (has_format _ kept keeps).1;
+          format = (has_format (T.disk site).files kept keeps).0;
+          has = (has_format (T.disk site).files kept keeps).1;
           holds = record { left_off = λ same. absurd (other TooLong tt same); cut_off = λ same. absurd (other Input tt same) };
         };
         broken = broken;
