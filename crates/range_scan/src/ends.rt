@@ -31,7 +31,9 @@ pub(crate) fn is_whole(page: &[u8; PAGE], shape: &Shape, count: u16, region: &Re
 fn tell_all(first: &Point, last: &Point, region: &Region, wide: bool) -> bool
     ensures { IsTrue result ↔ TellAll wide first.now last.now region.now }
 {
-    inside(first, region) && inside(last, region) && is_open_before(region, wide, last_apart(first, last))
+    inside(first, region)
+        && inside(last, region)
+        && is_open_before(region, wide, last_apart(first, last))
 }
 
 /// The last dimension in which two points differ, and the first one where they do not.
