@@ -1,0 +1,294 @@
+"""What the files of a warehouse hold, read and written by docs/FORMATS.md alone, in both formats."""
+import collections, re
+
+PAGE = 4096
+GREATEST = {"facts": 1 << 40, "mass": (1 << 127) - 1, "names": 1 << 48, "number": (1 << 63) - 1, "coordinate": (1 << 64) - 1}
+NARROW, WIDE = 1, 2
+
+
+class Damage(Exception):
+    """Damage of a file at an offset, or of a page."""
+
+
+def number(data):
+    return int.from_bytes(data, "big")
+
+
+def signed(data):
+    return int.from_bytes(data, "big", signed=True)
+
+
+def bytes_of(value, length):
+    return value.to_bytes(length, "big", signed=value < 0)
+
+
+class Schema:
+    """The schema of a canonical text; ValueError where it is none."""
+
+    def __init__(self, text):
+        self.attributes, self.measures, self.views = [], [], []
+        if not text.endswith(b"\n"):
+            raise ValueError
+        for line in text[:-1].split(b"\n"):
+            self.take(line)
+        if not (self.attributes and self.measures and self.views):
+            raise ValueError
+
+    def take(self, line):
+        named = re.fullmatch(rb"(?:attr ([a-z][a-z0-9_]{0,31}) (?:number|text max ([1-9][0-9]*))|measure ([a-z][a-z0-9_]{0,31}))", line)
+        known = [name for name, _ in self.attributes] + self.measures
+        if named:
+            name = named[1] or named[3]
+            if name in known or self.views or (named[1] and self.measures):
+                raise ValueError
+            if named[3]:
+                self.measures.append(name)
+            else:
+                self.attributes.append((name, int(named[2] or 0)))
+        else:
+            self.take_view(line)
+        if len(self.attributes) > 16 or len(self.measures) > 4 or any(most >= 1 << 24 for _, most in self.attributes):
+            raise ValueError
+
+    def take_view(self, line):
+        if line != b"view" and not line.startswith(b"view "):
+            raise ValueError
+        names = [name for name, _ in self.attributes]
+        view = [names.index(name) for name in line[5:].split(b",")] if line != b"view" else []
+        if len(set(view)) < len(view) or view in self.views or len(view) > 8 or len(self.views) == 32:
+            raise ValueError
+        self.views.append(view)
+
+
+class Body:
+    """A body of the root file for a slot; ValueError where it does not decode."""
+
+    def __init__(self, data, slot):
+        self.slot, self.format, self.views, self.text = slot, number(data[8:10]), number(data[10:12]), number(data[12:16])
+        self.generation, self.names, self.facts = (number(data[at : at + 8]) for at in (16, 24, 32))
+        self.masses = [number(data[at : at + 16]) for at in range(40, 104, 16)]
+        self.points = [number(data[at : at + 8]) for at in range(104, 360, 8)]
+        self.last = number(data[360:368])
+        keeps = (
+            data[:8] == b"CUBETREE" and self.format in (NARROW, WIDE) and 1 <= self.views <= 32 and self.text <= self.names <= GREATEST["names"]
+            and self.facts <= GREATEST["facts"] and self.generation < self.facts + self.format and self.generation % 2 == slot and self.last <= self.facts
+            and max(self.masses) <= GREATEST["mass"] and max(self.points) <= self.facts and not any(self.points[self.views :]) and not any(data[368:])
+        )
+        if not keeps:
+            raise ValueError
+
+
+Cell = collections.namedtuple("Cell", "count parts")
+Entry = collections.namedtuple("Entry", "at cell")
+READ = {}  # what was read of each page, since most are as they were
+
+
+def joined(one, other):
+    """The join of two cells, or None where they do not join."""
+    count = one.count + other.count
+    parts = tuple((p[0] + q[0], min(p[1], q[1]), max(p[2], q[2])) for p, q in zip(one.parts, other.parts))
+    fits = count < 1 << 64 and all(-(1 << 127) <= part[0] < 1 << 127 for part in parts)
+    return Cell(count, parts) if fits else None
+
+
+def order(point):
+    """What points of a tree are ordered by: the last coordinate first, and unused ones are zero."""
+    return tuple(reversed(point + (0,) * (8 - len(point))))
+
+
+class Tree:
+    """A tree of some views in a format: where its pages stand, what is lawful in them, and how they are written."""
+
+    def __init__(self, views, counts, measures, first, form):
+        self.views, self.measures, self.first = views, measures, first
+        self.counts = {len(view): count for view, count in zip(views, counts)}
+        self.dims = max(map(len, views))
+        self.width, self.kinds = (4, (1, 2)) if form == NARROW else (8, (3, 4))
+        self.child_size = 2 * self.width * self.dims + 8
+        self.room = (PAGE - 8) // self.child_size
+        level = sum(-(-count // self.leaf_room(arity)) for arity, count in self.counts.items())
+        self.pages = level
+        while level > 1:
+            level = -(-level // self.room)
+            self.pages += level
+
+    def entry_size(self, arity):
+        return self.width * arity + 8 + 48 * self.measures
+
+    def leaf_room(self, arity):
+        return (PAGE - 8) // self.entry_size(arity)
+
+    def coordinates(self, data, at, count):
+        return tuple(number(data[i : i + self.width]) for i in range(at, at + self.width * count, self.width))
+
+    def leaf(self, data):
+        """The entries of a lawful leaf, or None."""
+        arity, count = data[1], number(data[2:4])
+        size = self.entry_size(arity)
+        if arity > self.dims or not 1 <= count <= self.leaf_room(arity) or any(data[4:8]) or any(data[8 + size * count :]):
+            return None
+        entries = []
+        for at in range(8, 8 + size * count, size):
+            point = self.coordinates(data, at, arity)
+            rest = at + self.width * arity
+            numbers = [signed(data[i : i + 16]) for i in range(rest + 8, at + size, 16)]
+            parts = tuple(zip(numbers[::3], numbers[1::3], numbers[2::3]))
+            cell = Cell(number(data[rest : rest + 8]), parts)
+            if 0 in point or not cell.count or any(low > high for _, low, high in parts):
+                return None
+            entries.append(Entry(point, cell))
+        keys = [order(entry.at) for entry in entries]
+        return entries if all(a < b for a, b in zip(keys, keys[1:])) else None
+
+    def inner(self, data, page):
+        """The children of a lawful inner page, or None."""
+        count, size = number(data[2:4]), self.child_size
+        if data[1] != self.dims or not 1 <= count <= self.room or any(data[4:8]) or any(data[8 + size * count :]):
+            return None
+        children = []
+        for at in range(8, 8 + size * count, size):
+            ends = self.coordinates(data, at, 2 * self.dims)
+            box = list(zip(ends[::2], ends[1::2]))
+            if any(low > high for low, high in box):
+                return None
+            children.append((box, number(data[at + size - 8 : at + size])))
+        numbers = [child for _, child in children] + [page]
+        return children if all(a < b for a, b in zip(numbers, numbers[1:])) else None
+
+    def page(self, side, page):
+        """The entries and the children of a page, or None where it is not lawful."""
+        data = side[PAGE * page : PAGE * page + PAGE]
+        key = self.dims, self.measures, self.width, page, data
+        if key not in READ:
+            READ[key] = self.read_page(data, page)
+        return READ[key]
+
+    def read_page(self, data, page):
+        leaf, inner = self.kinds
+        if data[0] == leaf:
+            entries = self.leaf(data)
+            return None if entries is None else (entries, [])
+        children = self.inner(data, page) if data[0] == inner else None
+        return None if children is None else ([], children)
+
+    def search(self, side, region):
+        """The points of all pages that a search goes to. A page is damaged that is not sound, or one more than the tree has."""
+        found, ahead, seen = [], [self.first + self.pages - 1] if self.pages else [], 0
+        while ahead:
+            page = ahead.pop()
+            held = self.page(side, page)
+            if seen == self.pages or held is None or any(child < self.first for _, child in held[1]):
+                raise Damage(page)
+            seen += 1
+            found += held[0]
+            ahead += reversed([child for box, child in held[1] if all(max(a, c) <= min(b, d) for (a, b), (c, d) in zip(box, region))])
+        return found
+
+    def merged(self, side, delta):
+        """The points of the tree with these ones joined. A page is damaged that is not lawful, does not come behind those before it, or has a cell that
+        does not join; or the first one, where there are not as many points of each arity as are counted."""
+        entries, last, counts = {}, (), collections.Counter()
+        for page in range(self.first, self.first + self.pages):
+            held = self.page(side, page)
+            if held is None or (held[0] and order(held[0][0].at) <= last):
+                raise Damage(page)
+            for entry in held[0]:
+                last = order(entry.at)
+                counts[len(entry.at)] += 1
+                entries[entry.at] = joined(entry.cell, delta[entry.at]) if entry.at in delta else entry.cell
+                if entries[entry.at] is None:
+                    raise Damage(page)
+        if any(counts[arity] != self.counts.get(arity, 0) for arity in range(9)):
+            raise Damage(self.first)
+        return {**delta, **entries}
+
+    # ---- how the pages are written, from whole lists
+
+    def packed(self, entries):
+        """The bytes of all pages over these points, which are a cell for each."""
+        level = []
+        for arity in sorted(self.counts):
+            room, points = self.leaf_room(arity), sorted((at for at in entries if len(at) == arity), key=order)
+            level += [([Entry(at, entries[at]) for at in points[i : i + room]], []) for i in range(0, len(points), room)]
+        while len(level) > 1:
+            level = [([], level[i : i + self.room]) for i in range(0, len(level), self.room)]
+        pages = []
+        for top in level:
+            self.put(top, pages)
+        return b"".join(pages)
+
+    def put(self, node, pages):
+        """Puts the pages below a node and its own behind others, and gives its box and the number of its page."""
+        entries, below = node
+        leaf, inner = self.kinds
+        children = [self.put(child, pages) for child in below]
+        if entries:
+            points = [entry.at + (0,) * (self.dims - len(entry.at)) for entry in entries]
+            box = [(min(ends), max(ends)) for ends in zip(*points)]
+            head, rows = [leaf, len(entries[0].at)], [self.entry_bytes(entry) for entry in entries]
+        else:
+            box = [(min(low for low, _ in ends), max(high for _, high in ends)) for ends in zip(*(box for box, _ in children))]
+            head, rows = [inner, self.dims], [self.coded(*(end for ends in box for end in ends)) + bytes_of(page, 8) for box, page in children]
+        page = bytes(head) + bytes_of(len(rows), 2) + bytes(4) + b"".join(rows)
+        pages.append(page.ljust(PAGE, b"\0"))
+        return box, self.first + len(pages) - 1
+
+    def coded(self, *coordinates):
+        return b"".join(bytes_of(each, self.width) for each in coordinates)
+
+    def entry_bytes(self, entry):
+        numbers = [each for part in entry.cell.parts for each in part]
+        return self.coded(*entry.at) + bytes_of(entry.cell.count, 8) + b"".join(bytes_of(each, 16) for each in numbers)
+
+
+def trees_of(schema, points, form):
+    """The trees of a schema whose views have so many points: a view stands in that whose number is the count of views of its arity before it."""
+    trees, first = [], 0
+    numbers = [number_of(schema, view) for view in range(len(schema.views))]
+    for tree in range(max(numbers) + 1):
+        own = [view for view, at in enumerate(numbers) if at == tree]
+        trees.append(Tree([schema.views[v] for v in own], [points[v] for v in own], len(schema.measures), first, form))
+        first += trees[-1].pages
+    return trees
+
+
+def number_of(schema, view):
+    return sum(len(other) == len(schema.views[view]) for other in schema.views[:view])
+
+
+def added(schema, names, rows, trees):
+    """The points of rows for each tree: a cell for each. The names are those of each attribute, in the order in which they came."""
+    deltas = []
+    for tree in trees:
+        delta = {}
+        for view in tree.views:
+            for row in rows:
+                point = tuple(code_of(names[a], row[a]) for a in view)
+                cell = Cell(1, tuple((measure,) * 3 for measure in row[len(schema.attributes) :]))
+                delta[point] = joined(delta[point], cell) if point in delta else cell
+        deltas.append(delta)
+    return deltas
+
+
+def code_of(names, value):
+    return names.index(value) + 1 if isinstance(value, bytes) else value + 1
+
+
+def made(text, rows, generation, form):
+    """The files of a warehouse with these accepted rows, whose live body has this generation and format. The other slot has none."""
+    schema, names, entries = Schema(text), [], b""
+    names = [[] for _ in schema.attributes]
+    for row in rows:
+        for a, value in enumerate(row[: len(names)]):
+            if isinstance(value, bytes) and value not in names[a]:
+                names[a].append(value)
+                entries += bytes([a, len(value)]) + value
+    deltas = added(schema, names, rows, trees_of(schema, [0] * len(schema.views), form))
+    points = [sum(len(at) == len(view) for at in deltas[number_of(schema, v)]) for v, view in enumerate(schema.views)]
+    masses = [sum(abs(row[len(names) + m]) for row in rows) for m in range(len(schema.measures))]
+    slot, side = generation % 2, b"".join(tree.packed(delta) for tree, delta in zip(trees_of(schema, points, form), deltas))
+    body = b"CUBETREE" + bytes_of(form, 2) + bytes_of(len(points), 2) + bytes_of(len(text), 4)
+    body += b"".join(bytes_of(each, 8) for each in (generation, len(text) + len(entries), len(rows)))
+    body += b"".join(bytes_of(each, 16) for each in masses).ljust(64, b"\0") + b"".join(bytes_of(each, 8) for each in points)
+    root = (bytes(1024 * slot) + body).ljust(2048 + slot, b"\0") + b"\1"
+    return [root, text + entries, *((side, b"") if slot == 0 else (b"", side))]
