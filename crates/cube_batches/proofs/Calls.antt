@@ -3,10 +3,11 @@ use Rattle.cube_state.specs.declared.stop.Stop.TheVariants as stops
 use Rattle.forest_refresh.specs.declared.stop.RefreshStop.TheVariants as ends
 use Rattle.cube_batches.proofs.Names.{◌%◌, ◌+◌, ◌∙◌, ◌≡◌, ◌≢◌, Answer, AreAllWhole, Begun, Between, Body, CarriesOutAlone, ClosesGate, Command, Disk, Err, Fact, Files, ForEach, Forest, Ghosts}
 use Rattle.cube_batches.proofs.Names.{Gives, Global, IsAnswer, IsErrAnd, IsQuiet, IsTrue, KeepsEither, List, None, Ok, OnlyNow, Reply, Result, RunsOn, SaysOnly, Schema, Some, Spares, SparesOthers}
-use Rattle.cube_batches.proofs.Names.{Stands, State, Stop, StopCause, Store, TellsBatchDamage, TellsFirstDamage, TellsRefreshDamage, Vec, World, act, arith, asked_by, deltas_by, joined, live_of}
+use Rattle.cube_batches.proofs.Names.{Stands, State, Stop, StopCause, Store, TellsBatchDamage, TellsFirstDamage, TellsRefreshDamage, Vec, World, act, ap, arith, asked_by, deltas_by, joined, live_of}
 use Rattle.cube_batches.proofs.Names.{made_alone, moves_made, names_with, next_side, quiet, refl, runs_out, same-first-damage, same-whole, still, subst, sym, wider, with_file, with_file-other, ℕ}
-use Rattle.cube_state.specs.Moves.{reached_behind, reached_by}
+use Rattle.cube_state.specs.Moves.{Reached, reached_behind, reached_by}
 use Rattle.cube_state.proofs.Moves.{reached_next}
+use Rattle.plain_machine.specs.Keeps.{IsFrom}
 
 -- ---- a reply
 
@@ -26,14 +27,22 @@ memory_as result stop memory is = subst (λ (m : Stop). IsErrAnd result (λ s. s
 pub answered_by : (disk : Disk) (answer other : Answer) (state : State) (reply : List ℕ) → answer ≡ other → Stands state disk other.0 → reply ≡ other.1 → IsAnswer disk answer state reply
 answered_by disk answer other state reply same stands said = subst (λ (a : Answer). IsAnswer disk a state reply) (sym same) (record { stands = stands; said = said })
 
+-- the format is the one before, and so many moves are made
+pub record IsStill (before : Reached) (next : State) (behind : Reached) : Type 0 where
+  pub format : behind.format ≡ before.format
+  pub made : moves_made next ≡ behind.made
+
+pub still_reached : (state next : State) {behind : Reached} → moves_made next ≡ moves_made state → behind ≡ reached_by state → IsStill (reached_by state) next behind
+still_reached state next made same = record { format = ap (λ (r : Reached). r.format) same; made = made ∙ ap (λ (r : Reached). r.made) (sym same) }
+
 -- no call is made
 pub rests : {S : Type 0} (T : Ghosts S) (command : Command) → ((schema : Schema) → asked_by schema command ≡ None) → (state next : State) (site : S) → (IsTrue T.tells → OnlyNow (T.disk site))
     → (reply : Vec ℕ Global) → ForEach T state site (λ world. IsAnswer (T.disk site) (act world command) next reply.items) → ((world : World) → Stands state (T.disk site) world
-    → moves_made next ≡ (reached_behind world (reached_by state) command).made) → ((files : Files) → Gives state files command reply.items) → (RunsOn T site state → RunsOn T site next)
+    → IsStill (reached_by state) next (reached_behind world (reached_by state) command)) → ((files : Files) → Gives state files command reply.items) → (RunsOn T site state → RunsOn T site next)
     → moves_made next ≡ made_alone command (moves_made state) → live_of next ≡ live_of state → CarriesOutAlone T command state next site site (Ok reply)
 rests T command none_asked state next site only reply answer moved gives runs made live = λ cache ready. still T command none_asked state next site only cache ready reply (record {
   answer = answer;
-  moved = λ t world it. reached_next world command state next live (moved world it);
+  moved = λ t world it. reached_next world command state next (moved world it).format live (moved world it).made;
   uncalled = λ t world it none. refl;
   answered = λ t. gives (T.disk site).files;
   runs = runs ready.runs;
@@ -43,10 +52,10 @@ rests T command none_asked state next site only reply answer moved gives runs ma
 
 -- ---- one run behind another
 
-pub between_then : (old mid new : Disk) (world next : World) → mid.told ≡ old.told → Between old mid world next → Between mid new world next → Between old new world next
-between_then old mid new world next quiet first second =
-    joined old mid new (λ told files. (told ≡ old.told) × KeepsEither world next files) first
-    (wider mid new _ _ (λ told files both. (both.0 ∙ quiet, both.1)) second)
+pub between_then : (format : ℕ) (old mid new : Disk) (world next : World) → mid.told ≡ old.told → Between format old mid world next → Between format mid new world next → Between format old new world next
+between_then format old mid new world next quiet first second =
+    joined old mid new (λ told files. (told ≡ old.told) × KeepsEither world next files × IsFrom format files) first
+    (wider mid new _ _ (λ told files both. (both.0 ∙ quiet, both.1, both.2)) second)
 
 module _ {S A : Type 0} (T : Ghosts S) (old mid new : S) {x : A} (first : IsQuiet T old mid (Ok x)) where
   cause_then : (stop : Stop) → StopCause (T.disk_faults mid) (T.disk_faults new) (T.told_faults mid) (T.told_faults new) stop

@@ -4,19 +4,25 @@ use Rattle.forest_refresh.specs.declared.stop.RefreshStop.TheVariants as ends
 use Rattle.forest_refresh.specs.Refreshed as refreshes
 use Rattle.cube_batches.proofs.Names.{◌++◌, ◌+◌, ◌∙◌, ◌≡◌, ◌≢◌, Answer, AreAllWhole, AttendsAs, Begun, Belongs, Between, Cache, Calls, Command, Commits, Disk, Ends, Err, Fact, Files, ForEach}
 use Rattle.cube_batches.proofs.Names.{Ghosts, Gives, Global, HasCauseWhere, HoldsNow, Idle, IsLawful, IsNextStore, IsNoDamage, IsOpened, IsQuiet, IsRefreshOf, IsStable, IsStoreOf, IsTrue, Keeps}
-use Rattle.cube_batches.proofs.Names.{KeepsEither, KeepsFacts, KeepsTo, LeavesOnly, List, Ok, RefreshStop, Reply, Result, RunsFor, SaysOnly, Schema, Some, SparesOthers, State, StopCause, Store}
-use Rattle.cube_batches.proofs.Names.{TellsFirstDamage, TellsRefreshDamage, Vec, Warehouse, World, [], act, ap, arith, both, committed, committed_text, emptied, fact_count, forest_moves, inl, inr}
+use Rattle.cube_batches.proofs.Names.{KeepsEither, KeepsTo, LeavesOnly, List, Ok, RefreshStop, Reply, Result, RunsFor, SaysOnly, Schema, Some, SparesOthers, State, StopCause, Store}
+use Rattle.cube_batches.proofs.Names.{TellsFirstDamage, TellsRefreshDamage, Vec, Warehouse, World, [], act, ap, arith, both, committed, emptied, fact_count, forest_moves, inl, inr}
 use Rattle.cube_batches.proofs.Names.{length, length-append, onward, page_total, quiet_out, refl, refresh_stop, replied, stable_holds, stopped, subst, sym, unharmed, wider, ℕ}
 use Rattle.cube_batches.proofs.{Calls.answered_by, Calls.says_either, Takings.all_fine}
 use Rattle.cube_state.proofs.BatchCosts.{commit_spends, pages_read}
 use Rattle.forest_moves.specs.Forest.{forest_moves}
 use Rattle.forest_refresh.specs.Begun.{moves_of}
 use Rattle.std.proofs.Common.{Option, ◌≤◌}
+use Rattle.cube_state.proofs.Standing.{keeps_from}
+use Rattle.forest_store.proofs.Standing.{in_some}
+use Rattle.forest_store.specs.Held.{KeepsAs}
+use Rattle.plain_machine.specs.Keeps.{IsFrom}
 use Rattle.forest_store.specs.Sides.{page_count}
 use Rattle.forest_root.specs.declared.body.Body.{Body}
 use Rattle.cube_state.specs.Cached.{generation}
 use Rattle.cube_state.specs.Costs.{Spends}
 use Rattle.cube_state.specs.BatchCosts.{commit_cost}
+use Rattle.cube_batches.specs.Committing.{ended_with, text_of}
+use Rattle.cube_batches.specs.declared.committing.Told.{Told}
 use Rattle.cube_state.specs.Moves.{format_in, format_of, unmoved}
 
 -- ---- stops of a refresh
@@ -44,7 +50,7 @@ module _ {S A : Type 0} (T : Ghosts S) (old new : S) (most : ℕ) (told : IsTrue
 
 -- ---- all facts are kept then
 
-module _ (last : ℕ) (r : Begun) (old new : Disk) (warehouse : Warehouse) (batch : List Fact) (is : AttendsAs last r old warehouse batch) where
+module _ (last : ℕ) (r : Begun) (later : r.store.forest.body.format ≤ r.next.format) (old new : Disk) (warehouse : Warehouse) (batch : List Fact) (is : AttendsAs last r old warehouse batch) where
   abbrev all_kept : Warehouse
   all_kept = record { schema = warehouse.schema; facts = warehouse.facts ++ batch; last = last }
 
@@ -52,26 +58,32 @@ module _ (last : ℕ) (r : Begun) (old new : Disk) (warehouse : Warehouse) (batc
   all_lawful = record {
     schema = is.lawful.schema;
     accepted = all_fine r old warehouse batch is;
-    last = omega (arith, is.due, is.lawful.last, is.some, length-append warehouse.facts batch);
+    last = omega (arith, is.counted, length-append warehouse.facts batch);
   }
 
-  either : (world : World) → world.kept ≡ Some warehouse → (files : Files)
-      → refreshes.KeepsEither r.store.forest.schema warehouse.facts r.store.forest.body.last (warehouse.facts ++ batch) r.next.last files
-      → KeepsEither world (committed world warehouse batch last).0 files
+  -- at such a moment
+  abbrev AtMoment : Files → Type 0
+  AtMoment files = refreshes.KeepsEither r.store.forest.body.format r.store.forest.schema warehouse.facts r.store.forest.body.last r.next.format (warehouse.facts ++ batch) r.next.last files
+
+  either : (world : World) → world.kept ≡ Some warehouse → (files : Files) → AtMoment files → KeepsEither world (committed world warehouse batch last).0 files
   either world kept files (inl without) = inl (subst (Keeps files) (sym kept) (record {
     lawful = is.lawful;
-    kept = subst (λ (k : Schema × ℕ). KeepsFacts k.0 warehouse.facts k.1 files) (λ i. (is.schema i, is.last i)) without;
+    kept = in_some (subst (λ (k : Schema × ℕ). KeepsAs r.store.forest.body.format k.0 warehouse.facts k.1 files) (λ i. (is.schema i, is.last i)) without);
   }))
   either world kept files (inr both) = inr (record {
     lawful = all_lawful;
-    kept = subst (λ (k : Schema × ℕ). KeepsFacts k.0 (warehouse.facts ++ batch) k.1 files) (λ i. (is.schema i, is.next i)) both.1;
+    kept = in_some (subst (λ (k : Schema × ℕ). KeepsAs r.next.format k.0 (warehouse.facts ++ batch) k.1 files) (λ i. (is.schema i, is.next i)) both.1);
   })
+
+  -- no format is left again
+  either_from : (files : Files) → AtMoment files → IsFrom r.store.forest.body.format files
+  either_from files (inl without) = keeps_from r.store.forest.schema warehouse.facts r.store.forest.body.last files (omega arith) without
+  either_from files (inr both) = keeps_from r.store.forest.schema (warehouse.facts ++ batch) r.next.last files later both.1
 
   -- the files keep the facts without the batch, or all of them
   commit_moments : (world : World) → world.kept ≡ Some warehouse
-      → LeavesOnly old new (λ told files. (told ≡ old.told) × refreshes.KeepsEither r.store.forest.schema warehouse.facts r.store.forest.body.last (warehouse.facts ++ batch) r.next.last files)
-      → Between old new world (committed world warehouse batch last).0
-  commit_moments world kept run = wider old new _ _ (λ told files both. (both.0, either world kept files both.1)) run
+      → LeavesOnly old new (λ told files. (told ≡ old.told) × AtMoment files) → Between r.store.forest.body.format old new world (committed world warehouse batch last).0
+  commit_moments world kept run = wider old new _ _ (λ told files both. (both.0, either world kept files both.1, either_from files both.1)) run
 
   commit_belongs : (store : Store) → IsNextStore r store → IsStoreOf store (warehouse.facts ++ batch) new.files → IsStable new → IsOpened store.forest.body new → Belongs store new all_kept
   commit_belongs store after stored stable opened = record {
@@ -92,29 +104,29 @@ forgotten before after room none = λ i. record { capacity = room i; kept = none
 pub record Finishes {S : Type 0} (T : Ghosts S) (r : Begun) (old new : S) (result : Result Store RefreshStop) : Type 0 where
   pub any_moment : IsTrue T.tells → (accepted batch : List Fact) → HoldsNow (IsRefreshOf r accepted batch) (T.disk old)
       → LeavesOnly (T.disk old) (T.disk new) (λ told files.
-      (told ≡ (T.disk old).told) × refreshes.KeepsEither r.store.forest.schema accepted r.store.forest.body.last (accepted ++ batch) r.next.last files)
+      (told ≡ (T.disk old).told) × refreshes.KeepsEither r.store.forest.body.format r.store.forest.schema accepted r.store.forest.body.last r.next.format (accepted ++ batch) r.next.last files)
   pub cost : IsTrue T.tells → (accepted batch : List Fact) → IsRefreshOf r accepted batch (T.disk old).files
       → KeepsTo (moves_of r accepted batch) r.progress.taken (length (moves_of r accepted batch))
       (T.reads old, T.writes old + 3) (T.reads new, T.writes new)
   pub told : IsTrue T.tells → (T.disk new).told ≡ (T.disk old).told
   pub calls : Calls T (HasCauseWhere ends.Disk) (page_total r.store.forest.body r.store.forest.schema) old new result
 
-module _ {S : Type 0} (T : Ghosts S) (r : Begun) (mid new : S) (before : Cache) where
+module _ {S : Type 0} (T : Ghosts S) (told : Told) (r : Begun) (mid new : S) (before : Cache) where
   abbrev pages : ℕ
   pages = page_total r.store.forest.body r.store.forest.schema
 
-  runs_for : {result : Result Store RefreshStop} → Finishes T r mid new result → (command : Command) (state : State) (old : S) → Ends T command state r old mid
+  runs_for : {result : Result Store RefreshStop} → Finishes T r mid new result → (command : Command) (state : State) (old : S) → Ends T told command state r old mid
       → ForEach T state old (RunsFor T command state old new)
   runs_for is command state old to = λ t world stands.
       let for = to.by_world t world stands in
       let adds = for.attends.adds in
       record {
-        any_moment = for.any_moment new (subst (λ (a : Answer). Between (T.disk mid) (T.disk new) world a.0) (sym for.acts)
-            (commit_moments for.last r (T.disk mid) (T.disk new) for.warehouse for.batch for.attends world for.kept (is.any_moment t for.warehouse.facts for.batch adds)));
+        any_moment = for.any_moment new (subst (λ (a : ℕ × Answer). Between a.0 (T.disk mid) (T.disk new) world a.1.0) (λ i. (ap format_in (sym to.live) i, sym for.acts i))
+            (commit_moments for.last r for.later (T.disk mid) (T.disk new) for.warehouse for.batch for.attends world for.kept (is.any_moment t for.warehouse.facts for.batch adds)));
         cost = λ cost costs.
             let same : r.store.forest.body.format ≡ format_of state = ap format_in (sym to.live) in
             for.costs cost costs new
-            (subst (λ (f : ℕ). Spends T (commit_cost (forest_moves f f for.warehouse.schema for.warehouse.facts for.batch) r.progress.taken) mid new) same
+            (subst (λ (f : ℕ). Spends T (commit_cost (forest_moves f r.next.format for.warehouse.schema for.warehouse.facts for.batch) r.progress.taken) mid new) same
             (commit_spends T mid new r for.warehouse for.batch for.attends (is.cost t for.warehouse.facts for.batch adds.read)))
             (subst (λ (f : ℕ). T.reads new ≤ T.reads mid + page_count f for.warehouse.schema for.warehouse.facts) same (pages_read T mid new r for.warehouse for.batch for.attends is.calls.reads));
       }
@@ -129,7 +141,7 @@ module _ {S : Type 0} (T : Ghosts S) (r : Begun) (mid new : S) (before : Cache) 
     spares t ends.Disk is_so = tt
     spares t (ends.Damaged file offset) is_so = (is_so (λ e. cc)).files
 
-    pub commits_not : (next : State) → Commits T r next mid new before before (Err (refresh_stop why))
+    pub commits_not : (next : State) → Commits T told r next mid new before before (Err (refresh_stop why))
     commits_not next = λ command state old to. stopped T command to.none_asked state next old new to.writes before before refl (refresh_stop why) (runs_for is command state old to)
         (record {
           undamaged = λ t world stands. (let for = to.by_world t world stands in same_damage why (undamaged t for.warehouse.facts for.batch for.attends.adds.read));
@@ -145,17 +157,17 @@ module _ {S : Type 0} (T : Ghosts S) (r : Begun) (mid new : S) (before : Cache) 
       (finished : IsTrue T.tells → (accepted batch : List Fact) → HoldsNow (IsRefreshOf r accepted batch) (T.disk mid) → IsStoreOf store (accepted ++ batch) (T.disk new).files)
       (joined : IsTrue T.tells → AreAllWhole r.store.forest (T.disk mid).files r.deltas) (opened : IsTrue T.tells → IsOpened store.forest.body (T.disk new))
       (stable : IsTrue T.tells → IsStable (T.disk new)) (next : IsNextStore r store) (after : Cache) (forgets : after ≡ emptied before) where
-    acknowledges : (reply : Vec ℕ Global) → reply.items ≡ committed_text store.forest.body.facts → Commits T r (Idle store) mid new before after (Ok reply)
+    acknowledges : (reply : Vec ℕ Global) → reply.items ≡ text_of told store.forest.body.facts → Commits T told r (Idle store) mid new before after (Ok reply)
     acknowledges reply said = λ command state old to.
-        let gives : IsTrue T.tells → Gives state (T.disk old).files command reply.items = λ t. to.gives t reply.items (record { whole = joined t; said = said ∙ ap committed_text next.facts }) in
+        let gives : IsTrue T.tells → Gives state (T.disk old).files command reply.items = λ t. to.gives t reply.items (record { whole = joined t; said = said ∙ ap (text_of told) next.facts }) in
         replied T command to.none_asked state (Idle store) old new before after reply (runs_for is command state old to) (record {
           answer = λ t world stands. (let for = to.by_world t world stands in let kept = finished t for.warehouse.facts for.batch for.attends.adds in
-              answered_by (T.disk new) (act world command) (committed world for.warehouse for.batch for.last) (Idle store) reply.items for.acts (
+              answered_by (T.disk new) (act world command) (ended_with told world for.warehouse for.batch for.last) (Idle store) reply.items for.acts (
                 record { schema = for.warehouse.schema; facts = for.warehouse.facts ++ for.batch; last = for.last },
                 record { kept = refl; pending = refl },
-                commit_belongs for.last r (T.disk mid) (T.disk new) for.warehouse for.batch for.attends store next kept (stable t) (opened t),
-              ) (said ∙ ap committed_text kept.live.at.body_is.facts));
-          moved = λ t world stands. (let for = to.by_world t world stands in ap unmoved (next.format ∙ for.attends.format ∙ ap format_in (sym to.live)) ∙ sym for.moves);
+                commit_belongs for.last r for.later (T.disk mid) (T.disk new) for.warehouse for.batch for.attends store next kept (stable t) (opened t),
+              ) (said ∙ ap (text_of told) kept.live.at.body_is.facts));
+          moved = λ t world stands. (let for = to.by_world t world stands in ap unmoved next.format ∙ sym for.moves);
           uncalled = λ t world stands none. absurd ((to.by_world t world stands).calls none);
           answered = gives;
           runs = record { running = next.whole; fit = opened };
@@ -165,12 +177,12 @@ module _ {S : Type 0} (T : Ghosts S) (r : Begun) (mid new : S) (before : Cache) 
         (onward T command to.none_asked state (Idle store) old new to.writes to.no_live to.no_step before after (next.generation ∙ ap (λ (b : Option Body). generation b + 1) (sym to.live)) forgets)
         (to.quiet new (Ok reply) (refresh_quiet_on T mid new pages is.told store reply is.calls))
 
-    wants_room : Commits T r (Idle store) mid new before after (Err stops.Memory)
+    wants_room : Commits T told r (Idle store) mid new before after (Err stops.Memory)
     wants_room = λ command state old to. stopped T command to.none_asked state (Idle store) old new to.writes before after (ap (λ (c : Cache). c.capacity) forgets) stops.Memory (runs_for is command state old to)
         (unharmed T command to.none_asked state (Idle store) old new stops.Memory tt (λ t step. absurd (to.no_step step)))
         (to.quiet new (Err stops.Memory) (quiet_out (refresh_quiet_on T mid new pages is.told {B = Unit {0}} store tt is.calls)))
 
     -- whatever the session has is said by the store
-    pub commits : (final : State) → final ≡ Idle store → (result : Reply) → SaysOnly (committed_text (fact_count final)) result → Commits T r final mid new before after result
-    commits final idle result said = subst (λ (s : State). SaysOnly (committed_text (fact_count s)) result → Commits T r s mid new before after result) (sym idle)
-        (says_either (Commits T r (Idle store) mid new before after) (committed_text store.forest.body.facts) acknowledges wants_room result) said
+    pub commits : (final : State) → final ≡ Idle store → (result : Reply) → SaysOnly (text_of told (fact_count final)) result → Commits T told r final mid new before after result
+    commits final idle result said = subst (λ (s : State). SaysOnly (text_of told (fact_count s)) result → Commits T told r s mid new before after result) (sym idle)
+        (says_either (Commits T told r (Idle store) mid new before after) (text_of told store.forest.body.facts) acknowledges wants_room result) said

@@ -6,3 +6,4 @@ pub mod Names
 pub mod Nexts
 pub mod Sources
 pub mod Takings
+pub mod Upgrades

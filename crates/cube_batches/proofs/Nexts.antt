@@ -23,7 +23,7 @@ module _ (schema : Schema) (last number : ℕ) (due : number ≡ last + 1) where
   batch_is : (read : Result (List Fact) (List ℕ)) (batch : List Fact) (own : Option ℕ) → IsRead schema last (with_last last read) (Batch batch own) → 0 < length batch
       → IsRead schema last (with_number number read) (Batch batch (Some number))
   batch_is (Ok []) batch own is some = absurd (omega (arith, some, ap length is.facts))
-  batch_is (Ok (x ∷ xs)) batch own is some = record { facts = is.facts; next = refl; fits = record { few = is.fits.few; agree = is.fits.agree; within = is.fits.within; due = due; some = some } }
+  batch_is (Ok (x ∷ xs)) batch own is some = record { facts = is.facts; next = refl; fits = record { few = is.fits.few; agree = is.fits.agree; due = due; some = some } }
   batch_is (Err text) batch own is some = absurd is
 
   -- what was read without a number

@@ -4,10 +4,11 @@ use Rattle.cube_batches.proofs.Names.{◌++◌, ◌+◌, ◌<◌, ◌∙◌, ◌
 use Rattle.cube_batches.proofs.Names.{GivesBegun, GivesGiven, Hollow, Idle, IsFitting, IsRefused, IsStep, IsTakenIn, Kept, Knows, List, LoadGives, MakesNoCall, MayWrite, None, Numbered, Ok, Option}
 use Rattle.cube_batches.proofs.Names.{Pending, RefusesBy, RefusesGiven, Result, Rows, Schema, Sends, Some, State, Store, Warehouse, World, [], act, act_begin, act_generate, act_load}
 use Rattle.cube_batches.proofs.Names.{act_load_numbered, answer_by, ap, arith, asked_by, batch_by, batch_from, batch_given, batch_sent, batch_with, begins, begins_over, begun, block_read, committed}
-use Rattle.cube_batches.proofs.Names.{cond, forest_moves, free, given_to, inl, length, length-append, load, load_cost, load_cost_of, load_of, made_alone, makes_stage, moves_of, nat_lt, number_of}
+use Rattle.cube_batches.proofs.Names.{cond, free, given_to, inl, length, length-append, load, load_cost, load_cost_of, load_of, made_alone, makes_stage, moves_of, nat_lt, number_of}
 use Rattle.cube_batches.proofs.Names.{read_by, refl, refusal_of, size, sym, take_over, true, unless, with_last, ℕ}
-use Rattle.cube_state.proofs.BatchCosts.{grows}
-use Rattle.cube_state.specs.Moves.{Reached, reached_behind}
+use Rattle.cube_state.proofs.{BatchCosts.grows, BatchCosts.pending_format, Moves.format_stays}
+use Rattle.cube_state.specs.Moves.{Reached, batch_moves, format_behind, format_with, reached_behind}
+use Rattle.forest_store.specs.Held.{format_for}
 
 -- ---- the commands that take one in at once
 
@@ -23,6 +24,9 @@ act_load_of world source = each_load (λ s c. act world c ≡ load world s) (act
 
 pub load_gives : (source : BatchSource) (state : State) (files : Files) (reply : List ℕ) → LoadGives state files source reply → Gives state files (load_of source) reply
 load_gives source state files reply = each_load (λ s c. LoadGives state files s reply → Gives state files c reply) (λ b is. is) (λ n b is. is) (λ s r is. is) source
+
+reached_load : (world : World) (reached : Reached) (source : BatchSource) → reached_behind world reached (load_of source) ≡ record reached { format = format_behind world reached.format (load_of source) }
+reached_load world reached source = each_load (λ s c. reached_behind world reached c ≡ record reached { format = format_behind world reached.format c }) (λ b. refl) (λ n b. refl) (λ s r. refl) source
 
 -- ---- the answer
 
@@ -61,23 +65,30 @@ module _ (world : World) (source : BatchSource) (warehouse : Warehouse) (batch :
   pub load_answer : act world (load_of source) ≡ committed world warehouse batch last
   load_answer = act_load_of world source ∙ answer_batch world source (committed world) warehouse is.knows batch last None is.read is.fits
 
-  moves_with : (format : ℕ) (number : Option ℕ) (facts : List Fact) → 0 < length facts → moves_of format (Some warehouse) (batch_with number facts) ≡ forest_moves format format warehouse.schema warehouse.facts facts
+  moves_with : (format : ℕ) (number : Option ℕ) (facts : List Fact) → 0 < length facts → moves_of format (Some warehouse) (batch_with number facts) ≡ batch_moves format warehouse facts
   moves_with format number [] some = absurd (omega (arith, some))
   moves_with format number (x ∷ xs) some = refl
 
-  pub load_is : 0 < length batch → (reached : Reached) (cost : Cost) → Costs world reached (load_of source) cost
-      → cost ≡ load_cost_of reached.format (Some warehouse) (forest_moves reached.format reached.format warehouse.schema warehouse.facts batch)
-  load_is some reached cost costs =
-      let sent : batch_by world (load_of source) ≡ batch_with (number_of source) batch
-      = each_load (λ s c. batch_by world c ≡ batch_sent world.kept s) (λ b. refl) (λ n b. refl) (λ s r. refl) source ∙ (ap (λ (k : Kept). batch_sent k source) is.knows.kept ∙ ap (batch_given (number_of source)) is.read) in
-      let stage : makes_stage world (load_of source) ≡ true = (λ i. nat_lt (size (is.knows.kept i)) (size (load_answer i).0.kept)) ∙ grows warehouse.facts batch some in
-      each_load (λ s c. Costs world reached c cost → cost ≡ load_cost reached.format world c) (λ b is. is) (λ n b is. is) (λ s r is. is) source costs
-      ∙ ((λ i. cond (stage i) (load_cost_of reached.format (is.knows.kept i) (moves_of reached.format (is.knows.kept i) (sent i))) free) ∙ ap (load_cost_of reached.format (Some warehouse)) (moves_with reached.format (number_of source) batch some))
+  sent : batch_by world (load_of source) ≡ batch_with (number_of source) batch
+  sent = each_load (λ s c. batch_by world c ≡ batch_sent world.kept s) (λ b. refl) (λ n b. refl) (λ s r. refl) source ∙ (ap (λ (k : Kept). batch_sent k source) is.knows.kept ∙ ap (batch_given (number_of source)) is.read)
+
+  stage : 0 < length batch → makes_stage world (load_of source) ≡ true
+  stage some = (λ i. nat_lt (size (is.knows.kept i)) (size (load_answer i).0.kept)) ∙ grows warehouse.facts batch some
+
+  pub load_is : 0 < length batch → (reached : Reached) (cost : Cost) → Costs world reached (load_of source) cost → cost ≡ load_cost_of reached.format (Some warehouse) (batch_moves reached.format warehouse batch)
+  load_is some reached cost costs = each_load (λ s c. Costs world reached c cost → cost ≡ load_cost reached.format world c) (λ b is. is) (λ n b is. is) (λ s r is. is) source costs
+      ∙ ((λ i. cond (stage some i) (load_cost_of reached.format (is.knows.kept i) (moves_of reached.format (is.knows.kept i) (sent i))) free)
+      ∙ ap (load_cost_of reached.format (Some warehouse)) (moves_with reached.format (number_of source) batch some))
+
+  -- the pages have the format then that its numbers need
+  pub load_reaches : 0 < length batch → (reached : Reached) → reached_behind world reached (load_of source) ≡ record reached { format = format_for reached.format batch }
+  load_reaches some reached = reached_load world reached source
+      ∙ (λ i. record reached { format = ((λ j. cond (stage some j) (format_with reached.format (sent j)) reached.format) ∙ pending_format reached.format (number_of source) batch some) i })
 
   -- what is kept then is not what was kept
-  pub load_calls : 0 < length batch → MakesNoCall world (load_of source) → ⊥
-  load_calls some none =
-      let same = each_load (λ s c. MakesNoCall world c → (act world c).0.kept ≡ world.kept) (λ b is. is) (λ n b is. is) (λ s r is. is) source none in
+  pub load_calls : 0 < length batch → (reached : Reached) → MakesNoCall world reached (load_of source) → ⊥
+  load_calls some reached none =
+      let same = each_load (λ s c. MakesNoCall world reached c → (act world c).0.kept ≡ world.kept) (λ b is. is) (λ n b is. is) (λ s r is. is) source none in
       let sizes : length (warehouse.facts ++ batch) + 1 ≡ length warehouse.facts + 1
       = ap (λ (a : Answer). size a.0.kept) (sym load_answer) ∙ (ap size same ∙ ap size is.knows.kept) in
       omega (arith, sizes, length-append warehouse.facts batch, some)
@@ -123,7 +134,7 @@ load_sends source = record {
   no_step = each_load (λ s c. IsStep c → ⊥) (λ b is. is) (λ n b is. is) (λ s r is. is) source;
   after = committed;
   acts = λ world. act_load_of world source;
-  moves = λ world reached. each_load (λ s c. reached_behind world reached c ≡ reached) (λ b. refl) (λ n b. refl) (λ s r. refl) source;
+  moves = λ world reached same. reached_load world reached source ∙ (λ i. record reached { format = format_stays world reached.format (load_of source) same i });
   alone = λ made. each_load (λ s c. made_alone c made ≡ made) (λ b. refl) (λ n b. refl) (λ s r. refl) source;
   refuses = λ state files reply is. load_gives source state files reply (source_refused state files source reply is);
   costs = λ world reached cost costs warehouse batch last is some.
@@ -138,7 +149,7 @@ begin_sends block = record {
   no_step = λ step. step;
   after = λ world warehouse batch last. begun world batch;
   acts = λ world. act_begin world block;
-  moves = λ world made. refl;
+  moves = λ world made same. refl;
   alone = λ made. refl;
   refuses = λ state files reply is. begin_refused state files block reply is;
   costs = λ world made cost costs warehouse batch last is some.

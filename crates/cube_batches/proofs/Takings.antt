@@ -3,20 +3,22 @@ use Rattle.cube_state.specs.declared.stop.Stop.TheVariants as stops
 use Rattle.forest_refresh.specs.declared.stop.BeginStop.TheVariants as begins
 use Rattle.cube_batches.proofs.Names.{◌*◌, ◌++◌, ◌+◌, ◌<◌, ◌∙◌, ◌≡◌, ◌≢◌, ◌≤◌, ◌⊎◌, Agrees, All, All-append, Answer, Answers, AreAccepted, AttendsAs, Batch, BatchSource, Began, BeginCause}
 use Rattle.cube_batches.proofs.Names.{BeginFault, BeginStop, Begun, Belongs, Between, CallsOnly, CarriesOut, Disk, Empty, Err, Fact, Files, Forest, Ghosts, Given, Global, HasBegun, HoldsNow, Hollow}
-use Rattle.cube_batches.proofs.Names.{Idle, IfSome, IsBack, IsBatchFor, IsFitting, IsLive, IsOpened, IsRead, IsReady, IsRefreshOf, IsStable, IsStoreOf, IsTrue, Keeps, KeepsFacts, Kept, LeavesOnly}
+use Rattle.cube_batches.proofs.Names.{Idle, IfSome, IsBack, IsBatchFor, IsFitting, IsLive, IsOpened, IsRead, IsReady, IsRefreshOf, IsStable, IsStoreOf, IsTrue, Keeps, Kept, LeavesOnly}
 use Rattle.cube_batches.proofs.Names.{List, None, NotRead, Nothing, Ok, OnlyNow, OnlyRefuses, Option, Pending, Read, Refused, RefusesBy, RefusesGiven, Result, RunsOn, Schema, Some, Stands, StandsAt}
-use Rattle.cube_batches.proofs.Names.{State, Stop, Store, Taken, TakesIn, TellsLimit, Vec, Warehouse, World, [], act, answer_by, ap, arith, batch_from, begin_stop, bytes_after, codes, given_to}
+use Rattle.cube_batches.proofs.Names.{Command, Sends, State, Stop, Store, Taken, TakesIn, TellsLimit, Vec, Warehouse, World, [], act, answer_by, ap, arith, batch_from, begin_stop, bytes_after, codes, given_to}
 use Rattle.cube_batches.proofs.Names.{goes_nowhere, holds_to, inl, inr, last_behind, length, line, moves_made, next_side, nothing_added, refl, refusal_of, refusal_text, runs_out, says, slice_index}
 use Rattle.cube_batches.proofs.Names.{spends_more, stable_holds, stopped, subst, sym, take, take_over, unharmed, unless, wider, written, ℕ}
-use Rattle.cube_state.proofs.Limits.{none_refused, one_refused}
-use Rattle.cube_batches.proofs.{Calls.answered_by, Calls.rests, Sources.answer_batch, Sources.answer_read}
+use Rattle.cube_state.proofs.{Limits.none_refused, Limits.one_refused, Standing.keeps_from}
+use Rattle.forest_store.proofs.{Formats.format-later, Standing.in_some}
+use Rattle.forest_store.specs.Held.{KeepsAs, format_for}
+use Rattle.cube_batches.proofs.{Calls.answered_by, Calls.rests, Calls.still_reached, Sources.answer_batch, Sources.answer_read}
 use Rattle.forest_refresh.specs.Begun.{moves_of}
-use Rattle.cube_state.specs.Moves.{Reached, format_of, reached_by}
+use Rattle.cube_state.specs.Moves.{format_of, reached_by}
 
 -- ---- the store, the refresh and the warehouse
 
 -- no move is made
-none_moved : (r : Begun) (files : Files) (facts batch : List Fact) → r.progress.taken ≡ 0 → StandsAt r facts batch files
+pub none_moved : (r : Begun) (files : Files) (facts batch : List Fact) → r.progress.taken ≡ 0 → StandsAt r facts batch files
 none_moved r files facts batch none = record {
   within = omega (arith, none);
   pages = (λ i. take (4096 * written (none i) (moves_of r facts batch)) (files (next_side r.store.forest.body)))
@@ -31,31 +33,37 @@ last_due last None is = omega arith
 module _ (store : Store) (old new : Disk) (warehouse : Warehouse) (is : Belongs store old warehouse) where
   -- at every moment the files keep what they kept
   pub begin_moments : (world next : World) → world.kept ≡ Some warehouse
-      → LeavesOnly old new (λ told files. (told ≡ old.told) × KeepsFacts store.forest.schema warehouse.facts store.forest.body.last files) → Between old new world next
+      → LeavesOnly old new (λ told files. (told ≡ old.told) × KeepsAs store.forest.body.format store.forest.schema warehouse.facts store.forest.body.last files)
+      → Between store.forest.body.format old new world next
   begin_moments world next kept run = wider old new _ _ (λ told files both. (
     both.0,
     inl (subst (Keeps files) (sym kept) (record {
       lawful = is.lawful;
-      kept = subst (λ (k : Schema × ℕ). KeepsFacts k.0 warehouse.facts k.1 files) (λ i. (is.schema i, is.last i)) both.1;
+      kept = in_some (subst (λ (k : Schema × ℕ). KeepsAs store.forest.body.format k.0 warehouse.facts k.1 files) (λ i. (is.schema i, is.last i)) both.1);
     })),
+    keeps_from store.forest.schema warehouse.facts store.forest.body.last files (omega arith) both.1,
   )) run
 
   -- it has begun
-  pub begin_attends : (batch : List Fact) (number : Option ℕ) (r : Begun) → r.store.forest ≡ store.forest → r.next.last ≡ last_behind store.forest.body.last number → r.next.format ≡ store.forest.body.format
+  pub begin_attends : (batch : List Fact) (number : Option ℕ) (r : Begun) → r.store.forest ≡ store.forest → r.next.last ≡ last_behind store.forest.body.last number
       → IfSome number (λ n. n ≡ store.forest.body.last + 1) → IsRefreshOf r warehouse.facts batch new.files → IsStable new → 0 < length batch → IsReady r new → r.progress.taken ≡ 0
       → AttendsAs (last_behind store.forest.body.last number) r new warehouse batch
-  begin_attends batch number r same next format due adds stable some ready none = record {
+  begin_attends batch number r same next due adds stable some ready none = record {
     lawful = is.lawful;
     schema = ap (λ (f : Forest). f.schema) same ∙ is.schema;
     last = ap (λ (f : Forest). f.body.last) same ∙ is.last;
     next = next;
-    format = format ∙ ap (λ (f : Forest). f.body.format) (sym same);
-    due = subst (λ n. last_behind store.forest.body.last number ≤ n + 1) is.last (last_due store.forest.body.last number due);
+    counted = omega (arith, is.last, is.lawful.last, some, last_due store.forest.body.last number due);
     adds = stable_holds (IsRefreshOf r warehouse.facts batch) new stable adds;
-    some = some;
     ready = ready;
     moved = none_moved r new.files warehouse.facts batch none;
   }
+
+-- a batch goes into pages of no earlier format
+pub later_for : {last : ℕ} (r : Begun) (disk : Disk) (warehouse : Warehouse) (batch : List Fact) → AttendsAs last r disk warehouse batch → r.next.format ≡ format_for r.store.forest.body.format batch
+    → r.store.forest.body.format ≤ r.next.format
+later_for r disk warehouse batch is format =
+    subst (λ (f : ℕ). r.store.forest.body.format ≤ f) (sym format) (format-later r.store.forest.body.format (format_for r.store.forest.body.format batch) batch refl is.adds.read.live.at.decodes.1.within.known_format)
 
 -- all facts keep the limits
 pub all_fine : {last : ℕ} (r : Begun) (new : Disk) (warehouse : Warehouse) (batch : List Fact) → AttendsAs last r new warehouse batch → AreAccepted warehouse.schema (warehouse.facts ++ batch)
@@ -103,7 +111,7 @@ module _ {S : Type 0} (T : Ghosts S) (source : BatchSource) (state : State) (sit
       → RefusesBy state source text → (reply : Vec ℕ Global) → reply.items ≡ text → Answers T source state state site site (Ok reply)
   refuses text answers by reply said = λ command sends cache ready. says T command state site cache only text reply ready (record {
     acts = λ t world stands. sends.acts world ∙ answers world stands (sends.after world);
-    moves = λ t world stands. sends.moves world (reached_by state);
+    moves = λ t world stands. sends.moves world (reached_by state) (ap (λ (a : Answer). a.0.kept) (sends.acts world ∙ answers world stands (sends.after world)));
     goes = λ t world stands numbers goes. goes_nowhere command sends.none_asked (format_of state) world numbers goes;
     gives = λ files. sends.refuses state files text by;
     alone = λ no. sends.alone (moves_made state);
@@ -188,12 +196,12 @@ module _ (source : BatchSource) (store : Store) (read : Read) (is : IsRead store
 -- what a call that begins has done, whatever it answered
 pub record Begins {S : Type 0} (T : Ghosts S) (store : Store) (old new : S) (result : Result Begun BeginFault) : Type 0 where
   pub any_moment : IsTrue T.tells → (accepted : List Fact) → HoldsNow (IsStoreOf store accepted) (T.disk old)
-      → LeavesOnly (T.disk old) (T.disk new) (λ told files. (told ≡ (T.disk old).told) × KeepsFacts store.forest.schema accepted store.forest.body.last files)
+      → LeavesOnly (T.disk old) (T.disk new) (λ told files. (told ≡ (T.disk old).told) × KeepsAs store.forest.body.format store.forest.schema accepted store.forest.body.last files)
   pub told : IsTrue T.tells → (T.disk new).told ≡ (T.disk old).told
   pub calls : CallsOnly T BeginCause 1 1 old new result
 
 pub begin_between : {S : Type 0} (T : Ghosts S) (store : Store) (old new : S) {result : Result Begun BeginFault} → Begins T store old new result → IsTrue T.tells
-    → (warehouse : Warehouse) → Belongs store (T.disk old) warehouse → (world next : World) → world.kept ≡ Some warehouse → Between (T.disk old) (T.disk new) world next
+    → (warehouse : Warehouse) → Belongs store (T.disk old) warehouse → (world next : World) → world.kept ≡ Some warehouse → Between store.forest.body.format (T.disk old) (T.disk new) world next
 begin_between T store old new is t warehouse belongs world next kept = begin_moments store (T.disk old) (T.disk new) warehouse belongs world next kept (is.any_moment t warehouse.facts belongs.stored)
 
 -- it keeps the limits where it has begun
@@ -202,7 +210,7 @@ pub begun_fits : {S : Type 0} (T : Ghosts S) (source : BatchSource) (store : Sto
 begun_fits T source store old new r is t world stands = record {
   knows = stands.1;
   read = known store (T.disk old) stands.0 source (Ok (is.batch, is.last)) stands.2 is.given;
-  fits = none_refused stands.0 is.batch stands.2.lawful.schema (all_fine r (T.disk new) stands.0 is.batch (is.attends t stands.0 stands.2));
+  fits = none_refused stands.0 is.batch stands.2.lawful.schema (all_fine r (T.disk new) stands.0 is.batch (is.started.attends t stands.0 stands.2));
 }
 
 -- a file failed, or nothing was called
@@ -223,19 +231,23 @@ module _ {S : Type 0} (T : Ghosts S) (source : BatchSource) (store : Store) (bat
   read_by_world : (world : World) (stands : Stands (Idle store) (T.disk old) world) → batch_from stands.0.schema stands.0.last source ≡ Ok (batch, last)
   read_by_world world stands = known store (T.disk old) stands.0 source (Ok (batch, last)) stands.2 given
 
+  refused : (command : Command) (sends : Sends command source) → All (Agrees store.forest.schema) batch → (text : List ℕ) → refusal_text store.forest.schema fault.why ≡ Some text
+      → (world : World) → Stands (Idle store) (T.disk old) world → act world command ≡ (world, text)
+  refused command sends agree text here world stands =
+      sends.acts world ∙ answer_batch world source (sends.after world) stands.0 stands.1 batch last (Some text) (read_by_world world stands)
+      (by_limit store (T.disk old) stands.0 batch fault.why stands.2 agree (limit stands.0.facts (T.disk old).files stands.2.stored.read) text here)
+
   -- a limit is why it has not begun
   pub limit_refuses : All (Agrees store.forest.schema) batch → IsBack store fault.store → (reply : Vec ℕ Global) → refusal_text fault.store.forest.schema fault.why ≡ Some reply.items
       → Answers T source (Idle store) (Idle fault.store) old new (Ok reply)
-  limit_refuses agree back reply refused = λ command sends cache ready.
-      let here : refusal_text store.forest.schema fault.why ≡ Some reply.items = subst (λ (f : Forest). refusal_text f.schema fault.why ≡ Some reply.items) back.forest refused in
+  limit_refuses agree back reply by_text = λ command sends cache ready.
+      let here : refusal_text store.forest.schema fault.why ≡ Some reply.items = subst (λ (f : Forest). refusal_text f.schema fault.why ≡ Some reply.items) back.forest by_text in
       let by : RefusesBy (Idle store) source reply.items = subst (λ (g : Given). RefusesGiven store g reply.items) (sym given) (some, (fault.why, here)) in
       subst (λ (s : S). CarriesOut T command (Idle store) (Idle fault.store) old s cache cache (Ok reply)) (sym (unchanged (no_fault store.forest.schema fault.why reply.items here)))
       (rests T command sends.none_asked (Idle store) (Idle fault.store) old only reply
-      (λ t world stands. answered_by (T.disk old) (act world command) (world, reply.items) (Idle fault.store) reply.items
-      (sends.acts world ∙ answer_batch world source (sends.after world) stands.0 stands.1 batch last (Some reply.items) (read_by_world world stands)
-      (by_limit store (T.disk old) stands.0 batch fault.why stands.2 agree (limit stands.0.facts (T.disk old).files stands.2.stored.read) reply.items here))
+      (λ t world stands. answered_by (T.disk old) (act world command) (world, reply.items) (Idle fault.store) reply.items (refused command sends agree reply.items here world stands)
       (stands.0, stands.1, back_belongs store fault.store back (T.disk old) stands.0 stands.2) refl)
-      (λ world stands. ap (λ (r : Reached). r.made) (sym (sends.moves world (reached_by (Idle store))))) (λ files. sends.refuses (Idle store) files reply.items by) (back_runs store fault.store back T old) (sym (sends.alone 0))
+      (λ world stands. still_reached (Idle store) (Idle fault.store) refl (sends.moves world (reached_by (Idle store)) (ap (λ (a : Answer). a.0.kept) (refused command sends agree reply.items here world stands)))) (λ files. sends.refuses (Idle store) files reply.items by) (back_runs store fault.store back T old) (sym (sends.alone 0))
       (ap (λ (f : Forest). Some f.body) back.forest) cache ready)
 
   -- none is

@@ -3,18 +3,16 @@ use Rattle.std.specs.Prelude.{◌≡◌, ◌<◌, ◌≤◌, ◌+◌, ℕ, List,
 use Rattle.std.specs.List.{All}
 use Rattle.cube_schema.specs.Agreeing.{Agrees}
 use Rattle.cube_schema.specs.declared.schema.Schema.{Schema}
-use Rattle.fact_model.specs.Limits.{HasNumbersWithin, reader_limit}
 use Rattle.fact_model.specs.declared.fact.Fact.{Fact}
 use Rattle.forest_refresh.specs.Next.{last_behind}
 use Rattle.plain_machine.specs.Machine.{Given}
 use Rattle.cube_batches.specs.declared.batch.Read.{Read}
 use Rattle.cube_batches.specs.declared.batch.Read.TheVariants.{Batch, Refused}
 
--- the facts are of the schema, with numbers that readers take, not too many for a batch, and have the number behind the last one, or none; a numbered batch has a fact
+-- the facts are of the schema, not too many for a batch, and have the number behind the last one, or none; a numbered batch has a fact
 pub record IsBatchFor (schema : Schema) (last : ℕ) (batch : List Fact) (number : Option ℕ) : Type 0 where
   pub few : length batch ≤ 262144
   pub agree : All (Agrees schema) batch
-  pub within : All (HasNumbersWithin reader_limit) batch
   pub due : IfSome number (λ n. n ≡ last + 1)
   pub some : IfSome number (λ n. 0 < length batch)
 

@@ -11,6 +11,7 @@ use Rattle.forest_refresh.specs.declared.stop.BeginStop.{BeginStop}
 use Rattle.forest_refresh.specs.declared.stop.BeginStop.TheVariants as begins
 use Rattle.forest_root.specs.Root.{ClosesGate}
 use Rattle.forest_root.specs.declared.forest.Store.{Store}
+use Rattle.forest_store.specs.Held.{format_for}
 use Rattle.reply_text.specs.Replies.{line}
 use Rattle.script_lang.specs.declared.command.Command.{Command}
 use Rattle.plain_machine.specs.declared.batch_source.BatchSource.{BatchSource}
@@ -83,7 +84,8 @@ pub record Sends (command : Command) (source : BatchSource) : Type 0 where
   -- what follows on a batch that keeps the limits
   pub after : World → Warehouse → List Fact → ℕ → Answer
   pub acts : (world : World) → act world command ≡ answer_by world (after world) source
-  pub moves : (world : World) (reached : Reached) → reached_behind world reached command ≡ reached
+  -- where nothing is accepted
+  pub moves : (world : World) (reached : Reached) → (act world command).0.kept ≡ world.kept → reached_behind world reached command ≡ reached
   pub alone : (made : ℕ) → made_alone command made ≡ made
   pub refuses : (state : State) (files : Files) (reply : List ℕ) → RefusesBy state source reply → Gives state files command reply
   -- it asks for a read and a write at least
@@ -100,12 +102,8 @@ Answers T source state next old new result = (command : Command) → Sends comma
 abbrev pub HasNone : {S : Type 0} (source : BatchSource) (state next : State) (old new : S) → Type 0
 HasNone source state next old new = (store : Store) × (state ≡ Idle store) × (next ≡ state) × (new ≡ old) × (given_to store source ≡ Ok ([], store.forest.body.last))
 
--- the refresh adds the batch to the store, and of all files the gate of the next generation alone was written
-pub record HasBegun {S : Type 0} (T : Ghosts S) (source : BatchSource) (store : Store) (old new : S) (refresh : Begun) : Type 0 where
-  pub batch : List Fact
-  pub last : ℕ
-  pub given : given_to store source ≡ Ok (batch, last)
-  pub some : 0 < length batch
+-- the refresh adds the batch to the store, behind which this is the last number, and of all files the gate of the next generation alone was written
+pub record HasStarted {S : Type 0} (T : Ghosts S) (store : Store) (batch : List Fact) (last : ℕ) (old new : S) (refresh : Begun) : Type 0 where
   pub forest : refresh.store.forest ≡ store.forest
   pub points : refresh.deltas ≡ deltas_by (names_with store.dicts batch) store.forest.schema batch
   pub none_made : refresh.progress.taken ≡ 0
@@ -113,10 +111,19 @@ pub record HasBegun {S : Type 0} (T : Ghosts S) (source : BatchSource) (store : 
   pub ready : IsTrue T.tells → IsReady refresh (T.disk new)
   pub closes : IsTrue T.tells → ClosesGate ((store.forest.body.generation + 1) % 2) (T.disk old).files (T.disk new).files
   pub attends : IsTrue T.tells → (warehouse : Warehouse) → Belongs store (T.disk old) warehouse → AttendsAs last refresh (T.disk new) warehouse batch
-  -- at any moment the files keep what they kept
-  pub any_moment : IsTrue T.tells → (warehouse : Warehouse) → Belongs store (T.disk old) warehouse → (world next : World) → world.kept ≡ Some warehouse → Between (T.disk old) (T.disk new) world next
+  -- at any moment the files keep what they kept, in the format that they had
+  pub any_moment : IsTrue T.tells → (warehouse : Warehouse) → Belongs store (T.disk old) warehouse → (world next : World) → world.kept ≡ Some warehouse → Between store.forest.body.format (T.disk old) (T.disk new) world next
   pub spent : Spends T (record { reads = 1; writes = 1 }) old new
   pub quiet : IsQuiet {A = Unit {0}} T old new (Ok tt)
+
+-- the refresh is that of the batch of a source, in pages of the format that its numbers need
+pub record HasBegun {S : Type 0} (T : Ghosts S) (source : BatchSource) (store : Store) (old new : S) (refresh : Begun) : Type 0 where
+  pub batch : List Fact
+  pub last : ℕ
+  pub given : given_to store source ≡ Ok (batch, last)
+  pub some : 0 < length batch
+  pub format : refresh.next.format ≡ format_for store.forest.body.format batch
+  pub started : HasStarted T store batch last old new refresh
 
 -- what the session had, and has then; where a refresh has begun it has the store
 abbrev pub TakesIn : {S : Type 0} (T : Ghosts S) (source : BatchSource) (state next : State) (old new : S) (result : Result Taken Stop) → Type 0

@@ -1,8 +1,7 @@
-//! A batch that has begun is committed, and acknowledged.
+//! A refresh that has begun is committed, and acknowledged.
 ghost use Rattle.std.specs.Prelude.{◌≡◌, IsTrue};
 ghost use Rattle.forest_refresh.specs.Begun.{IsGoing, IsReady};
-ghost use Rattle.reply_text.specs.Replies.{committed_text};
-ghost use Rattle.cube_batches.specs.Committing.{Commits, SaysOnly, fact_count};
+ghost use Rattle.cube_batches.specs.Committing.{Commits, SaysOnly, fact_count, text_of};
 
 use cube_state::{State, Stop};
 use forest_refresh::Refresh;
@@ -10,7 +9,16 @@ use page_cache::Pages;
 use site_core::Site;
 use std::alloc::Global;
 
-/// Commits the batch of a refresh, forgets the kept pages, and acknowledges it. The session has the store of all facts then. A stop at any
+/// What is told of a refresh that has ended.
+#[derive(Clone, Copy, Debug, PartialEq, Eq)]
+pub enum Told {
+    /// Its batch is accepted.
+    Committed,
+    /// All pages have the greatest format.
+    Upgraded,
+}
+
+/// Commits a refresh, forgets the kept pages, and acknowledges it so. The session has the store of all facts then. A stop at any
 /// moment leaves the files with the facts of the batch or without them, and so does an error: a file failed, a page is not sound, or memory
 /// ran out.
 pub fn commit<T: Site>(
@@ -18,24 +26,28 @@ pub fn commit<T: Site>(
     pages: &mut Pages,
     state: &mut State,
     refresh: Refresh,
+    told: Told,
     site: &mut T,
 ) -> Result<Vec<u8>, Stop>
     requires goes { IsGoing refresh }
     requires ready { IsTrue T.tells → IsReady refresh (T.disk site.old) }
-    ensures commits { Commits T.Site refresh state.new site.old site.new pages.old pages.new result }
+    ensures commits { Commits T.Site told refresh state.new site.old site.new pages.old pages.new result }
 {
     let store = refresh.finish(site)?;
     // They are of the side that was live until now.
     pages.clear();
     state.set(State::Idle(store));
-    acknowledge(alloc, state)
+    acknowledge(alloc, state, told)
 }
 
 /// Acknowledges what is accepted.
-pub fn acknowledge(alloc: Global, state: &State) -> Result<Vec<u8>, Stop>
-    ensures { SaysOnly (committed_text (fact_count state.now)) result }
+pub fn acknowledge(alloc: Global, state: &State, told: Told) -> Result<Vec<u8>, Stop>
+    ensures { SaysOnly (text_of told (fact_count state.now)) result }
 {
-    Ok(reply_text::committed(alloc, facts(state))?)
+    Ok(match told {
+        Told::Committed => reply_text::committed(alloc, facts(state))?,
+        Told::Upgraded => reply_text::plain(alloc, "upgraded")?,
+    })
 }
 
 /// How many facts are accepted.

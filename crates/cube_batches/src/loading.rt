@@ -2,7 +2,7 @@
 ghost use Rattle.cube_state.specs.Carried.{CarriesOut, IsReadyFor};
 ghost use Rattle.cube_state.specs.Commands.{load_of};
 
-use crate::committing::{acknowledge, commit};
+use crate::committing::{Told, acknowledge, commit};
 use crate::taking::{Taken, take_in};
 use cube_state::{State, Stop};
 use page_cache::Pages;
@@ -26,7 +26,7 @@ pub fn load<T: Site>(
 {
     match take_in(alloc, state, source, site)? {
         Taken::Refused(reply) => Ok(reply),
-        Taken::Empty => acknowledge(alloc, state),
-        Taken::Begun(refresh) => commit(alloc, pages, state, refresh, site),
+        Taken::Empty => acknowledge(alloc, state, Told::Committed),
+        Taken::Begun(refresh) => commit(alloc, pages, state, refresh, Told::Committed, site),
     }
 }

@@ -8,7 +8,7 @@ ghost use Rattle.cube_state.specs.Frames.{RunsOn};
 ghost use Rattle.cube_batches.specs.Committing.{SaysOnly};
 ghost use Rattle.cube_batches.specs.Dropping.{IsDropped, hollow_of};
 
-use crate::committing::{acknowledge, commit};
+use crate::committing::{Told, acknowledge, commit};
 use crate::taking::{Taken, take_in};
 use cube_state::{State, Stop};
 use page_cache::Pages;
@@ -87,10 +87,10 @@ pub fn finish<T: Site>(
 {
     let had = replace(state, State::Empty);
     match had {
-        State::Pending(refresh) => commit(alloc, pages, state, refresh, site),
+        State::Pending(refresh) => commit(alloc, pages, state, refresh, Told::Committed, site),
         State::Hollow(store) => {
             state.set(State::Idle(store));
-            acknowledge(alloc, state)
+            acknowledge(alloc, state, Told::Committed)
         }
         other => {
             state.set(other);
@@ -131,7 +131,7 @@ fn pending_reply(alloc: Global, state: &State, text: &'static str) -> Result<Vec
 }
 
 /// A line as the reply.
-fn reply(alloc: Global, text: &'static str) -> Result<Vec<u8>, Stop>
+pub(crate) fn reply(alloc: Global, text: &'static str) -> Result<Vec<u8>, Stop>
     ensures { SaysOnly (line text.now) result }
 {
     Ok(reply_text::plain(alloc, text)?)

@@ -68,7 +68,7 @@ fn refused(alloc: Global, text: &'static str) -> Result<Taken, Stop>
 }
 
 /// The store, out of a state in which nothing is pending.
-fn take_store(state: &mut State) -> Store
+pub(crate) fn take_store(state: &mut State) -> Store
     requires idle { IsIdle state.old }
     ensures { state.old ≡ State.Idle result }
 {

@@ -1,19 +1,23 @@
 -- How a session goes on from command to command, up to a stop or to where no command is whole.
-use Rattle.std.proofs.Common.{◌≡◌, ◌∙◌, ◌++◌, ℕ, IsTrue, false, Option, Some, None, option_to_list, List, [], ◌∷◌, Result, Ok, Err, IfSome, ap, refl, sym, subst, append-nil, append_assoc}
+use Rattle.std.proofs.Common.{◌≡◌, ◌∙◌, ◌++◌, length, ℕ, IsTrue, false, Option, Some, None, option_to_list, List, [], ◌∷◌, Result, Ok, Err, IfSome, ap, refl, sym, subst, append-nil, append_assoc}
 use Rattle.std.proofs.Common.{length-append, arith}
 use Rattle.cube_run.proofs.Names.{Answers, AnswersByWorld, Cache, CarriesOn, Command, Cost, CostTogether, Costs, Disk, Files, Finished, Ghosts, Gives, HasGone, HasMovedTo, HasReplied, HasStopped}
 use Rattle.cube_run.proofs.Names.{IsErrAnd, IsFirstWhole, IsLeft, IsWithin, Keeps, OnlyNow, Onward, Reading, Reads, Replied, RepliesTo, Runs, Spends, StandsFor, State, Stop, World, act, at_rest}
 use Rattle.cube_run.proofs.Names.{carried_command, carried_start, carried_then, during, joined, one_costs, ready, stands_left, stands_moved, stands_read, started, to_come, whole_with, wider}
 use Rattle.cube_state.proofs.Giving.{gives_some}
 use Rattle.cube_state.specs.declared.stop.Stop.TheVariants as stops
-use Rattle.cube_state.specs.Moves.{Reached, reached_behind, reached_by, reached_from}
+use Rattle.cube_state.specs.Moves.{Reached, format_told, reached_behind, reached_by, reached_from}
+use Rattle.cube_state.proofs.Moves.{format_past, format_untold, stands_format}
+use Rattle.cube_state.proofs.Standing.{stands_from}
+use Rattle.plain_machine.specs.Keeps.{HasFormat, IsFrom}
 use Rattle.cube_session.specs.Session.{reached_for}
 
--- what a session that stands tells of the files: what they keep, also after a stop, and the moves made
+-- what a session that stands tells of the files: what they keep, also after a stop, the moves made and the format
 stood : (session : Option State) (d : Disk) (w : World) → StandsFor session d w
-    → Keeps d.files w.kept × ((files : Files) → d.may_leave files → Keeps files w.kept) × HasMovedTo d.files w (reached_for session).made
+    → Keeps d.files w.kept × ((files : Files) → d.may_leave files → Keeps files w.kept) × HasMovedTo d.files w (reached_for session).made × HasFormat d.files w.kept (reached_for session).format
+    × ((files : Files) → d.may_leave files → IsFrom (reached_for session).format files)
 stood None d w is = absurd is
-stood (Some state) d w is = (stands_read state d w is, stands_left state d w is, stands_moved state d w is)
+stood (Some state) d w is = (stands_read state d w is, stands_left state d w is, stands_moved state d w is, stands_format state d w is, stands_from state d w is)
 
 -- ---- replies
 
@@ -47,6 +51,12 @@ module _ {S : Type 0} (T : Ghosts S) where
     moved = refl;
     spent = λ all costs. record { left = all; costs = costs; reads = omega arith; writes = omega arith };
     any_moment = started _ _ (λ told files left. let now = only told files left in at_rest w cs _ told files now.0 ((stood had _ w stands).1 files now.1));
+    formats = started _ _ (λ told files left. let now = only told files left in record {
+      front = [];
+      tells = now.0 ∙ sym (append-nil _);
+      from = subst (λ (f : ℕ). IsFrom f files) (sym (format_untold w (reached_for had) cs)) ((stood had _ w stands).4 files now.1);
+    });
+    formats_onto = λ told files is. is;
   }
 
   spends_left : {old new : S} {now : World} {reached : Reached} {rest : List Command} {all : Cost} → IsLeft T old new now reached rest all → Spends T all old new
@@ -62,6 +72,7 @@ module _ {S : Type 0} (T : Ghosts S) where
     within_one : (result : Result (Unit {0}) Stop) → AnswersByWorld T c w state then old new before after result → IsWithin T (Some state) w (c ∷ rest) old new
     within_one result is = record {
       any_moment = wider _ _ _ _ (during w c rest _) is.any_moment;
+      formats = is.formats rest;
       cost = λ all costs. spends_left (left_one old new w (reached_by state) c rest all is.cost costs);
     }
 
@@ -73,16 +84,24 @@ module _ {S : Type 0} (T : Ghosts S) where
       moved = ap (λ (m : Reached). reached_from (act w c).0 m rest) (sym is.moved);
       spent = λ all costs. subst (λ (m : Reached). IsLeft T old new (act w c).0 m rest all) (sym is.moved) (left_one old new w (reached_by state) c rest all is.cost costs);
       any_moment = (within_one (Ok x) is).any_moment;
+      formats = is.formats rest;
+      formats_onto = λ told files more. record {
+        front = (act w c).1 ++ more.front;
+        tells = more.tells ∙ ap (λ (l : List ℕ). l ++ more.front) is.told ∙ append_assoc (T.disk old).told (act w c).1 more.front;
+        from = subst (λ (f : ℕ). IsFrom f files) (sym (ap (format_told w (reached_by state) (c ∷ rest)) (length-append (act w c).1 more.front) ∙ format_past w (reached_by state) c rest (length more.front)
+            ∙ ap (λ (r : Reached). format_told (act w c).0 r rest (length more.front)) (sym is.moved))) more.from;
+      };
     }
 
   within_now : {had has : Option State} {w : World} {cs rest : List Command} {old new : S} → Onward T had has w cs rest old new → IsWithin T had w cs old new
-  within_now is = record { any_moment = is.any_moment; cost = λ cost costs. spends_left (is.spent cost costs) }
+  within_now is = record { any_moment = is.any_moment; formats = is.formats; cost = λ cost costs. spends_left (is.spent cost costs) }
 
   -- and then others
   module _ (had has : Option State) (w : World) (cs all : List Command) (old mid new : S) (so_far : Onward T had has w cs all old mid) where
     within_then : IsWithin T has so_far.now all mid new → IsWithin T had w cs old new
     within_then next = record {
       any_moment = joined _ _ _ _ so_far.any_moment (wider _ _ _ _ so_far.carried.onto next.any_moment);
+      formats = joined _ _ _ _ so_far.formats (wider _ _ _ _ so_far.formats_onto next.formats);
       cost = λ cost costs.
           let left = so_far.spent cost costs in
           let spent = next.cost left.left left.costs in
@@ -100,6 +119,8 @@ module _ {S : Type 0} (T : Ghosts S) where
           let others = next.spent left.left left.costs in
           record { left = others.left; costs = others.costs; reads = omega (arith, left.reads, others.reads); writes = omega (arith, left.writes, others.writes) };
       any_moment = (within_then (within_now next)).any_moment;
+      formats = (within_then (within_now next)).formats;
+      formats_onto = λ told files more. so_far.formats_onto told files (next.formats_onto told files more);
     }
 
   -- nothing is left
@@ -110,6 +131,7 @@ module _ {S : Type 0} (T : Ghosts S) where
         told = is.carried.tells ∙ ap (λ (l : List ℕ). (T.disk old).told ++ l) (sym (is.carried.replies ∙ append-nil is.carried.front));
         kept = rw is.carried.final stands.0;
         moved = rw (is.carried.final, is.moved) stands.2;
+        format = rw (is.carried.final, is.moved) stands.3;
       }
 
   -- ---- whatever the files hold

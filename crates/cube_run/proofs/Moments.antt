@@ -1,5 +1,5 @@
 -- What a stop at any moment of a run leaves, and that histories go on with it.
-use Rattle.std.proofs.Common.{◌≡◌, ◌∙◌, ◌++◌, inl, inr, ℕ, List, length, take, ap, sym, subst, append-nil, arith}
+use Rattle.std.proofs.Common.{◌≡◌, ◌∙◌, ◌++◌, ◌⊎◌, inl, inr, ℕ, List, length, take, ap, sym, subst, append-nil, arith}
 use Rattle.std.proofs.Math.Seq.{take-append_seam}
 use Rattle.cube_run.proofs.Names.{AfterRun, AfterStop, Command, Disk, Elapses, Files, Headline, HistoriesGoOn, Kept, LeavesOnly, OnlyNow, Opened, Status, Stays, TellsFront, TellsNothing, World}
 use Rattle.cube_run.proofs.Names.{bare, each_moment, goes_on_once, joined, replies_from, wider}
@@ -12,10 +12,16 @@ told_front old new w cs run now = elim (run.each new.told new.files now) [
   | inr same ↦ (0, same.0 ∙ sym (append-nil old.told))
 ]
 
--- opening, also where it fails
-pub opening_moments : (old new : Disk) (w : World) (cs : List Command) → OnlyNow old → Elapses TellsNothing Stays old new → LeavesOnly old new (AfterRun w cs old)
-opening_moments old new w cs only time = each_moment Stays old new (AfterRun w cs old)
+-- opening, also where it fails, whatever is said of moments behind it
+pub opening_moments : (P : List ℕ → Files → Type 0) (old new : Disk) → OnlyNow old → Elapses TellsNothing Stays old new → LeavesOnly old new (λ told files. P told files ⊎ ((told ≡ old.told) × old.may_leave files))
+opening_moments P old new only time = each_moment Stays old new (λ told files. P told files ⊎ ((told ≡ old.told) × old.may_leave files))
     (λ told files left. inr (only told files left)) (λ told files same after. inr (same, subst old.may_leave (sym after.2) after.1)) time
+
+-- and then what is said of them
+pub moments_then : (P : List ℕ → Files → Type 0) (old mid new : Disk) → OnlyNow old → Elapses TellsNothing Stays old mid → LeavesOnly mid new P
+    → LeavesOnly old new (λ told files. P told files ⊎ ((told ≡ old.told) × old.may_leave files))
+moments_then P old mid new only time run =
+    joined old mid new (λ told files. P told files ⊎ ((told ≡ old.told) × old.may_leave files)) (opening_moments P old mid only time) (wider _ _ _ _ (λ told files a. inl a) run)
 
 -- and then a run of commands
 module _ (old mid new : Disk) (w : World) (cs : List Command) (same : mid.told ≡ old.told) (time : Elapses TellsNothing Stays old mid) (only : OnlyNow old)
@@ -24,7 +30,7 @@ module _ (old mid new : Disk) (w : World) (cs : List Command) (same : mid.told �
   after_start told files = subst (λ (l : List ℕ). AfterStop w cs l told files) same
 
   pub opened_moments : LeavesOnly old new (AfterRun w cs old)
-  opened_moments = joined old mid new (AfterRun w cs old) (opening_moments old mid w cs only time) (wider _ _ _ _ (λ told files a. inl (after_start told files a)) run)
+  opened_moments = moments_then (AfterStop w cs old.told) old mid new only time (wider _ _ _ _ after_start run)
 
   -- the files are opened at the moment between the two
   pub opened_behind : ((files : Files) → new.may_leave files → new.left_since mid.clock new.told files) → Opened old new w cs

@@ -4,7 +4,7 @@ use Rattle.cube_run.proofs.Names.{AreValid, BreaksAt, ByEnd, Changes-refl, Comma
 use Rattle.cube_run.proofs.Names.{Gave, Ghosts, HasReplied, Headline, IsNoDamage, IsPastOpening, IsSomeAnd, IsUndamaged, IsUsageOrMemory, Keeps, KeepsLimit, Kept, OnlyNow, Outcome, Place}
 use Rattle.cube_run.proofs.Names.{RunsScript, Serves, Session, Sites, Sources, Spends, Starts, Status, StatusCause, Stays, Stop, StopsAt, TellsBreak, TellsNothing, WordsStop, World, act, bare, both}
 use Rattle.cube_run.proofs.Names.{commands, faults, none_cost, one_costs, open_cost, opening_and, slice_costs, status_of, stop_of, words_status}
-use Rattle.cube_run.proofs.Moments.{histories_go_on, opened_behind, opened_moments, opening_moments, told_front}
+use Rattle.cube_run.proofs.Moments.{histories_go_on, moments_then, opened_behind, opened_moments, opening_moments, told_front}
 use Rattle.cube_run.proofs.Statuses.{complete, never, none_told, of_stop, still_closed, stop_cause}
 use Rattle.script_lang.specs.declared.command.Command.TheVariants as says
 use Rattle.cube_state.specs.declared.stop.Stop.TheVariants as stops
@@ -12,7 +12,9 @@ use Rattle.cube_words.specs.declared.words.WordsStop.TheVariants as words
 use Rattle.cube_run.specs.declared.exit.Status.TheVariants.{Done, Usage, Input, Memory, TooLong}
 use Rattle.plain_machine.specs.Keeps.{HasFormat}
 use Rattle.plain_machine.proofs.Formats.{has_format}
-use Rattle.cube_state.specs.Moves.{Reached, reached_behind, unmoved}
+use Rattle.cube_state.specs.Moves.{KeepsFormat, Reached, reached_behind, unmoved}
+use Rattle.plain_machine.specs.Stages.{AfterStop}
+use Rattle.site_core.specs.Moments.{LeavesOnly}
 use Rattle.cube_session.specs.Session.{reached_for}
 
 -- ---- what a run may spend
@@ -57,7 +59,7 @@ module _ {A B : Type 0} (S : Sources A) (T : Sites B) (laws : Laws T) (given : L
   closes status closed time opens damaged broken usage faulty writes cause =
       let other : (end : Status) → IsPastOpening end → status ≡ end → ⊥ = λ end past same. closed (subst IsPastOpening (sym same) past) in
       let head : IsTrue T.tells → (kept : Kept) → Headline (bare kept) (S.left source) (S.left source) (T.disk site) (T.disk now) status = λ t kept.
-      let run = opening_moments (T.disk site) (T.disk now) (bare kept) (commands (S.left source)) (λ told files. laws.only site told files t) (time t) in
+      let run = opening_moments (AfterStop (bare kept) (commands (S.left source)) (T.disk site).told) (T.disk site) (T.disk now) (λ told files. laws.only site told files t) (time t) in
       record {
         prefix = told_front _ _ _ _ run (laws.counts now _ _ t run.clock.later (laws.read now t));
         whole = λ same. absurd (other Done tt same);
@@ -68,6 +70,12 @@ module _ {A B : Type 0} (S : Sources A) (T : Sites B) (laws : Laws T) (given : L
       record {
         headline = λ s t kept keeps. head t kept;
         histories = λ s t kept keeps. histories_go_on kept _ _ _ _ _ (laws.read now t) (head t kept);
+        formats = λ s t kept keeps. record {
+          format = (has_format (T.disk site).files kept keeps).0;
+          has = (has_format (T.disk site).files kept keeps).1;
+          holds = opening_moments (KeepsFormat (bare kept) (unmoved (has_format (T.disk site).files kept keeps).0) (commands (S.left source)) (T.disk site).told) (T.disk site) (T.disk now)
+              (λ told files. laws.only site told files t) (time t);
+        };
         cost = λ s t kept keeps. costs_run T kept _ site now (has_format (T.disk site).files kept keeps).0 (has_format (T.disk site).files kept keeps).1 (λ cost costs. record { reads = omega (arith, (opens t kept keeps).1); writes = omega (arith, writes) });
         undamaged = λ t kept keeps. (opens t kept keeps).0;
         complete = λ s t kept keeps valid short. complete status (faults_of S T source site) (faults_of S T source now) (opens t kept keeps).0 cause (λ same. usage same valid) (other TooLong tt);
@@ -159,6 +167,13 @@ module _ {A B : Type 0} {S : Sources A} {T : Sites B} (laws : Laws T) (given : L
   runs = record {
     headline = run_head;
     histories = λ s t kept keeps. histories_go_on kept _ _ _ _ _ (laws.read now t) (run_head s t kept keeps);
+    formats = λ s t kept keeps. (let from = is.reached t kept keeps in record {
+      format = from.format;
+      has = from.has;
+      holds = moments_then (KeepsFormat (bare kept) (unmoved from.format) (commands (S.left source)) (T.disk site).told) (T.disk site) (T.disk mid) (T.disk now)
+          (λ told files. laws.only site told files t) (is.disk t).time (subst (λ (r : Reached × List ℕ). LeavesOnly (T.disk mid) (T.disk now) (KeepsFormat (bare kept) r.0 (commands (S.left source)) r.1))
+          (λ i. (from.holds i, (is.disk t).told i)) (serves.within s t (bare kept) (is.opened t kept keeps)).formats);
+    });
     cost = λ s t kept keeps. costs_run T kept _ site now (is.reached t kept keeps).format (is.reached t kept keeps).has (λ cost costs.
         let spent = (serves.within s t (bare kept) (is.opened t kept keeps)).cost cost (subst (λ (m : Reached). CostTogether (bare kept) m (commands (S.left source)) cost) (sym (is.reached t kept keeps).holds) costs) in
         record { reads = omega (arith, is.cost t kept keeps, spent.reads); writes = omega (arith, is.writes, spent.writes) });

@@ -6,9 +6,9 @@ use Rattle.site_core.specs.Moments.{LeavesOnly}
 use Rattle.script_lang.specs.Script.{commands, whole}
 use Rattle.script_lang.specs.declared.command.Command.{Command}
 use Rattle.plain_machine.specs.World.{World}
-use Rattle.plain_machine.specs.Keeps.{Keeps}
+use Rattle.plain_machine.specs.Keeps.{HasFormat, Keeps}
 use Rattle.plain_machine.specs.Stages.{replies_from, replies, final, AfterStop}
-use Rattle.cube_state.specs.Moves.{FromFormat, HasMovedTo, Reached, reached_from}
+use Rattle.cube_state.specs.Moves.{FromFormat, HasMovedTo, KeepsFormat, Reached, reached_from}
 use Rattle.cube_run.specs.declared.exit.Status.{Status}
 use Rattle.cube_run.specs.declared.exit.Status.TheVariants.{Done, Input, TooLong}
 use Rattle.cube_run.specs.Ends.{IsPastOpening}
@@ -17,6 +17,11 @@ use Rattle.cube_run.specs.Ends.{IsPastOpening}
 abbrev pub AfterRun : World → List Command → Disk → List ℕ → Files → Type 0
 AfterRun world commands start told files =
     AfterStop world commands start.told told files ⊎ ((told ≡ start.told) × start.may_leave files)
+
+-- and so for the format of the live pages
+abbrev pub FormatAfter : World → Reached → List Command → Disk → List ℕ → Files → Type 0
+FormatAfter world reached commands start told files =
+    KeepsFormat world reached commands start.told told files ⊎ ((told ≡ start.told) × start.may_leave files)
 
 -- The files are opened and synced before the first byte of the script is pulled. So they were, where the source has given a byte, or
 -- the run ended in what comes only behind that.
@@ -38,6 +43,8 @@ pub record Opened (start now : Disk) (world : World) (commands : List Command) :
 pub record Finished (now : Disk) (world : World) (reached : Reached) (commands : List Command) (before : List ℕ) : Type 0 where
   pub told : now.told ≡ before ++ replies_from world commands
   pub kept : Keeps now.files (final world commands).kept
+  -- the live pages have the format that the commands lead to
+  pub format : HasFormat now.files (final world commands).kept (reached_from world reached commands).format
   -- of a batch that is pending then the pages of the moves made stand on the side that is not live
   pub moved : HasMovedTo now.files (final world commands) (reached_from world reached commands).made
 

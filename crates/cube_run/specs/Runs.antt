@@ -1,6 +1,7 @@
 -- A run over a script, said once.
 use Rattle.std.specs.Prelude.{◌≡◌, ◌≤◌, ◌+◌, ℕ, IsTrue, List, [], length}
 use Rattle.site_core.specs.Causes.{Rose}
+use Rattle.site_core.specs.Moments.{LeavesOnly}
 use Rattle.site_core.specs.declared.site.Site.{Ghosts as Sites}
 use Rattle.site_core.specs.declared.source.Source.{Ghosts as Sources}
 use Rattle.forest_open.specs.Breaks.{BreaksAt}
@@ -13,7 +14,7 @@ use Rattle.cube_state.specs.Moves.{FromFormat}
 use Rattle.cube_run.specs.Costs.{CostsRun}
 use Rattle.cube_run.specs.Damage.{EndsAt, EndsForBreak}
 use Rattle.cube_run.specs.Ends.{EndsUnpulled, EndsUntouched, IsDoneOrMemory, IsUndamaged, IsUsageOrMemory, StatusCause, faults}
-use Rattle.cube_run.specs.Headline.{Headline, StopsShort}
+use Rattle.cube_run.specs.Headline.{FormatAfter, Headline, StopsShort}
 use Rattle.cube_run.specs.Histories.{HistoriesGoOn}
 use Rattle.cube_run.specs.Pulls.{Gave, KeepsLimit}
 use Rattle.cube_run.specs.Replied.{HasReplied}
@@ -27,6 +28,9 @@ pub record RunsScript {A B : Type 0} (S : Sources A) (T : Sites B) (words : List
       → Headline (bare kept) (S.left source) (S.left source_now) (T.disk site) (T.disk site_now) status
   pub histories : IsTrue S.tells → IsTrue T.tells → (kept : Kept) → Keeps (T.disk site).files kept
       → HistoriesGoOn kept (S.left source) (S.left source_now) (T.disk site) (T.disk site_now) status
+  -- a stop at any moment leaves no earlier format than the replies tell
+  pub formats : IsTrue S.tells → IsTrue T.tells → (kept : Kept) → Keeps (T.disk site).files kept
+      → FromFormat (T.disk site).files kept (λ reached. LeavesOnly (T.disk site) (T.disk site_now) (FormatAfter (bare kept) reached (commands (S.left source)) (T.disk site)))
   pub cost : IsTrue S.tells → IsTrue T.tells → (kept : Kept) → Keeps (T.disk site).files kept → CostsRun T kept (commands (S.left source)) site site_now
   pub undamaged : IsTrue T.tells → (kept : Kept) → Keeps (T.disk site).files kept → IsUndamaged status
   pub complete : IsTrue S.tells → IsTrue T.tells → (kept : Kept) → Keeps (T.disk site).files kept → AreValid words → length (S.left source) ≤ most

@@ -1,4 +1,5 @@
 -- A schema is declared in files that keep none.
+use Rattle.plain_machine.specs.Keeps.{IsFrom}
 use Rattle.cube_session.proofs.Names.{declared_text, Vec, Global, Result, List, sym, subst, ap, Some, ◌∙◌, None, ◌≡◌, ℕ, [], inr, refl, arith, Bool, true, cond, inl, Ok, IsTrue, Err, IfErr, ◌⊎◌}
 use Rattle.cube_session.proofs.Names.{IfOk, OnOk, nat_lt, IsErrOf, IsErrAnd, wider, stable_holds, HasCauseWhere, CallsOnly, IsStable, LeavesOnly, Ghosts, IsSchema, schema_of, Schema, SchemaRefusal}
 use Rattle.cube_session.proofs.Names.{Cache, Keeps, none_accepted, InitStop, KeepsNothing, Store, KeepsFacts, IsOpened, IsStoreOf, IsWhole, Whole, Command, line, act_schema, IsLawful, Answer, act}
@@ -55,12 +56,13 @@ module _ {S : Type 0} (T : Ghosts S) (schema : Schema) (lawful : IsSchema schema
   keeps_some : (world : World) → world.kept ≡ None → (act world its).0.kept ≡ Some (empty schema)
   keeps_some world none = ap (λ (a : Answer). a.0.kept) (acts world none)
 
-  moment : IsTrue T.tells → (world : World) → Stands Empty (T.disk old) world → Between (T.disk old) (T.disk new) world (act world its).0
-  moment t world stands = wider (T.disk old) (T.disk new) _ (λ told files. (told ≡ (T.disk old).told) × KeepsEither world (act world its).0 files)
+  moment : IsTrue T.tells → (world : World) → Stands Empty (T.disk old) world → Between 1 (T.disk old) (T.disk new) world (act world its).0
+  moment t world stands = wider (T.disk old) (T.disk new) _ (λ told files. (told ≡ (T.disk old).told) × KeepsEither world (act world its).0 files × IsFrom 1 files)
       (λ told files both. (
         both.0,
         ⊎_elim (λ nothing. inl (subst (Keeps files) (sym stands.0.kept) nothing))
             (λ kept. inr (subst (Keeps files) (sym (keeps_some world stands.0.kept)) (record { lawful = empty_lawful schema lawful; kept = kept }))) both.1,
+        λ body live. live.decodes.1.within.some_format,
       ))
       (is.any_moment t)
 

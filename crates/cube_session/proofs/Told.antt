@@ -4,14 +4,30 @@ use Rattle.cube_session.proofs.Names.{goes_on, wider, Emits, RoseOnce, Disk, Fil
 use Rattle.cube_session.proofs.Names.{stands_left, tells_none, Saves, Fits, live_file, live_of, ByWorld, CarriesOut, MayWrite, Costs, Cost, Spends, RunsOn, Between, KeepsEither, Stands, GoesTo}
 use Rattle.cube_session.proofs.Names.{State, Stop}
 use Rattle.cube_session.specs.Session.{Answers}
-use Rattle.cube_state.specs.Moves.{format_of, reached_by}
+use Rattle.cube_state.specs.Moves.{KeepsFormat, Reached, format_of, format_told, reached_behind, reached_by}
+use Rattle.cube_state.proofs.Moves.{format_past, format_untold, format_within, reached_more, stands_known}
+use Rattle.cube_state.proofs.Standing.{stands_from}
+use Rattle.page_fmt.specs.Formats.{wide_format}
+use Rattle.plain_machine.specs.Keeps.{IsFrom}
+use Rattle.std.proofs.Common.{Bool, false, inl, length-take, nat_lt, true, ◌∷◌, ◌+◌, ◌<◌, ◌≤◌, ◌⊎◌}
+use Rattle.std.proofs.lemmas.Bool.Decides.{nat_tests}
+
+less_or_all : (n most : ℕ) → n ≤ most → (n < most) ⊎ (n ≡ most)
+less_or_all n most few = elim (which (nat_lt n most)) [ inl less ↦ inl (grind (arith, nat_tests)) | inr not ↦ inr (grind (arith, nat_tests)) ]
+  where
+    which : (b : Bool) → (b ≡ true) ⊎ (b ≡ false)
+    which true = inl refl
+    which false = inr refl
+
+plus_zero : (n : ℕ) → n + 0 ≡ n
+plus_zero n = omega arith
 
 -- ---- what a stop within it leaves
 
-module _ (world : World) (command : Command) (old mid : Disk) (run : Between old mid world (act world command).0) where
+module _ (world : World) (command : Command) (state : State) (old mid : Disk) (run : Between (format_of state) old mid world (act world command).0) where
   -- before the reply
   untold : LeavesOnly old mid (Meanwhile world command old.told)
-  untold = wider old mid (λ told files. (told ≡ old.told) × KeepsEither world (act world command).0 files) (Meanwhile world command old.told) (λ told files both. record {
+  untold = wider old mid (λ told files. (told ≡ old.told) × KeepsEither world (act world command).0 files × IsFrom (format_of state) files) (Meanwhile world command old.told) (λ told files both. record {
     front = [];
     rest = (act world command).1;
     tells = both.0 ∙ sym (append-nil old.told);
@@ -20,19 +36,50 @@ module _ (world : World) (command : Command) (old mid : Disk) (run : Between old
     acknowledged = λ same. absurd (omega (arith, ap length same, reply_some world command));
   }) run
 
-  -- with the reply, or a part of it
-  telling : (new : Disk) (state : State) (reply : List ℕ) → mid.told ≡ old.told → Stands state mid (act world command).0 → reply ≡ (act world command).1 → Emits reply mid new
-      → LeavesOnly old new (Meanwhile world command old.told)
-  telling new state reply told is same emits = goes_on old mid new (Meanwhile world command old.told) untold emits.time (λ bytes files some after.
-      let kept = subst (λ (f : Files). Keeps f (act world command).0.kept) (sym after.2) (stands_left state mid (act world command).0 is after.0 after.1) in
-      record {
-        front = take some.0 reply;
-        rest = drop some.0 reply;
-        tells = some.1 ∙ ap (λ (l : List ℕ). l ++ take some.0 reply) told;
-        prefix = sym same ∙ sym (take-append-drop some.0 reply);
-        kept = inr kept;
-        acknowledged = λ all. kept;
-      })
+  untold_formats : (rest : List Command) → LeavesOnly old mid (KeepsFormat world (reached_by state) (command ∷ rest) old.told)
+  untold_formats rest = wider old mid (λ told files. (told ≡ old.told) × KeepsEither world (act world command).0 files × IsFrom (format_of state) files) (KeepsFormat world (reached_by state) (command ∷ rest) old.told)
+      (λ told files both. record {
+        front = [];
+        tells = both.0 ∙ sym (append-nil old.told);
+        from = subst (λ (f : ℕ). IsFrom f files) (sym (format_untold world (reached_by state) (command ∷ rest))) both.2;
+      }) run
+
+  module _ (new : Disk) (next : State) (reply : List ℕ) (told : mid.told ≡ old.told) (is : Stands next mid (act world command).0) (same : reply ≡ (act world command).1) (emits : Emits reply mid new) where
+    -- with the reply, or a part of it
+    telling : LeavesOnly old new (Meanwhile world command old.told)
+    telling = goes_on old mid new (Meanwhile world command old.told) untold emits.time (λ bytes files some after.
+        let kept = subst (λ (f : Files). Keeps f (act world command).0.kept) (sym after.2) (stands_left next mid (act world command).0 is after.0 after.1) in
+        record {
+          front = take some.0 reply;
+          rest = drop some.0 reply;
+          tells = some.1 ∙ ap (λ (l : List ℕ). l ++ take some.0 reply) told;
+          prefix = sym same ∙ sym (take-append-drop some.0 reply);
+          kept = inr kept;
+          acknowledged = λ all. kept;
+        })
+
+    -- the format that a part of the reply tells
+    from_part : (rest : List Command) (known : format_of state ≤ wide_format) (moved : reached_by next ≡ reached_behind world (reached_by state) command) (files : Files) → IsFrom (format_of next) files
+        → (n : ℕ) → n ≤ length (act world command).1 → IsFrom (format_told world (reached_by state) (command ∷ rest) n) files
+    from_part rest known moved files from n few = elim (less_or_all n (length (act world command).1) few) [
+      | inl less ↦ λ body live. omega (arith, from body live, format_within world (reached_by state) command rest n less, reached_more world (reached_by state) command known, ap (λ (r : Reached). r.format) moved)
+      | inr all ↦ λ body live. omega (
+        arith,
+        from body live,
+        ap (format_told world (reached_by state) (command ∷ rest)) (all ∙ sym (plus_zero (length (act world command).1)))
+            ∙ (format_past world (reached_by state) command rest 0 ∙ format_untold (act world command).0 (reached_behind world (reached_by state) command) rest),
+        ap (λ (r : Reached). r.format) moved,
+      )
+    ]
+
+    telling_formats : format_of state ≤ wide_format → reached_by next ≡ reached_behind world (reached_by state) command → (rest : List Command)
+        → LeavesOnly old new (KeepsFormat world (reached_by state) (command ∷ rest) old.told)
+    telling_formats known moved rest = goes_on old mid new (KeepsFormat world (reached_by state) (command ∷ rest) old.told) (untold_formats rest) emits.time (λ bytes files some after. record {
+      front = take some.0 reply;
+      tells = some.1 ∙ ap (λ (l : List ℕ). l ++ take some.0 reply) told;
+      from = from_part rest known moved files (subst (IsFrom (format_of next)) (sym after.2) (stands_from next mid (act world command).0 is after.0 after.1)) (length (take some.0 reply))
+          (omega (arith, length-take some.0 reply, ap length same));
+    })
 
 -- ---- the command
 
@@ -42,7 +89,7 @@ module _ {S : Type 0} (T : Ghosts S) (command : Command) (state next : State) (o
   stopped stop is = record {
     by_world = λ t world stands.
         let known = is.by_world t world stands in
-        assumption (known, untold world command (T.disk old) (T.disk mid) known.any_moment);
+        assumption (known, untold world command state (T.disk old) (T.disk mid) known.any_moment, untold_formats world command state (T.disk old) (T.disk mid) known.any_moment);
     any_files = λ t. assumption (is.any_files t, λ (none : MayWrite command → ⊥). ((is.any_files t).looks none).files);
     goes_on = assumption is.goes_on;
   }
@@ -65,7 +112,11 @@ module _ {S : Type 0} (T : Ghosts S) (command : Command) (state next : State) (o
       known = is.by_world t world stands
 
       moment : LeavesOnly (T.disk old) (T.disk new) (Meanwhile world command (T.disk old).told)
-      moment = telling world command (T.disk old) (T.disk mid) known.any_moment (T.disk new) next bytes (is.goes_on.quiet.told t) known.answer.stands (same ∙ known.answer.said) (emits t)
+      moment = telling world command state (T.disk old) (T.disk mid) known.any_moment (T.disk new) next bytes (is.goes_on.quiet.told t) known.answer.stands (same ∙ known.answer.said) (emits t)
+
+      formats : (rest : List Command) → LeavesOnly (T.disk old) (T.disk new) (KeepsFormat world (reached_by state) (command ∷ rest) (T.disk old).told)
+      formats = telling_formats world command state (T.disk old) (T.disk mid) known.any_moment (T.disk new) next bytes (is.goes_on.quiet.told t) known.answer.stands (same ∙ known.answer.said) (emits t)
+          (stands_known state (T.disk old) world stands) known.moved
 
       costs : (cost : Cost) → Costs world (reached_by state) command cost → Spends T cost old new
       costs cost its = spends_on cost (known.cost cost its)
@@ -86,6 +137,7 @@ module _ {S : Type 0} (T : Ghosts S) (command : Command) (state next : State) (o
             stands_on (T.disk mid) (T.disk new) (emits t).files (emits_left bytes (T.disk mid) (T.disk new) (emits t)) next (act world command).0 its.answer.stands,
             told_on t (told t) ∙ ap (λ (l : List ℕ). (T.disk old).told ++ l) its.answer.said,
             moment t world stands,
+            formats t world stands,
             costs t world stands,
             saves t world stands,
           );
@@ -102,7 +154,7 @@ module _ {S : Type 0} (T : Ghosts S) (command : Command) (state next : State) (o
     -- the output failed
     pub unheard : RoseOnce (T.told_faults mid) (T.told_faults new) → Answers T command state None old new before after (Err Stop.Output)
     unheard rose = record {
-      by_world = λ t world stands. assumption (moment t world stands, costs t world stands, saves t world stands);
+      by_world = λ t world stands. assumption (moment t world stands, formats t world stands, costs t world stands, saves t world stands);
       any_files = λ t. assumption (tells_none state (T.disk old).files command Stop.Output tt, looks_on t);
       goes_on = assumption (
         is.goes_on,

@@ -1,5 +1,5 @@
 -- A session, which has nothing once it has stopped, and what a command does to it, said once.
-use Rattle.std.specs.Prelude.{◌≡◌, ◌≢◌, ◌≤◌, ◌+◌, ◌++◌, ℕ, IsTrue, IsErrOf, false, List, [], Option, Some, None, Result, Ok, Err, IfOk, IfErr, OnErr, OnOk}
+use Rattle.std.specs.Prelude.{◌≡◌, ◌≢◌, ◌≤◌, ◌+◌, ◌++◌, ℕ, IsTrue, IsErrOf, false, List, [], ◌∷◌, Option, Some, None, Result, Ok, Err, IfOk, IfErr, OnErr, OnOk}
 use Rattle.std.specs.Option.{IsSomeAnd}
 use Rattle.site_core.specs.Calls.{Settles, Stays}
 use Rattle.site_core.specs.Disk.{Disk, Files}
@@ -20,7 +20,7 @@ use Rattle.cube_state.specs.Carried.{IsReadyFor, MayWrite, Spares}
 use Rattle.cube_state.specs.Commands.{Costs, Gives, TellsDamage}
 use Rattle.cube_state.specs.Costs.{Cost, Spends}
 use Rattle.cube_state.specs.Frames.{IsQuiet, StopsFor}
-use Rattle.cube_state.specs.Moves.{FromFormat, Reached, format_of, moves_made, reached_behind, reached_by, unmoved}
+use Rattle.cube_state.specs.Moves.{FromFormat, KeepsFormat, Reached, format_of, moves_made, reached_behind, reached_by, unmoved}
 use Rattle.cube_state.specs.Session.{Stands}
 use Rattle.cube_state.specs.Stops.{IsNoDamage}
 use Rattle.cube_state.specs.Visits.{GoesTo, asks_pages}
@@ -101,6 +101,8 @@ pub record AnswersByWorld {S : Type 0} (T : Ghosts S) (command : Command) (world
   pub stands : OnOk result (StandsFor has (T.disk new) (act world command).0)
   pub told : OnOk result ((T.disk new).told ≡ (T.disk old).told ++ (act world command).1)
   pub any_moment : LeavesOnly (T.disk old) (T.disk new) (Meanwhile world command (T.disk old).told)
+  -- and no format is left again, whatever commands follow
+  pub formats : (rest : List Command) → LeavesOnly (T.disk old) (T.disk new) (KeepsFormat world (reached_by state) (command ∷ rest) (T.disk old).told)
   pub undamaged : IfErr result IsNoDamage
   pub moved : OnOk result (reached_for has ≡ reached_behind world (reached_by state) command)
   pub cost : (cost : Cost) → Costs world (reached_by state) command cost → Spends T cost old new

@@ -3,7 +3,7 @@ ghost use Rattle.cube_state.specs.Carried.{CarriesOut, IsReadyFor};
 
 use crate::answering::{plain, status};
 use crate::declaring::declare;
-use cube_batches::{abandon, begin, finish, load, step};
+use cube_batches::{abandon, begin, finish, load, step, upgrade};
 use cube_slices::slice;
 use cube_state::{State, Stop};
 use page_cache::Pages;
@@ -41,6 +41,7 @@ pub fn act<T: Site>(
         Command::Step(moves) => step(alloc, state, moves, site),
         Command::Finish => finish(alloc, pages, state, site),
         Command::Abandon => abandon(alloc, state, site),
+        Command::Upgrade => upgrade(alloc, pages, state, site),
         Command::LongLine => plain(alloc, "refused long line"),
         Command::OpenBlock => plain(alloc, "refused open block"),
         Command::Unknown => plain(alloc, "refused unknown"),

@@ -42,7 +42,7 @@ kept_as : (state : State) (disk : Disk) (world : World) → Stands state disk wo
 kept_as Empty disk world is = is.0.kept
 kept_as (Idle store) disk world is = kept_by store disk world is.0 is.1.kept is.2
 kept_as (Hollow store) disk world is = kept_by store disk world is.0 is.1.kept is.2
-kept_as (Pending r) disk world is = kept_by r.store disk world is.0 is.2.kept (attends_belongs r disk is.0 is.1 is.3)
+kept_as (Pending r) disk world is = kept_by r.store disk world is.0 is.2.kept (attends_belongs r disk is.0 is.1 is.3.attends)
 
 pub kept_over : (state : State) (k : Option Store) (disk : Disk) (world : World) → store_of state ≡ k → Stands state disk world → KeptBy k disk world
 kept_over state k disk world has stands = subst (λ (o : Option Store). KeptBy o disk world) has (kept_as state disk world stands)

@@ -4,10 +4,11 @@ use Rattle.site_core.specs.Disk.{Files, Disk}
 use Rattle.site_core.proofs.Run.{each_moment, started}
 use Rattle.site_core.specs.Calls.{Rests, Stays}
 use Rattle.plain_machine.specs.World.{World}
-use Rattle.plain_machine.specs.Keeps.{Keeps}
+use Rattle.plain_machine.specs.Keeps.{IsFrom, Keeps}
 use Rattle.cube_state.specs.declared.state.State.{State}
 use Rattle.cube_state.specs.Session.{IsFit, Stands, Between, KeepsEither}
-use Rattle.cube_state.proofs.Standing.{fit_on, rests_left, stands_left, stands_on}
+use Rattle.cube_state.specs.Moves.{format_of}
+use Rattle.cube_state.proofs.Standing.{fit_on, rests_left, stands_from, stands_left, stands_on}
 
 -- what is known of a site at each moment
 abbrev pub OnlyNow : Disk → Type 0
@@ -16,15 +17,19 @@ OnlyNow d = (told : List ℕ) (files : Files) → d.left_since d.clock told file
 -- ---- nothing was written
 
 -- nothing was called
-pub quiet : (state : State) (disk : Disk) (world next : World) → Stands state disk world → OnlyNow disk → Between disk disk world next
-quiet state disk world next is only = started disk (λ told files. (told ≡ disk.told) × KeepsEither world next files)
-    (λ told files left. let now = only told files left in (now.0, inl (stands_left state disk world is files now.1)))
+pub quiet : (state : State) (disk : Disk) (world next : World) → Stands state disk world → OnlyNow disk → Between (format_of state) disk disk world next
+quiet state disk world next is only = started disk (λ told files. (told ≡ disk.told) × KeepsEither world next files × IsFrom (format_of state) files)
+    (λ told files left. let now = only told files left in (now.0, inl (stands_left state disk world is files now.1), stands_from state disk world is files now.1))
 
 -- calls that change nothing
-pub resting : (state : State) (old new : Disk) (world next : World) → Stands state old world → OnlyNow old → Rests old new → Between old new world next
-resting state old new world next is only rests = each_moment Stays old new (λ told files. (told ≡ old.told) × KeepsEither world next files)
-    (λ told files left. let now = only told files left in (now.0, inl (stands_left state old world is files now.1)))
-    (λ told files same after. (same, inl (subst (λ (f : Files). Keeps f world.kept) (sym after.2) (stands_left state old world is after.0 after.1)))) rests.time
+pub resting : (state : State) (old new : Disk) (world next : World) → Stands state old world → OnlyNow old → Rests old new → Between (format_of state) old new world next
+resting state old new world next is only rests = each_moment Stays old new (λ told files. (told ≡ old.told) × KeepsEither world next files × IsFrom (format_of state) files)
+    (λ told files left. let now = only told files left in (now.0, inl (stands_left state old world is files now.1), stands_from state old world is files now.1))
+    (λ told files same after. (
+      same,
+      inl (subst (λ (f : Files). Keeps f world.kept) (sym after.2) (stands_left state old world is after.0 after.1)),
+      subst (IsFrom (format_of state)) (sym after.2) (stands_from state old world is after.0 after.1),
+    )) rests.time
 
 -- a session stands after such calls
 pub fit_rests : (state : State) (old new : Disk) → Rests old new → IsFit state old → IsFit state new

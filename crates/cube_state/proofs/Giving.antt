@@ -12,7 +12,7 @@ use Rattle.forest_refresh.specs.Begun.{batch_size}
 use Rattle.forest_refresh.specs.declared.stop.BeginStop.{BeginStop}
 use Rattle.forest_refresh.specs.declared.stop.BeginStop.TheVariants as begins
 use Rattle.forest_root.specs.declared.forest.Store.{Store}
-use Rattle.reply_text.specs.Replies.{abandoned_text, begun_text, is_declared, is_pending, is_unknown, line, long_line, no_schema, none_pending, not_covered, open_block, stepped_text, too_many_facts, unopened}
+use Rattle.reply_text.specs.Replies.{abandoned_text, begun_text, is_declared, is_pending, is_unknown, line, long_line, no_schema, none_pending, not_covered, open_block, stepped_text, too_many_facts, unopened, upgraded_text}
 use Rattle.script_lang.specs.declared.command.Command.TheVariants as says
 use Rattle.slice_lang.specs.declared.refusal.SliceRefusal.{SliceRefusal}
 use Rattle.slice_lang.specs.Reading.{slice_of}
@@ -89,6 +89,9 @@ gives_some (Hollow store) files says.Status reply is =
     as_text _ reply is (behind (codes "facts ") _ (behind (decimal store.forest.body.facts) _ (some_number (codes " pending ") 0)))
 gives_some (Pending r) files says.Status reply is =
     as_text _ reply is (behind (codes "facts ") _ (behind (decimal r.store.forest.body.facts) _ (some_number (codes " pending ") (batch_size r))))
+gives_some Empty files says.Upgrade reply is = as_line no_schema reply is
+gives_some (Idle store) files says.Upgrade reply is = as_line upgraded_text reply is.said
+gives_some state files says.Upgrade reply is = as_line is_pending reply is
 gives_some Empty files (says.Begin block) reply is = as_line no_schema reply is
 gives_some (Idle store) files (says.Begin block) reply is = begun_some store (given_to store (Rows block)) reply (source_has store.forest.schema store.forest.body.last (Rows block)) is
 gives_some state files (says.Begin block) reply is = as_line is_pending reply is

@@ -1,20 +1,17 @@
 -- Commands that only answer: what they reply, by what the session has.
-use Rattle.cube_schema.specs.declared.schema.Schema.{Schema}
 use Rattle.cube_state.proofs.Answering.{OnlyNow}
 use Rattle.cube_state.proofs.Carried.{OnlySays, says_or_out}
 use Rattle.cube_state.specs.Carried.{CarriesOut, IsReadyFor, Reply}
 use Rattle.cube_state.specs.Commands.{SchemaGives}
 use Rattle.cube_state.specs.Session.{Stands, state_text}
-use Rattle.cube_state.specs.Visits.{GoesFrom, GoesOver}
 use Rattle.cube_state.specs.declared.state.State.{State}
 use Rattle.cube_state.specs.declared.state.State.TheVariants.{Empty, Hollow, Idle, Pending}
 use Rattle.cube_state.specs.declared.stop.Stop.{Stop}
 use Rattle.fact_model.specs.declared.fact.Fact.{Fact}
-use Rattle.fact_model.specs.declared.slice.Slice.{Slice}
 use Rattle.forest_refresh.specs.Begun.{batch_size}
 use Rattle.page_cache.specs.Giving.{Cache}
 use Rattle.plain_machine.proofs.Acts.{act_long_line, act_open_block, act_schema, act_status, act_unknown}
-use Rattle.plain_machine.specs.Machine.{Answer, asked_by, asked_over, declare_over, status_over, status_text}
+use Rattle.plain_machine.specs.Machine.{Answer, declare_over, status_over, status_text}
 use Rattle.plain_machine.specs.World.{Kept, Knows, World, bare}
 use Rattle.reply_text.specs.Replies.{facts_text, is_declared, is_unknown, line, long_line, open_block, pending_text}
 use Rattle.script_lang.specs.declared.command.Block.{Block}
@@ -39,8 +36,9 @@ status_known Empty disk world is = known_status None None world is.0
 status_known (Idle store) disk world is = ap facts_text is.2.stored.read.live.at.body_is.facts ∙ known_status (Some is.0) None world is.1
 status_known (Hollow store) disk world is = ap (λ n. pending_text n 0) is.2.stored.read.live.at.body_is.facts ∙ known_status (Some is.0) _ world is.1
 status_known (Pending r) disk world is =
-    let now = is.3.adds.read.live.at.body_is.facts in
-    let size : batch_size r ≡ length is.1 = omega (arith, now, is.3.adds.read.counted, length-append is.0.facts is.1) in
+    let adds = is.3.attends.adds.read in
+    let now = adds.live.at.body_is.facts in
+    let size : batch_size r ≡ length is.1 = omega (arith, now, adds.counted, length-append is.0.facts is.1) in
     (λ i. pending_text (now i) (size i)) ∙ known_status (Some is.0) (Some is.1) world is.2
 
 -- ---- they only answer

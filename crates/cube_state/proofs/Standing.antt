@@ -1,5 +1,5 @@
 -- What a session that stands for a world tells of the files.
-use Rattle.std.proofs.Common.{◌≡◌, ℕ, List, sym, ◌∙◌, ap, subst}
+use Rattle.std.proofs.Common.{◌≡◌, ◌≤◌, ℕ, List, arith, sym, ◌∙◌, ap, subst}
 use Rattle.site_core.specs.Calls.{Emits, Rests}
 use Rattle.site_core.specs.Disk.{Files, Disk}
 use Rattle.site_core.specs.Moments.{HoldsNow, IsStable}
@@ -12,21 +12,22 @@ use Rattle.forest_root.specs.Root.{IsShut, RootIsStable}
 use Rattle.forest_root.specs.declared.body.Body.{Body}
 use Rattle.forest_commit.specs.Commit.{slot_of}
 use Rattle.forest_root.specs.declared.forest.Store.{Store}
-use Rattle.forest_store.specs.Held.{KeepsFacts}
+use Rattle.forest_store.specs.Held.{KeepsAs, KeepsFacts}
 use Rattle.forest_store.specs.Opened.{HasRoot, IsOpened}
 use Rattle.forest_store.specs.Stored.{IsStoreOf}
-use Rattle.forest_store.proofs.Standing.{live_keeps}
+use Rattle.forest_store.proofs.Standing.{body_format, in_some, live_keeps}
 use Rattle.plain_machine.specs.World.{World, Warehouse}
-use Rattle.plain_machine.specs.Keeps.{Keeps, KeepsWarehouse}
+use Rattle.plain_machine.specs.Keeps.{IsFrom, Keeps, KeepsWarehouse}
 use Rattle.cube_state.specs.declared.state.State.{State}
 use Rattle.cube_state.specs.declared.state.State.TheVariants.{Empty, Idle, Hollow, Pending}
+use Rattle.cube_state.specs.Moves.{format_of}
 use Rattle.cube_state.specs.Session.{Attends, AttendsAs, Belongs, IsFit, Stands}
 
 pub belongs_read : (store : Store) (disk : Disk) (warehouse : Warehouse) → Belongs store disk warehouse → KeepsWarehouse disk.files warehouse
 belongs_read store disk warehouse is = record {
   lawful = is.lawful;
   kept = subst (λ (s : Schema). KeepsFacts s warehouse.facts warehouse.last disk.files) is.schema
-      (subst (λ n. KeepsFacts store.forest.schema warehouse.facts n disk.files) is.last (live_keeps store.forest.schema store.forest.body warehouse.facts disk.files is.stored.read.live));
+      (subst (λ n. KeepsFacts store.forest.schema warehouse.facts n disk.files) is.last (in_some (live_keeps store.forest.schema store.forest.body warehouse.facts disk.files is.stored.read.live)));
 }
 
 -- and so do all that a stop now may leave
@@ -35,7 +36,7 @@ pub belongs_left : (store : Store) (disk : Disk) (warehouse : Warehouse) → Bel
 belongs_left store disk warehouse is files left = record {
   lawful = is.lawful;
   kept = subst (λ (s : Schema). KeepsFacts s warehouse.facts warehouse.last files) is.schema
-      (subst (λ n. KeepsFacts store.forest.schema warehouse.facts n files) is.last (live_keeps store.forest.schema store.forest.body warehouse.facts files (is.stored.left files left).live));
+      (subst (λ n. KeepsFacts store.forest.schema warehouse.facts n files) is.last (in_some (live_keeps store.forest.schema store.forest.body warehouse.facts files (is.stored.left files left).live)));
 }
 
 -- a batch that is pending keeps the facts without it
@@ -53,7 +54,7 @@ pub stands_read : (state : State) (disk : Disk) (world : World) → Stands state
 stands_read Empty disk world is = subst (Keeps disk.files) (sym is.0.kept) is.1.nothing
 stands_read (Idle store) disk world is = subst (Keeps disk.files) (sym is.1.kept) (belongs_read store disk is.0 is.2)
 stands_read (Hollow store) disk world is = subst (Keeps disk.files) (sym is.1.kept) (belongs_read store disk is.0 is.2)
-stands_read (Pending r) disk world is = subst (Keeps disk.files) (sym is.2.kept) (belongs_read r.store disk is.0 (attends_belongs r disk is.0 is.1 is.3))
+stands_read (Pending r) disk world is = subst (Keeps disk.files) (sym is.2.kept) (belongs_read r.store disk is.0 (attends_belongs r disk is.0 is.1 is.3.attends))
 
 -- what a stop leaves now
 pub stands_left : (state : State) (disk : Disk) (world : World) → Stands state disk world
@@ -63,14 +64,29 @@ stands_left Empty disk world is files left =
 stands_left (Idle store) disk world is files left = subst (Keeps files) (sym is.1.kept) (belongs_left store disk is.0 is.2 files left)
 stands_left (Hollow store) disk world is files left = subst (Keeps files) (sym is.1.kept) (belongs_left store disk is.0 is.2 files left)
 stands_left (Pending r) disk world is files left =
-    subst (Keeps files) (sym is.2.kept) (belongs_left r.store disk is.0 (attends_belongs r disk is.0 is.1 is.3) files left)
+    subst (Keeps files) (sym is.2.kept) (belongs_left r.store disk is.0 (attends_belongs r disk is.0 is.1 is.3.attends) files left)
+
+-- files that keep facts in this format, or in a later one
+pub keeps_from : {least format : ℕ} (schema : Schema) (facts : List Fact) (last : ℕ) (files : Files) → least ≤ format → KeepsAs format schema facts last files → IsFrom least files
+keeps_from schema facts last files low is body live = omega (arith, low, body_format schema facts last files is body live)
+
+belongs_from : (store : Store) (disk : Disk) (warehouse : Warehouse) → Belongs store disk warehouse → (files : Files) → disk.may_leave files → IsFrom store.forest.body.format files
+belongs_from store disk warehouse is files left = keeps_from store.forest.schema warehouse.facts store.forest.body.last files (omega arith)
+    (live_keeps store.forest.schema store.forest.body warehouse.facts files (is.stored.left files left).live)
+
+-- and has no earlier format
+pub stands_from : (state : State) (disk : Disk) (world : World) → Stands state disk world → (files : Files) → disk.may_leave files → IsFrom (format_of state) files
+stands_from Empty disk world is files left = λ body live. live.decodes.1.within.some_format
+stands_from (Idle store) disk world is files left = belongs_from store disk is.0 is.2 files left
+stands_from (Hollow store) disk world is files left = belongs_from store disk is.0 is.2 files left
+stands_from (Pending r) disk world is files left = belongs_from r.store disk is.0 (attends_belongs r disk is.0 is.1 is.3.attends) files left
 
 -- a session that stands fits its files
 pub stands_fit : (state : State) (disk : Disk) (world : World) → Stands state disk world → IsFit state disk
 stands_fit Empty disk world is = is.1
 stands_fit (Idle store) disk world is = is.2.opened
 stands_fit (Hollow store) disk world is = is.2.opened
-stands_fit (Pending r) disk world is = is.3.ready
+stands_fit (Pending r) disk world is = is.3.attends.ready
 
 -- ---- calls that change no file, neither as a read gives it nor as a stop leaves it
 
@@ -100,18 +116,20 @@ module _ (old new : Disk) (same : new.files ≡ old.files) (left : (files : File
   ready_on r is = record { opened = opened_on r.store.forest.body is.opened; shut = subst (λ (f : Files). IsShut (slot_of r.next) (f 0)) (sym same) is.shut; moved = subst (HasMoved r) (sym same) is.moved }
 
   attends_on : (r : Begun) (warehouse : Warehouse) (batch : List Fact) → Attends r old warehouse batch → Attends r new warehouse batch
-  attends_on r warehouse batch is = record {
-    lawful = is.lawful;
-    schema = is.schema;
-    last = is.last;
-    next = is.next;
-    format = is.format;
-    due = is.due;
-    adds = holds_on (IsRefreshOf r warehouse.facts batch) is.adds;
-    some = is.some;
-    ready = ready_on r is.ready;
-    moved = subst (StandsAt r warehouse.facts batch) (sym same) is.moved;
-  }
+  attends_on r warehouse batch it = (let is = it.attends in record {
+    attends = record {
+      lawful = is.lawful;
+      schema = is.schema;
+      last = is.last;
+      next = is.next;
+      counted = is.counted;
+      adds = holds_on (IsRefreshOf r warehouse.facts batch) is.adds;
+      ready = ready_on r is.ready;
+      moved = subst (StandsAt r warehouse.facts batch) (sym same) is.moved;
+    };
+    some = it.some;
+    format = it.format;
+  })
 
   -- the files are still those that it has opened
   pub fit_on : (state : State) → IsFit state old → IsFit state new

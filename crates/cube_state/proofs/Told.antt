@@ -1,5 +1,5 @@
 -- Stops that tell no damage.
-use Rattle.std.proofs.Common.{◌+◌, ◌%◌, ℕ, List, Option, Some, None, Ok, Err, refl, arith}
+use Rattle.std.proofs.Common.{◌+◌, ◌%◌, ℕ, List, [], Option, Some, None, Ok, Err, refl, arith}
 use Rattle.site_core.specs.Disk.{Files, with_file}
 use Rattle.site_core.proofs.Files.{with_file-other}
 use Rattle.fact_model.specs.declared.fact.Fact.{Fact}
@@ -17,7 +17,7 @@ use Rattle.cube_state.specs.declared.state.State.{State}
 use Rattle.cube_state.specs.declared.state.State.TheVariants.{Empty, Idle, Hollow, Pending}
 use Rattle.cube_state.specs.declared.stop.Stop.{Stop}
 use Rattle.cube_state.specs.declared.stop.Stop.TheVariants as stops
-use Rattle.cube_state.specs.BatchDamage.{FinishTells, LoadTells, TellsBatchDamage, TellsGivenDamage, TellsRefreshDamage}
+use Rattle.cube_state.specs.BatchDamage.{FinishTells, LoadTells, TellsBatchDamage, TellsGivenDamage, TellsRefreshDamage, UpgradeTells}
 use Rattle.cube_state.specs.Batches.{given_to}
 use Rattle.cube_state.specs.Carried.{Spares, SparesOf}
 use Rattle.cube_state.specs.Commands.{TellsDamage}
@@ -63,6 +63,12 @@ finish_none (Idle kept) files stop is = is
 finish_none (Hollow kept) files stop is = is
 finish_none (Pending r) files stop is = refresh_none r files stop is
 
+upgrade_none : (state : State) (files : Files) (stop : Stop) → IsNoDamage stop → UpgradeTells state files stop
+upgrade_none Empty files stop is = is
+upgrade_none (Idle kept) files stop is = batch_none kept files [] stop is
+upgrade_none (Hollow kept) files stop is = is
+upgrade_none (Pending r) files stop is = is
+
 -- a stop that is no damage tells none
 pub tells_none : (state : State) (files : Files) (command : Command) (stop : Stop) → IsNoDamage stop → TellsDamage state files command stop
 tells_none state files (says.Slice text) stop is = slice_none (store_of state) files (says.Slice text) stop is
@@ -71,6 +77,7 @@ tells_none state files (says.LoadNumbered number block) stop is = load_none stat
 tells_none state files (says.Generate start rows) stop is = load_none state files (Generator start rows) stop is
 tells_none state files (says.Step n) stop is = finish_none state files stop is
 tells_none state files says.Finish stop is = finish_none state files stop is
+tells_none state files says.Upgrade stop is = upgrade_none state files stop is
 tells_none state files (says.Schema block) stop is = is
 tells_none state files says.Status stop is = is
 tells_none state files says.LongLine stop is = is

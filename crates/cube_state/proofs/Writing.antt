@@ -50,14 +50,14 @@ ForEach T state site P = IsTrue T.tells → (world : World) → Stands state (T.
 
 -- however it ends
 pub record RunsFor {S : Type 0} (T : Ghosts S) (command : Command) (state : State) (old new : S) (world : World) : Type 0 where
-  pub any_moment : Between (T.disk old) (T.disk new) world (act world command).0
+  pub any_moment : Between (format_of state) (T.disk old) (T.disk new) world (act world command).0
   pub cost : (cost : Cost) → Costs world (reached_by state) command cost → Spends T cost old new
 
 -- at a reply
 pub record Replies {S : Type 0} (T : Ghosts S) (command : Command) (state next : State) (old new : S) (reply : List ℕ) : Type 0 where
   pub answer : ForEach T state old (λ world. IsAnswer (T.disk new) (act world command) next reply)
   pub moved : ForEach T state old (λ world. reached_by next ≡ reached_behind world (reached_by state) command)
-  pub uncalled : ForEach T state old (λ world. MakesNoCall world command → new ≡ old)
+  pub uncalled : ForEach T state old (λ world. MakesNoCall world (reached_by state) command → new ≡ old)
   pub answered : IsTrue T.tells → Gives state (T.disk old).files command reply
   pub runs : RunsOn T new next
   pub made : (IsStep command → ⊥) → moves_made next ≡ made_alone command (moves_made state)

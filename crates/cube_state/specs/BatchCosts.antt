@@ -1,7 +1,9 @@
 -- What the commands of a batch cost, and the schema.
-use Rattle.std.specs.Prelude.{◌+◌, ◌-◌, ℕ, cond, List, [], ◌∷◌, length, Option, Some, None}
+use Rattle.std.specs.Prelude.{◌+◌, ◌-◌, ℕ, Bool, false, cond, List, [], ◌∷◌, length, nat_lt, Option, Some, None}
 use Rattle.fact_model.specs.declared.fact.Fact.{Fact}
 use Rattle.packing.specs.Moves.{Move, reads_in, written}
+use Rattle.page_fmt.specs.Formats.{wide_format}
+use Rattle.forest_moves.specs.Forest.{forest_moves}
 use Rattle.forest_store.specs.Sides.{page_count}
 use Rattle.script_lang.specs.declared.command.Block.{Block}
 use Rattle.script_lang.specs.declared.command.Command.{Command}
@@ -71,3 +73,23 @@ load_cost_of format kept moves = record { reads = 1 + pages_over format kept; wr
 -- of the command that sends it
 abbrev pub load_cost : ℕ → World → Command → Cost
 load_cost format world command = cond (makes_stage world command) (load_cost_of format world.kept (moves_of format world.kept (batch_by world command))) free
+
+-- ---- upgrade
+
+-- pages of an earlier format are made anew; it is refused without a schema and while a batch is pending
+abbrev pub remakes_over : Kept → Option (List Fact) → ℕ → Bool
+remakes_over None pending format = false
+remakes_over (Some warehouse) (Some batch) format = false
+remakes_over (Some warehouse) None format = nat_lt format wide_format
+
+abbrev pub remakes : World → ℕ → Bool
+remakes world format = remakes_over world.kept world.pending format
+
+-- the moves of all points into pages of the greatest format
+abbrev pub upgrade_moves : ℕ → Kept → List Move
+upgrade_moves format None = []
+upgrade_moves format (Some warehouse) = forest_moves format wide_format warehouse.schema warehouse.facts []
+
+-- as much as of a batch that is accepted at once, and nothing where the pages have the greatest format
+abbrev pub upgrade_cost : ℕ → World → Cost
+upgrade_cost format world = cond (remakes world format) (load_cost_of format world.kept (upgrade_moves format world.kept)) free

@@ -1,5 +1,5 @@
 -- Where the damage lies that the commands of a batch tell, and what they leave of files that are damaged.
-use Rattle.std.specs.Prelude.{◌≡◌, ◌≢◌, ◌+◌, ◌%◌, ℕ, List, Ok, Err}
+use Rattle.std.specs.Prelude.{◌≡◌, ◌≢◌, ◌+◌, ◌%◌, ℕ, List, [], Ok, Err}
 use Rattle.site_core.specs.Disk.{Files, with_file}
 use Rattle.fact_model.specs.declared.fact.Fact.{Fact}
 use Rattle.attr_dict.specs.Admitting.{names_with}
@@ -51,6 +51,13 @@ FinishTells Empty files stop = IsNoDamage stop
 FinishTells (Idle kept) files stop = IsNoDamage stop
 FinishTells (Hollow kept) files stop = IsNoDamage stop
 FinishTells (Pending refresh) files stop = TellsRefreshDamage refresh files stop
+
+-- an upgrade, which goes through all trees as a batch without a fact would
+abbrev pub UpgradeTells : State → Files → Stop → Type 0
+UpgradeTells Empty files stop = IsNoDamage stop
+UpgradeTells (Idle kept) files stop = TellsBatchDamage kept files [] stop
+UpgradeTells (Hollow kept) files stop = IsNoDamage stop
+UpgradeTells (Pending refresh) files stop = IsNoDamage stop
 
 -- ---- what is left
 

@@ -1,5 +1,5 @@
 -- What the commands of a batch reply, whatever the files hold: damage that is there is no reply.
-use Rattle.std.specs.Prelude.{◌≡◌, ◌⊎◌, ℕ, List, [], ◌∷◌, Option, Some, None, Ok, Err}
+use Rattle.std.specs.Prelude.{◌≡◌, ◌⊎◌, ◌<◌, ℕ, List, [], ◌∷◌, Option, Some, None, Ok, Err}
 use Rattle.site_core.specs.Disk.{Files}
 use Rattle.attr_dict.specs.Admitting.{names_with}
 use Rattle.cube_schema.specs.declared.schema.Schema.{Schema}
@@ -10,7 +10,8 @@ use Rattle.forest_refresh.specs.Begun.{Begun}
 use Rattle.forest_refresh.specs.Trees.{AreAllWhole, deltas_by}
 use Rattle.forest_refresh.specs.declared.stop.BeginStop.{BeginStop}
 use Rattle.forest_refresh.specs.declared.stop.BeginStop.TheVariants as begins
-use Rattle.reply_text.specs.Replies.{line, committed_text, full_text, mass_text, no_schema, is_pending, none_pending, too_many_facts, begun_text}
+use Rattle.page_fmt.specs.Formats.{wide_format}
+use Rattle.reply_text.specs.Replies.{line, committed_text, full_text, mass_text, no_schema, is_pending, none_pending, too_many_facts, begun_text, upgraded_text}
 use Rattle.script_lang.specs.declared.command.Block.{Block}
 use Rattle.plain_machine.specs.declared.batch_source.BatchSource.{BatchSource}
 use Rattle.plain_machine.specs.declared.batch_source.BatchSource.TheVariants.{Rows}
@@ -83,10 +84,14 @@ pending_line (Idle store) text = line none_pending
 pending_line (Hollow store) text = line text
 pending_line (Pending refresh) text = line text
 
--- the batch of a refresh is acknowledged, and all trees in these files are whole for its points
-pub record IsFinished (refresh : Begun) (files : Files) (reply : List ℕ) : Type 0 where
+-- a refresh is acknowledged so, by the number of facts, and all trees in these files are whole for its points
+pub record IsEnded (text : ℕ → List ℕ) (refresh : Begun) (files : Files) (reply : List ℕ) : Type 0 where
   pub whole : AreAllWhole refresh.store.forest files refresh.deltas
-  pub said : reply ≡ committed_text refresh.next.facts
+  pub said : reply ≡ text refresh.next.facts
+
+-- its batch is acknowledged
+abbrev pub IsFinished : Begun → Files → List ℕ → Type 0
+IsFinished refresh files reply = IsEnded committed_text refresh files reply
 
 -- the reply at the end of a pending batch
 abbrev pub FinishGives : State → Files → List ℕ → Type 0
@@ -94,3 +99,16 @@ FinishGives Empty files reply = IsLine none_pending reply
 FinishGives (Idle store) files reply = IsLine none_pending reply
 FinishGives (Hollow store) files reply = reply ≡ committed_text store.forest.body.facts
 FinishGives (Pending refresh) files reply = IsFinished refresh files reply
+
+-- ---- upgrade
+
+-- where pages of an earlier format were made anew all trees in these files are whole
+pub record IsUpgraded (store : Store) (files : Files) (reply : List ℕ) : Type 0 where
+  pub whole : store.forest.body.format < wide_format → AreAllWhole store.forest files (deltas_by (names_with store.dicts []) store.forest.schema [])
+  pub said : IsLine upgraded_text reply
+
+abbrev pub UpgradeGives : State → Files → List ℕ → Type 0
+UpgradeGives Empty files reply = IsLine no_schema reply
+UpgradeGives (Idle store) files reply = IsUpgraded store files reply
+UpgradeGives (Hollow store) files reply = IsLine is_pending reply
+UpgradeGives (Pending refresh) files reply = IsLine is_pending reply

@@ -1,5 +1,5 @@
 -- That a function carries out a command of the plain machine, said once.
-use Rattle.std.specs.Prelude.{◌≡◌, ℕ, IsTrue, false, List, Option, Some, None, Result, IfOk, IfErr, OnOk}
+use Rattle.std.specs.Prelude.{◌≡◌, ℕ, Bool, IsTrue, true, false, cond, List, Option, Some, None, Result, IfOk, IfErr, OnOk}
 use Rattle.std.specs.declared.alloc.Global.{Global}
 use Rattle.std.specs.declared.vec.Vec.{Vec}
 use Rattle.site_core.specs.Calls.{Rests}
@@ -29,6 +29,74 @@ pub record IsReadyFor {S : Type 0} (T : Ghosts S) (site : S) (cache : Cache) (st
   pub runs : RunsOn T site state
   pub fits : IsTrue T.tells → Fits state (T.disk site).files cache
 
+-- ---- what a command may do
+
+pub record Effect : Type 0 where
+  -- it may write to files
+  pub writes : Bool
+  -- it makes moves that the pending batch tells
+  pub moves : Bool
+  -- behind it no batch is pending
+  pub ends : Bool
+  -- what is live may be another then
+  pub renews : Bool
+  -- it may tell damage
+  pub tells : Bool
+  -- what it replies is by what the files hold, or by a world alone
+  pub looks : Bool
+
+-- it only answers, by what the session has
+abbrev pub answers : Effect
+answers = record { writes = false; moves = false; ends = false; renews = false; tells = false; looks = false }
+
+-- it may write all points anew
+abbrev pub rewrites : Effect
+rewrites = record { writes = true; moves = false; ends = false; renews = true; tells = true; looks = true }
+
+abbrev pub effect_of : Command → Effect
+effect_of (says.Schema block) = record rewrites { tells = false }
+effect_of (says.Load block) = rewrites
+effect_of (says.LoadNumbered number block) = rewrites
+effect_of (says.Generate start rows) = rewrites
+effect_of (says.Begin block) = record answers { writes = true }
+effect_of (says.Step n) = record answers { writes = true; moves = true; tells = true }
+effect_of says.Finish = record rewrites { ends = true }
+effect_of says.Abandon = record answers { ends = true }
+effect_of says.Upgrade = rewrites
+effect_of (says.Slice text) = record answers { tells = true; looks = true }
+effect_of says.Status = answers
+effect_of says.LongLine = answers
+effect_of says.OpenBlock = answers
+effect_of says.Unknown = answers
+
+abbrev pub Does : Bool → Type 0
+Does true = Unit {0}
+Does false = ⊥
+
+abbrev pub DoesNot : Bool → Type 0
+DoesNot true = ⊥
+DoesNot false = Unit {0}
+
+abbrev pub MayWrite : Command → Type 0
+MayWrite command = Does (effect_of command).writes
+
+abbrev pub IsStep : Command → Type 0
+IsStep command = Does (effect_of command).moves
+
+-- how many moves are made behind any other, where so many were before
+abbrev pub made_alone : Command → ℕ → ℕ
+made_alone command made = cond (effect_of command).ends 0 made
+
+abbrev pub LeavesLive : Command → Type 0
+LeavesLive command = DoesNot (effect_of command).renews
+
+abbrev pub TellsNone : Command → Type 0
+TellsNone command = DoesNot (effect_of command).tells
+
+-- its reply is one that the session gives, over whatever files
+abbrev pub RepliesAlone : Command → Type 0
+RepliesAlone command = DoesNot (effect_of command).looks
+
 -- ---- a reply, or a stop
 
 abbrev pub Reply : Type 0
@@ -39,11 +107,11 @@ pub record ByWorld {S : Type 0} (T : Ghosts S) (command : Command) (world : Worl
   -- it stands for what is known then, and the reply is the plain machine's
   pub answer : IfOk result (λ reply. IsAnswer (T.disk new) (act world command) next reply.items)
   -- a stop at any moment, and an error, leaves what was known before or is known then; nothing is told
-  pub any_moment : Between (T.disk old) (T.disk new) world (act world command).0
+  pub any_moment : Between (format_of state) (T.disk old) (T.disk new) world (act world command).0
   pub undamaged : IfErr result IsNoDamage
   pub moved : OnOk result (reached_by next ≡ reached_behind world (reached_by state) command)
   pub cost : (cost : Cost) → Costs world (reached_by state) command cost → Spends T cost old new
-  pub uncalled : MakesNoCall world command → OnOk result (new ≡ old)
+  pub uncalled : MakesNoCall world (reached_by state) command → OnOk result (new ≡ old)
   -- a slice reads of its pages those alone that are not kept, where there is room, and keeps them
   pub saves : (numbers : List ℕ) → GoesTo (format_of state) world command numbers → Saves before (live_file (live_of state)) numbers (T.reads old) (T.reads new)
   pub keeps : (numbers : List ℕ) → GoesTo (format_of state) world command numbers → OnOk result (KeepsUp before after (live_file (live_of state)) numbers)
@@ -59,22 +127,6 @@ Spares live old new (stops.Damaged file offset) = SparesOf live old new
 Spares live old new stops.Disk = Unit {0}
 Spares live old new stops.Output = Unit {0}
 Spares live old new stops.Memory = Unit {0}
-
--- a command that may write to files
-abbrev pub MayWrite : Command → Type 0
-MayWrite (says.Schema block) = Unit {0}
-MayWrite (says.Load block) = Unit {0}
-MayWrite (says.LoadNumbered number block) = Unit {0}
-MayWrite (says.Generate start rows) = Unit {0}
-MayWrite (says.Begin block) = Unit {0}
-MayWrite (says.Step n) = Unit {0}
-MayWrite says.Finish = Unit {0}
-MayWrite says.Abandon = ⊥
-MayWrite (says.Slice text) = ⊥
-MayWrite says.Status = ⊥
-MayWrite says.LongLine = ⊥
-MayWrite says.OpenBlock = ⊥
-MayWrite says.Unknown = ⊥
 
 -- the files hold what they may
 pub record OverAnyFiles {S : Type 0} (T : Ghosts S) (command : Command) (state next : State) (old new : S) (after : Cache) (result : Reply) : Type 0 where
@@ -96,86 +148,6 @@ pub record GoesOn {S : Type 0} (T : Ghosts S) (command : Command) (state next : 
   pub quiet : IsQuiet T old new result
 
 -- ---- what a command leaves alone
-
--- it makes moves that the pending batch tells
-abbrev pub IsStep : Command → Type 0
-IsStep (says.Schema block) = ⊥
-IsStep (says.Load block) = ⊥
-IsStep (says.LoadNumbered number block) = ⊥
-IsStep (says.Generate start rows) = ⊥
-IsStep (says.Begin block) = ⊥
-IsStep (says.Step n) = Unit {0}
-IsStep says.Finish = ⊥
-IsStep says.Abandon = ⊥
-IsStep (says.Slice text) = ⊥
-IsStep says.Status = ⊥
-IsStep says.LongLine = ⊥
-IsStep says.OpenBlock = ⊥
-IsStep says.Unknown = ⊥
-
--- how many moves are made behind any other, where so many were before
-abbrev pub made_alone : Command → ℕ → ℕ
-made_alone (says.Schema block) made = made
-made_alone (says.Load block) made = made
-made_alone (says.LoadNumbered number block) made = made
-made_alone (says.Generate start rows) made = made
-made_alone (says.Begin block) made = made
-made_alone (says.Step n) made = made
-made_alone says.Finish made = 0
-made_alone says.Abandon made = 0
-made_alone (says.Slice text) made = made
-made_alone says.Status made = made
-made_alone says.LongLine made = made
-made_alone says.OpenBlock made = made
-made_alone says.Unknown made = made
-
--- what is live stays so
-abbrev pub LeavesLive : Command → Type 0
-LeavesLive (says.Schema block) = ⊥
-LeavesLive (says.Load block) = ⊥
-LeavesLive (says.LoadNumbered number block) = ⊥
-LeavesLive (says.Generate start rows) = ⊥
-LeavesLive (says.Begin block) = Unit {0}
-LeavesLive (says.Step n) = Unit {0}
-LeavesLive says.Finish = ⊥
-LeavesLive says.Abandon = Unit {0}
-LeavesLive (says.Slice text) = Unit {0}
-LeavesLive says.Status = Unit {0}
-LeavesLive says.LongLine = Unit {0}
-LeavesLive says.OpenBlock = Unit {0}
-LeavesLive says.Unknown = Unit {0}
-
--- it tells no damage
-abbrev pub TellsNone : Command → Type 0
-TellsNone (says.Schema block) = Unit {0}
-TellsNone (says.Load block) = ⊥
-TellsNone (says.LoadNumbered number block) = ⊥
-TellsNone (says.Generate start rows) = ⊥
-TellsNone (says.Begin block) = Unit {0}
-TellsNone (says.Step n) = ⊥
-TellsNone says.Finish = ⊥
-TellsNone says.Abandon = Unit {0}
-TellsNone (says.Slice text) = ⊥
-TellsNone says.Status = Unit {0}
-TellsNone says.LongLine = Unit {0}
-TellsNone says.OpenBlock = Unit {0}
-TellsNone says.Unknown = Unit {0}
-
--- its reply is one that the session gives, over whatever files
-abbrev pub RepliesAlone : Command → Type 0
-RepliesAlone (says.Schema block) = ⊥
-RepliesAlone (says.Load block) = ⊥
-RepliesAlone (says.LoadNumbered number block) = ⊥
-RepliesAlone (says.Generate start rows) = ⊥
-RepliesAlone (says.Begin block) = Unit {0}
-RepliesAlone (says.Step n) = Unit {0}
-RepliesAlone says.Finish = ⊥
-RepliesAlone says.Abandon = Unit {0}
-RepliesAlone (says.Slice text) = ⊥
-RepliesAlone says.Status = Unit {0}
-RepliesAlone says.LongLine = Unit {0}
-RepliesAlone says.OpenBlock = Unit {0}
-RepliesAlone says.Unknown = Unit {0}
 
 -- what holds of it although the site may tell nothing, and what stays in any files
 pub record LeavesAlone {S : Type 0} (T : Ghosts S) (command : Command) (state next : State) (old new : S) (before after : Cache) (result : Reply) : Type 0 where

@@ -1,5 +1,5 @@
 -- Each command: what it costs, what it replies and where the damage lies that it tells.
-use Rattle.std.specs.Prelude.{◌≡◌, ℕ, List, [], ◌∷◌, None, Option, Some}
+use Rattle.std.specs.Prelude.{◌≡◌, ℕ, false, List, [], ◌∷◌, None, Option, Some}
 use Rattle.reply_text.specs.Replies.{is_declared, long_line, open_block, is_unknown, stepped_text, abandoned_text}
 use Rattle.site_core.specs.Disk.{Files}
 use Rattle.fact_model.specs.declared.fact.Fact.{Fact}
@@ -13,9 +13,9 @@ use Rattle.plain_machine.specs.World.{World, bare}
 use Rattle.cube_state.specs.declared.state.State.{State}
 use Rattle.cube_state.specs.declared.state.State.TheVariants.{Empty, Idle, Hollow, Pending}
 use Rattle.cube_state.specs.declared.stop.Stop.{Stop}
-use Rattle.cube_state.specs.BatchCosts.{begin_cost, begins, finish_cost, load_cost, schema_cost, step_cost}
-use Rattle.cube_state.specs.BatchDamage.{FinishTells, LoadTells}
-use Rattle.cube_state.specs.Batches.{BeginGives, FinishGives, LoadGives, pending_line}
+use Rattle.cube_state.specs.BatchCosts.{begin_cost, begins, finish_cost, load_cost, remakes, schema_cost, step_cost, upgrade_cost}
+use Rattle.cube_state.specs.BatchDamage.{FinishTells, LoadTells, UpgradeTells}
+use Rattle.cube_state.specs.Batches.{BeginGives, FinishGives, LoadGives, UpgradeGives, pending_line}
 use Rattle.cube_state.specs.Costs.{Cost, both, free}
 use Rattle.cube_state.specs.Moves.{Reached, reached_behind}
 use Rattle.cube_state.specs.Session.{IsLine, state_text}
@@ -42,6 +42,7 @@ Costs world reached (says.Begin block) cost = cost ≡ begin_cost world block
 Costs world reached (says.Step n) cost = cost ≡ step_cost world reached n
 Costs world reached says.Finish cost = cost ≡ finish_cost world reached
 Costs world reached says.Abandon cost = cost ≡ free
+Costs world reached says.Upgrade cost = cost ≡ upgrade_cost reached.format world
 Costs world reached says.Status cost = cost ≡ free
 Costs world reached says.LongLine cost = cost ≡ free
 Costs world reached says.OpenBlock cost = cost ≡ free
@@ -59,22 +60,23 @@ HasNoFact None = Unit {0}
 HasNoFact (Some []) = Unit {0}
 HasNoFact (Some (x ∷ xs)) = ⊥
 
--- What makes no call at all: a batch that is refused, empty or accepted before, a step or a finish where no row is pending, and what only
--- answers. A slice makes none where it is refused.
-abbrev pub MakesNoCall : World → Command → Type 0
-MakesNoCall world (says.Slice text) = asked_slice world (says.Slice text) ≡ None
-MakesNoCall world (says.Schema block) = (act world (says.Schema block)).0.kept ≡ world.kept
-MakesNoCall world (says.Load block) = (act world (says.Load block)).0.kept ≡ world.kept
-MakesNoCall world (says.LoadNumbered number block) = (act world (says.LoadNumbered number block)).0.kept ≡ world.kept
-MakesNoCall world (says.Generate start rows) = (act world (says.Generate start rows)).0.kept ≡ world.kept
-MakesNoCall world (says.Begin block) = begins world block ≡ 0
-MakesNoCall world (says.Step n) = HasNoFact world.pending
-MakesNoCall world says.Finish = HasNoFact world.pending
-MakesNoCall world says.Abandon = Unit {0}
-MakesNoCall world says.Status = Unit {0}
-MakesNoCall world says.LongLine = Unit {0}
-MakesNoCall world says.OpenBlock = Unit {0}
-MakesNoCall world says.Unknown = Unit {0}
+-- What makes no call at all: a batch that is refused, empty or accepted before, a step or a finish where no row is pending, an upgrade that is
+-- refused or of pages that have the greatest format, and what only answers. A slice makes none where it is refused.
+abbrev pub MakesNoCall : World → Reached → Command → Type 0
+MakesNoCall world reached (says.Slice text) = asked_slice world (says.Slice text) ≡ None
+MakesNoCall world reached (says.Schema block) = (act world (says.Schema block)).0.kept ≡ world.kept
+MakesNoCall world reached (says.Load block) = (act world (says.Load block)).0.kept ≡ world.kept
+MakesNoCall world reached (says.LoadNumbered number block) = (act world (says.LoadNumbered number block)).0.kept ≡ world.kept
+MakesNoCall world reached (says.Generate start rows) = (act world (says.Generate start rows)).0.kept ≡ world.kept
+MakesNoCall world reached (says.Begin block) = begins world block ≡ 0
+MakesNoCall world reached (says.Step n) = HasNoFact world.pending
+MakesNoCall world reached says.Finish = HasNoFact world.pending
+MakesNoCall world reached says.Upgrade = remakes world reached.format ≡ false
+MakesNoCall world reached says.Abandon = Unit {0}
+MakesNoCall world reached says.Status = Unit {0}
+MakesNoCall world reached says.LongLine = Unit {0}
+MakesNoCall world reached says.OpenBlock = Unit {0}
+MakesNoCall world reached says.Unknown = Unit {0}
 
 -- ---- replies, whatever the files hold
 
@@ -93,6 +95,7 @@ Gives state files (says.LoadNumbered number block) reply = LoadGives state files
 Gives state files (says.Generate start rows) reply = LoadGives state files (Generator start rows) reply
 Gives state files (says.Slice text) reply = SliceGives (store_of state) files text reply
 Gives state files says.Status reply = reply ≡ state_text state
+Gives state files says.Upgrade reply = UpgradeGives state files reply
 Gives state files (says.Begin block) reply = BeginGives state block reply
 Gives state files (says.Step n) reply = reply ≡ pending_line state stepped_text
 Gives state files says.Finish reply = FinishGives state files reply
@@ -103,7 +106,7 @@ Gives state files says.Unknown reply = IsLine is_unknown reply
 
 -- ---- damage
 
--- damage that a command tells is there; no command but these six tells any
+-- damage that a command tells is there; no command but these seven tells any
 abbrev pub TellsDamage : State → Files → Command → Stop → Type 0
 TellsDamage state files (says.Slice text) stop = SliceTells (store_of state) files (says.Slice text) stop
 TellsDamage state files (says.Load block) stop = LoadTells state files (Rows block) stop
@@ -111,6 +114,7 @@ TellsDamage state files (says.LoadNumbered number block) stop = LoadTells state 
 TellsDamage state files (says.Generate start rows) stop = LoadTells state files (Generator start rows) stop
 TellsDamage state files (says.Step n) stop = FinishTells state files stop
 TellsDamage state files says.Finish stop = FinishTells state files stop
+TellsDamage state files says.Upgrade stop = UpgradeTells state files stop
 TellsDamage state files (says.Schema block) stop = IsNoDamage stop
 TellsDamage state files says.Status stop = IsNoDamage stop
 TellsDamage state files says.LongLine stop = IsNoDamage stop

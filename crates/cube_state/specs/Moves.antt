@@ -1,16 +1,20 @@
 -- The moves of a batch that is pending, and the pages that they write.
-use Rattle.std.specs.Prelude.{◌≡◌, ◌+◌, ◌*◌, ℕ, List, [], ◌∷◌, length, min, take, Option, Some, None}
+use Rattle.std.specs.Prelude.{◌≡◌, ◌+◌, ◌-◌, ◌*◌, ◌++◌, ℕ, cond, List, [], ◌∷◌, length, min, nat_le, take, Option, Some, None}
 use Rattle.site_core.specs.Disk.{Files}
 use Rattle.fact_model.specs.declared.fact.Fact.{Fact}
 use Rattle.packing.specs.Moves.{Move, written}
+use Rattle.page_fmt.specs.Formats.{wide_format}
 use Rattle.forest_moves.specs.Forest.{bytes_after, forest_moves}
 use Rattle.forest_root.specs.Live.{IsLiveBody}
 use Rattle.forest_root.specs.declared.body.Body.{Body}
 use Rattle.forest_refresh.specs.Begun.{next_side}
+use Rattle.forest_store.specs.Held.{format_for}
 use Rattle.script_lang.specs.declared.command.Command.{Command}
 use Rattle.script_lang.specs.declared.command.Command.TheVariants as says
+use Rattle.plain_machine.specs.Histories.{Batch, batch_by}
 use Rattle.plain_machine.specs.Machine.{act}
-use Rattle.plain_machine.specs.Keeps.{HasFormat}
+use Rattle.plain_machine.specs.Keeps.{HasFormat, IsFrom}
+use Rattle.plain_machine.specs.Stages.{makes_stage}
 use Rattle.plain_machine.specs.World.{Kept, Warehouse, World}
 use Rattle.cube_state.specs.Cached.{live_of}
 use Rattle.cube_state.specs.declared.state.State.{State}
@@ -25,27 +29,70 @@ pub record Reached : Type 0 where
 abbrev pub unmoved : ℕ → Reached
 unmoved format = record { format = format; made = 0 }
 
+-- the moves of a batch into pages of the format that its numbers need
+abbrev pub batch_moves : ℕ → Warehouse → List Fact → List Move
+batch_moves format warehouse batch = forest_moves format (format_for format batch) warehouse.schema warehouse.facts batch
+
 -- all that the batch takes where the live pages have this format; an empty one takes none
 abbrev pub moves_over : ℕ → Kept → Option (List Fact) → List Move
 moves_over format None pending = []
 moves_over format (Some warehouse) None = []
 moves_over format (Some warehouse) (Some []) = []
-moves_over format (Some warehouse) (Some (x ∷ xs)) = forest_moves format format warehouse.schema warehouse.facts (x ∷ xs)
+moves_over format (Some warehouse) (Some (x ∷ xs)) = batch_moves format warehouse (x ∷ xs)
 
 abbrev pub pending_moves : ℕ → World → List Move
 pending_moves format world = moves_over format world.kept world.pending
 
--- what is reached behind a command: a step makes so many moves more, or all that are left, and no command changes the format
+-- the format of the live pages behind a batch, if one is committed
+abbrev pub format_with : ℕ → Option Batch → ℕ
+format_with format None = format
+format_with format (Some batch) = format_for format batch.facts
+
+-- behind a command that may commit one
+abbrev pub format_behind : World → ℕ → Command → ℕ
+format_behind world format command = cond (makes_stage world command) (format_with format (batch_by world command)) format
+
+-- behind an upgrade, which is refused without a schema and while a batch is pending
+abbrev pub format_upgraded : Kept → Option (List Fact) → ℕ → ℕ
+format_upgraded None pending format = format
+format_upgraded (Some warehouse) (Some batch) format = format
+format_upgraded (Some warehouse) None format = wide_format
+
+-- What is reached behind a command: a step makes so many moves more, or all that are left; a commit and an upgrade may change the format. Files
+-- without a schema count as format 1, in which a schema begins.
 abbrev pub reached_behind : World → Reached → Command → Reached
+reached_behind world reached (says.Schema block) = reached
+reached_behind world reached (says.Load block) = record reached { format = format_behind world reached.format (says.Load block) }
+reached_behind world reached (says.LoadNumbered number block) = record reached { format = format_behind world reached.format (says.LoadNumbered number block) }
+reached_behind world reached (says.Generate start rows) = record reached { format = format_behind world reached.format (says.Generate start rows) }
+reached_behind world reached (says.Begin block) = reached
 reached_behind world reached (says.Step n) = record reached { made = min (reached.made + n) (length (pending_moves reached.format world)) }
-reached_behind world reached says.Finish = unmoved reached.format
+reached_behind world reached says.Finish = unmoved (format_behind world reached.format says.Finish)
 reached_behind world reached says.Abandon = unmoved reached.format
-reached_behind world reached _ = reached
+reached_behind world reached says.Upgrade = record reached { format = format_upgraded world.kept world.pending reached.format }
+reached_behind world reached (says.Slice text) = reached
+reached_behind world reached says.Status = reached
+reached_behind world reached says.LongLine = reached
+reached_behind world reached says.OpenBlock = reached
+reached_behind world reached says.Unknown = reached
 
 -- and behind commands
 abbrev pub reached_from : World → Reached → List Command → Reached
 reached_from world reached [] = reached
 reached_from world reached (command ∷ rest) = reached_from (act world command).0 (reached_behind world reached command) rest
+
+-- the format that is reached behind those commands whose whole reply stands among the first so many bytes
+abbrev pub format_told : World → Reached → List Command → ℕ → ℕ
+format_told world reached [] told = reached.format
+format_told world reached (command ∷ rest) told =
+    cond (nat_le (length (act world command).1) told) (format_told (act world command).0 (reached_behind world reached command) rest (told - length (act world command).1)) reached.format
+
+-- A stop leaves, with these bytes told before the commands, a front of their replies and no earlier format than these tell: so behind `upgraded`
+-- it leaves the greatest.
+pub record KeepsFormat (world : World) (reached : Reached) (commands : List Command) (before told : List ℕ) (files : Files) : Type 0 where
+  pub front : List ℕ
+  pub tells : told ≡ before ++ front
+  pub from : IsFrom (format_told world reached commands (length front)) files
 
 -- the format of the live pages; files without a schema count as format 1
 abbrev pub format_in : Option Body → ℕ
@@ -75,7 +122,8 @@ pub record FromFormat (files : Files) (kept : Kept) (P : Reached → Type 0) : T
 pub record HasPages (files : Files) (warehouse : Warehouse) (batch : List Fact) (made : ℕ) : Type 0 where
   pub live : Body
   pub is_live : IsLiveBody live (files 0)
-  pub pages : take (4096 * written made (forest_moves live.format live.format warehouse.schema warehouse.facts batch)) (files (next_side live)) ≡ bytes_after live.format live.format warehouse.schema warehouse.facts batch made
+  pub pages : take (4096 * written made (batch_moves live.format warehouse batch)) (files (next_side live))
+      ≡ bytes_after live.format (format_for live.format batch) warehouse.schema warehouse.facts batch made
 
 abbrev pub HasPagesOver : Files → Kept → Option (List Fact) → ℕ → Type 0
 HasPagesOver files None pending made = Unit {0}

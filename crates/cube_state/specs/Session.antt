@@ -5,10 +5,11 @@ use Rattle.site_core.specs.Moments.{HoldsNow, LeavesOnly}
 use Rattle.fact_model.specs.declared.fact.Fact.{Fact}
 use Rattle.forest_root.specs.declared.forest.Store.{Store}
 use Rattle.forest_refresh.specs.Begun.{Begun, IsGoing, IsReady, IsRefreshOf, StandsAt, batch_size}
+use Rattle.forest_store.specs.Held.{format_for}
 use Rattle.forest_store.specs.Opened.{IsEmpty, IsOpened}
 use Rattle.forest_store.specs.Stored.{IsStoreOf, IsWhole}
 use Rattle.reply_text.specs.Replies.{line, facts_text, pending_text, unopened}
-use Rattle.plain_machine.specs.Keeps.{IsLawful, Keeps}
+use Rattle.plain_machine.specs.Keeps.{IsFrom, IsLawful, Keeps}
 use Rattle.plain_machine.specs.Machine.{Answer}
 use Rattle.plain_machine.specs.World.{Knows, Warehouse, World}
 use Rattle.cube_state.specs.declared.state.State.{State}
@@ -29,21 +30,19 @@ pub record AttendsAs (number : ℕ) (r : Begun) (disk : Disk) (warehouse : Wareh
   pub schema : r.store.forest.schema ≡ warehouse.schema
   pub last : r.store.forest.body.last ≡ warehouse.last
   pub next : r.next.last ≡ number
-  -- the batch goes into pages of the live format
-  pub format : r.next.format ≡ r.store.forest.body.format
-  -- it is the same, or the next one
-  pub due : number ≤ warehouse.last + 1
+  -- no more numbered batches than facts
+  pub counted : number ≤ length warehouse.facts + length batch
   -- as a read gives them, and as a stop now may leave them
   pub adds : HoldsNow (IsRefreshOf r warehouse.facts batch) disk
-  -- an empty batch needs no refresh
-  pub some : 0 < length batch
   pub ready : IsReady r disk
   -- the pages of the moves made stand on the new side
   pub moved : StandsAt r warehouse.facts batch disk.files
 
--- a batch without a number
-abbrev pub Attends : Begun → Disk → Warehouse → List Fact → Type 0
-Attends r disk warehouse batch = AttendsAs warehouse.last r disk warehouse batch
+-- a batch without a number, in pages of the format that its numbers need; an empty one needs no refresh
+pub record Attends (r : Begun) (disk : Disk) (warehouse : Warehouse) (batch : List Fact) : Type 0 where
+  pub attends : AttendsAs warehouse.last r disk warehouse batch
+  pub some : 0 < length batch
+  pub format : r.next.format ≡ format_for r.store.forest.body.format batch
 
 -- where no refresh has begun, slices know all names; where one has, its moves go on
 abbrev pub IsRunning : State → Type 0
@@ -78,9 +77,10 @@ state_text (Pending refresh) = pending_text refresh.store.forest.body.facts (bat
 abbrev pub KeepsEither : World → World → Files → Type 0
 KeepsEither world next files = Keeps files world.kept ⊎ Keeps files next.kept
 
--- nothing is told from old to new, and a stop at any moment there leaves files that keep what this world has accepted, or that one
-abbrev pub Between : Disk → Disk → World → World → Type 0
-Between old new world next = LeavesOnly old new (λ told files. (told ≡ old.told) × KeepsEither world next files)
+-- nothing is told from old to new, and a stop at any moment there leaves files that keep what this world has accepted, or that one, in no earlier
+-- format than this
+abbrev pub Between : ℕ → Disk → Disk → World → World → Type 0
+Between format old new world next = LeavesOnly old new (λ told files. (told ≡ old.told) × KeepsEither world next files × IsFrom format files)
 
 -- the session stands for what is known behind a command, and the reply is the plain machine's
 pub record IsAnswer (disk : Disk) (answer : Answer) (state : State) (reply : List ℕ) : Type 0 where

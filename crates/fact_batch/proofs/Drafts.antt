@@ -1,8 +1,8 @@
 -- Facts whose values and numbers lie one behind the other, and the next that is being made.
-use Rattle.std.proofs.Common.{◌≡◌, ◌≤◌, ◌<◌, ◌+◌, ◌*◌, ℕ, ℤ, List, [], ◌∷◌, ◌++◌, length, drop, get_or, map, sym, ap, ◌∙◌, arith}
-use Rattle.std.specs.List.{range_with_len}
+use Rattle.std.proofs.Common.{◌≡◌, ◌≤◌, ◌<◌, ◌+◌, ◌*◌, ◌&&◌, ℕ, ℤ, Bool, List, [], ◌∷◌, ◌++◌, length, drop, get_or, map, refl, sym, ap, ◌∙◌, arith}
+use Rattle.std.specs.List.{list_all, range_with_len}
 use Rattle.std.proofs.lemmas.List.{take_all, length-drop}
-use Rattle.std.proofs.lemmas.List.Folds.{flat_map-map}
+use Rattle.std.proofs.lemmas.List.Folds.{flat_map-map, list_all-append}
 use Rattle.std.proofs.lemmas.List.FromFn.{get_or-map-range_with_len, map-range_with_len_more}
 use Rattle.fact_model.specs.declared.fact.Fact.{Fact}
 use Rattle.fact_model.specs.declared.fact.Value.{Value}
@@ -29,6 +29,11 @@ values-flat w m n vs ns long =
     sym (flat_map-map (λ (x : Fact). x.values) (fact_at w m vs ns) (range_with_len 0 n)
     ∙ (sym (flat_map-map (λ (row : List Value). row) (row_at w vs) (range_with_len 0 n))
     ∙ (flat-rows w n vs ∙ take_all (w * n) vs (omega (arith, long)))))
+
+-- a test of them is a test of the values of each fact
+pub values-tested : (p : Value → Bool) (facts : List Fact) → list_all p (values_in facts) ≡ list_all (λ (x : Fact). list_all p x.values) facts
+values-tested p [] = refl
+values-tested p (x ∷ facts) = list_all-append p x.values (values_in facts) ∙ ap (λ rest. list_all p x.values && rest) (values-tested p facts)
 
 -- values and numbers behind those of the facts leave the facts as they are
 pub facts-front : (w m n : ℕ) (vs more : List Value) (ns rest : List ℤ) → w * n ≤ length vs → m * n ≤ length ns

@@ -1,11 +1,13 @@
 -- Values whose texts lie one behind the other.
-use Rattle.std.proofs.Common.{◌≡◌, ◌≤◌, ◌+◌, ℕ, suc, List, [], ◌∷◌, ◌++◌, length, take, drop, refl, ap, ◌∙◌, arith}
+use Rattle.std.proofs.Common.{◌≡◌, ◌≤◌, ◌+◌, ◌&&◌, ℕ, suc, List, [], ◌∷◌, ◌++◌, length, take, drop, refl, ap, ◌∙◌, arith}
+use Rattle.std.specs.Prelude.{nat_le}
+use Rattle.std.specs.List.{list_all}
 use Rattle.std.proofs.lemmas.List.{drop-append-le, take-append-le, length-drop}
 use Rattle.fact_model.specs.declared.fact.Value.{Value}
 use Rattle.fact_model.specs.declared.fact.Value.TheVariants.{Word, Number}
 use Rattle.fact_batch.specs.declared.values.Slot.{Slot}
 use Rattle.fact_batch.specs.declared.values.Slot.TheVariants as slot
-use Rattle.fact_batch.specs.Values.{texts_len, values_of}
+use Rattle.fact_batch.specs.Values.{is_slot_within, is_within, texts_len, values_of}
 
 -- there is a value for each slot
 pub values-len : (slots : List Slot) (texts : List ℕ) → length (values_of slots texts) ≡ length slots
@@ -30,3 +32,9 @@ values-push (slot.Word len ∷ slots) texts s more same =
     ∙ ap (λ (vs : List Value). Word (take len texts) ∷ vs)
     (ap (values_of (slots ++ s ∷ [])) (drop-append-le len texts more within) ∙ values-push slots (drop len texts) s more rest)
 values-push (slot.Number n ∷ slots) texts s more same = ap (λ (vs : List Value). Number n ∷ vs) (values-push slots texts s more same)
+
+-- all slots are within the limit where all their values are
+pub slots-within : (limit : ℕ) (slots : List Slot) (texts : List ℕ) → list_all (is_slot_within limit) slots ≡ list_all (is_within limit) (values_of slots texts)
+slots-within limit [] texts = refl
+slots-within limit (slot.Word len ∷ slots) texts = slots-within limit slots (drop len texts)
+slots-within limit (slot.Number n ∷ slots) texts = ap (λ rest. nat_le n limit && rest) (slots-within limit slots texts)

@@ -1,11 +1,11 @@
 -- The facts of a batch whose values and numbers lie one behind the other.
-use Rattle.std.specs.Prelude.{◌≡◌, ◌≤◌, ◌*◌, ℕ, ℤ, List, [], length, map, flat_map, drop}
-use Rattle.std.specs.List.{range_with_len}
+use Rattle.std.specs.Prelude.{◌≡◌, ◌≤◌, ◌*◌, Bool, ℕ, ℤ, List, [], length, map, flat_map, drop}
+use Rattle.std.specs.List.{list_all, range_with_len}
 use Rattle.fact_model.specs.declared.fact.Fact.{Fact}
 use Rattle.fact_model.specs.declared.fact.Value.{Value}
 use Rattle.fact_batch.specs.declared.values.Slot.{Slot}
 use Rattle.fact_batch.specs.Rows.{row_at}
-use Rattle.fact_batch.specs.Values.{texts_len, values_of}
+use Rattle.fact_batch.specs.Values.{is_within, texts_len, values_of}
 
 -- the fact at a place among values and numbers
 abbrev pub fact_at : ℕ → ℕ → List Value → List ℤ → ℕ → Fact
@@ -28,6 +28,10 @@ values_in facts = flat_map (λ (x : Fact). x.values) facts
 -- the numbers of each fact
 abbrev pub measures_in : List Fact → List (List ℤ)
 measures_in facts = map (λ (x : Fact). x.measures) facts
+
+-- all numbers among the values of the facts are within the limit
+abbrev pub are_within : ℕ → List Fact → Bool
+are_within limit facts = list_all (λ (x : Fact). list_all (is_within limit) x.values) facts
 
 -- facts of so many values and numbers each, and the values and numbers of the next
 pub record Draft : Type 0 where

@@ -1,5 +1,5 @@
 -- Values whose texts lie one behind the other.
-use Rattle.std.specs.Prelude.{ℕ, ◌+◌, List, [], ◌∷◌, take, drop}
+use Rattle.std.specs.Prelude.{ℕ, ◌+◌, Bool, true, List, [], ◌∷◌, nat_le, take, drop}
 use Rattle.fact_model.specs.declared.fact.Value.{Value}
 use Rattle.fact_model.specs.declared.fact.Value.TheVariants.{Word, Number}
 use Rattle.fact_batch.specs.declared.values.LentValue.{LentValue}
@@ -23,3 +23,13 @@ abbrev pub texts_len : List Slot → ℕ
 texts_len [] = 0
 texts_len (slot.Word len ∷ slots) = len + texts_len slots
 texts_len (slot.Number n ∷ slots) = texts_len slots
+
+-- the value is a text, or a number within the limit
+abbrev pub is_within : ℕ → Value → Bool
+is_within limit (Word t) = true
+is_within limit (Number n) = nat_le n limit
+
+-- the value of a slot is
+abbrev pub is_slot_within : ℕ → Slot → Bool
+is_slot_within limit (slot.Word len) = true
+is_slot_within limit (slot.Number n) = nat_le n limit

@@ -1,6 +1,8 @@
 //! The facts of a batch.
 ghost use Rattle.std.specs.Prelude.{◌≡◌, ◌<◌, ◌==◌, [], length, get_or};
-ghost use Rattle.fact_batch.specs.Batch.{measures_in, values_in};
+ghost use Rattle.std.specs.List.{list_all};
+ghost use Rattle.fact_batch.specs.Batch.{are_within, measures_in, values_in};
+ghost use Rattle.fact_batch.specs.Values.{is_slot_within};
 
 use crate::rows::{FlatRows, row_of};
 use crate::values::{Slot, Values};
@@ -52,6 +54,13 @@ impl Batch {
         Values::new(self.slots.as_slice(), self.texts.as_slice())
     }
 
+    /// Whether all numbers among the values are at most this one. It takes no memory.
+    pub fn all_within(&self, limit: u64) -> bool
+        ensures { result ≡ are_within limit self.now }
+    {
+        slots_within(&self.slots, limit)
+    }
+
     /// The numbers of the fact at this place, counted from 0, one for each measure.
     pub fn numbers(&self, at: usize) -> &[i128]
         requires { at < length self.now }
@@ -72,4 +81,11 @@ impl Batch {
         } = self;
         FlatRows::from_vec(measures, rows, numbers)
     }
+}
+
+/// Whether all numbers among the values of these slots are at most this one.
+fn slots_within(slots: &[Slot], limit: u64) -> bool
+    ensures { result ≡ list_all (is_slot_within limit) slots.now }
+{
+    slots.iter().all(|slot| slot.is_within(limit))
 }

@@ -1,6 +1,6 @@
 //! The values of facts, one behind the other.
 ghost use Rattle.std.specs.Prelude.{◌≡◌, ◌≤◌, [], ◌∷◌, length, IfSome, None};
-ghost use Rattle.fact_batch.specs.Values.{shown, texts_len, values_of};
+ghost use Rattle.fact_batch.specs.Values.{is_slot_within, shown, texts_len, values_of};
 
 use std::marker::Model;
 
@@ -11,6 +11,18 @@ pub enum Slot {
     Word(u8),
     /// A number.
     Number(u64),
+}
+
+impl Slot {
+    /// Whether it is a text, or a number that is at most this one.
+    pub(crate) fn is_within(&self, limit: u64) -> bool
+        ensures { result ≡ is_slot_within limit self.now }
+    {
+        match *self {
+            Slot::Word(_) => true,
+            Slot::Number(number) => number <= limit,
+        }
+    }
 }
 
 /// A value that is lent.

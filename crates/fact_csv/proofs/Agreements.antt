@@ -11,14 +11,12 @@ use Rattle.cube_schema.specs.declared.schema.Attr.{Attr}
 use Rattle.cube_schema.specs.declared.schema.Kind.{Kind}
 use Rattle.cube_schema.specs.declared.schema.Kind.TheVariants as kind
 use Rattle.cube_schema.specs.declared.schema.Schema.{Schema}
-use Rattle.cube_schema.specs.Agreeing.{IsOfKind, IsOfKindUpTo, Agrees}
-use Rattle.cube_schema.proofs.Limited.{kind_wider, kind_within}
+use Rattle.cube_schema.specs.Agreeing.{IsOfKind, Agrees}
 use Rattle.fact_model.specs.declared.fact.Fact.{Fact}
 use Rattle.fact_model.specs.declared.fact.Value.{Value}
 use Rattle.fact_model.specs.declared.fact.Value.TheVariants.{Word, Number}
-use Rattle.fact_model.specs.Limits.{HasNumbersWithin, IsWithin, number_limit, reader_limit}
+use Rattle.fact_model.specs.Limits.{number_limit}
 use Rattle.fact_model.specs.Number.{number_in}
-use Rattle.fact_model.proofs.Limits.{values_within}
 use Rattle.fact_csv.specs.declared.refusal.RowRefusal.{RowRefusal}
 use Rattle.fact_csv.specs.Gathered.{with_first, gathered}
 use Rattle.fact_csv.specs.Batch.{coordinate_in, value_in, measure_in, values_in, measures_in, fact_from, fact_in, facts_in}
@@ -42,24 +40,24 @@ split : {A E : Type 0} (answer : Result A E) (answers : List (Result A E)) (xs :
 split (Ok x) answers xs is = split_rest x (gathered answers) xs is
 split (Err e) answers xs is = cc is
 
-number_kind : (row field : ℕ) (n : ℕ) (v : Value) (low : Bool) → nat_le n reader_limit ≡ low → coordinate_in row field (Some (pos n)) ≡ Ok v → IsOfKindUpTo reader_limit kind.Number v
+number_kind : (row field : ℕ) (n : ℕ) (v : Value) (low : Bool) → nat_le n number_limit ≡ low → coordinate_in row field (Some (pos n)) ≡ Ok v → IsOfKind kind.Number v
 number_kind row field n v true low is =
     let same : Number n ≡ v = ok_inj _ _ (rw low at is) in
-    subst (IsOfKindUpTo reader_limit kind.Number) same (grind (arith, nat_tests))
+    subst (IsOfKind kind.Number) same (grind (arith, nat_tests))
 number_kind row field n v false low is = let wrong = rw low at is in cc wrong
 
-coordinate_kind : (row field : ℕ) (found : Option ℤ) (v : Value) → coordinate_in row field found ≡ Ok v → IsOfKindUpTo reader_limit kind.Number v
+coordinate_kind : (row field : ℕ) (found : Option ℤ) (v : Value) → coordinate_in row field found ≡ Ok v → IsOfKind kind.Number v
 coordinate_kind row field None v is = cc is
 coordinate_kind row field (Some (negsuc k)) v is = cc is
-coordinate_kind row field (Some (pos n)) v is = number_kind row field n v (nat_le n reader_limit) refl is
+coordinate_kind row field (Some (pos n)) v is = number_kind row field n v (nat_le n number_limit) refl is
 
-text_kind : (max row field : ℕ) (bytes : List ℕ) (v : Value) (low : Bool) → nat_le (length bytes) 255 ≡ low → value_in (kind.Word max) row field bytes ≡ Ok v → IsOfKindUpTo reader_limit (kind.Word max) v
+text_kind : (max row field : ℕ) (bytes : List ℕ) (v : Value) (low : Bool) → nat_le (length bytes) 255 ≡ low → value_in (kind.Word max) row field bytes ≡ Ok v → IsOfKind (kind.Word max) v
 text_kind max row field bytes v true low is =
     let same : Word bytes ≡ v = ok_inj _ _ (rw low at is) in
-    subst (IsOfKindUpTo reader_limit (kind.Word max)) same (grind (arith, nat_tests))
+    subst (IsOfKind (kind.Word max)) same (grind (arith, nat_tests))
 text_kind max row field bytes v false low is = let wrong = rw low at is in cc wrong
 
-value_kind : (k : Kind) (row field : ℕ) (bytes : List ℕ) (v : Value) → value_in k row field bytes ≡ Ok v → IsOfKindUpTo reader_limit k v
+value_kind : (k : Kind) (row field : ℕ) (bytes : List ℕ) (v : Value) → value_in k row field bytes ≡ Ok v → IsOfKind k v
 value_kind (kind.Word max) row field bytes v is = text_kind max row field bytes v (nat_le (length bytes) 255) refl is
 value_kind kind.Number row field bytes v is = coordinate_kind row field (number_in bytes) v is
 
@@ -71,7 +69,7 @@ values_kinds row first (a ∷ attrs) [] values short is = absurd (omega (arith, 
 values_kinds row first (a ∷ attrs) (f ∷ fields) values short is =
     let s = split _ _ values is in
     subst (AllZip (λ (attr : Attr) value. IsOfKind attr.kind value) (a ∷ attrs)) (sym s.whole)
-    (kind_wider reader_limit number_limit a.kind s.first (omega arith) (value_kind a.kind row first f s.first s.is), values_kinds row (first + 1) attrs fields s.others (omega (arith, short)) s.are)
+    (value_kind a.kind row first f s.first s.is, values_kinds row (first + 1) attrs fields s.others (omega (arith, short)) s.are)
 
 as_many : {X Y E : Type 0} (f : ℕ → X → Result Y E) (first : ℕ) (xs : List X) (ys : List Y) → gathered (map (λ p. f p.0 p.1) (enumerate_from first xs)) ≡ Ok ys → length ys ≡ length xs
 as_many f first [] ys is = sym (ap length (ok_inj _ _ is))
@@ -119,15 +117,6 @@ whole_row schema row fields fact true all is =
     }
 whole_row schema row fields fact false all is = let wrong = rw all at is in cc wrong
 
-row_within : (schema : Schema) (row : ℕ) (fields : List (List ℕ)) (fact : Fact) (all : Bool) → (length fields == length schema.attrs + length schema.measures) ≡ all
-    → fact_in schema row fields ≡ Ok fact → HasNumbersWithin reader_limit fact
-row_within schema row fields fact true all is =
-    let parts = from_both (values_in row schema.attrs fields) (measures_in row (length schema.attrs) fields) fact (rw all at is) in
-    values_within reader_limit fact
-    (all_hold (λ number (p : Attr × List ℕ). value_in p.0.kind row number p.1) (IsWithin reader_limit)
-    (λ number p v one. kind_within reader_limit p.0.kind v (value_kind p.0.kind row number p.1 v one)) 1 (zip schema.attrs fields) fact.values parts.values_are)
-row_within schema row fields fact false all is = let wrong = rw all at is in cc wrong
-
 -- each fact of a batch agrees with the schema
 pub facts_agree : (schema : Schema) (rows : List (List (List ℕ))) (facts : List Fact) → facts_in schema rows ≡ Ok facts → All (Agrees schema) facts
 facts_agree schema rows facts is =
@@ -136,9 +125,3 @@ facts_agree schema rows facts is =
 -- there is one for each row
 pub facts_count : (schema : Schema) (rows : List (List (List ℕ))) (facts : List Fact) → facts_in schema rows ≡ Ok facts → length facts ≡ length rows
 facts_count schema rows facts is = as_many (fact_in schema) 1 rows facts is
-
--- no number of a batch is above the greatest that readers take
-pub facts_within : (schema : Schema) (rows : List (List (List ℕ))) (facts : List Fact) → facts_in schema rows ≡ Ok facts → All (HasNumbersWithin reader_limit) facts
-facts_within schema rows facts is =
-    all_hold (fact_in schema) (HasNumbersWithin reader_limit)
-    (λ number fields fact one. row_within schema number fields fact (length fields == length schema.attrs + length schema.measures) refl one) 1 rows facts is

@@ -10,13 +10,12 @@ use Rattle.cube_schema.specs.Agreeing.{Agrees}
 use Rattle.cube_schema.specs.declared.schema.Schema.{Schema}
 use Rattle.fact_batch.specs.Batch.{Draft}
 use Rattle.fact_model.specs.declared.fact.Fact.{Fact}
-use Rattle.fact_model.specs.Limits.{HasNumbersWithin, reader_limit}
 use Rattle.fact_csv.specs.declared.refusal.RowRefusal.{RowRefusal}
 use Rattle.fact_csv.specs.declared.refusal.RowRefusal.TheVariants as refusals
 use Rattle.fact_csv.specs.Batch.{AreRead, Refuses, batch_of, fact_in, fact_answers, facts_in}
 use Rattle.fact_csv.specs.Drafts.{HasRow, drafted}
 use Rattle.fact_csv.specs.Gathered.{with_first, gathered}
-use Rattle.fact_csv.proofs.Agreements.{facts_agree, facts_count, facts_within}
+use Rattle.fact_csv.proofs.Agreements.{facts_agree, facts_count}
 
 abbrev Row : Type 0
 Row = List (List ℕ)
@@ -106,10 +105,6 @@ module _ (schema : Schema) (block : List ℕ) (rows left : List Row) (all : rows
     pub agree_all : (read : Result (List Fact) RowRefusal) → AreRead schema rows read → IfOk read (All (Agrees schema))
     agree_all (Ok facts) is = facts_agree schema rows facts is
     agree_all (Err e) is = tt
-
-    pub within_all : (read : Result (List Fact) RowRefusal) → AreRead schema rows read → IfOk read (All (HasNumbersWithin reader_limit))
-    within_all (Ok facts) is = facts_within schema rows facts is
-    within_all (Err e) is = tt
 
     pub few_all : (read : Result (List Fact) RowRefusal) → AreRead schema rows read → IfOk read (λ facts. length facts ≤ 262144)
     few_all (Ok facts) is = (let count = facts_count schema rows facts is in omega arith)

@@ -9,17 +9,17 @@ use Rattle.cube_schema.specs.declared.schema.Schema.{Schema}
 use Rattle.fact_model.specs.declared.fact.Fact.{Fact}
 use Rattle.fact_model.specs.declared.fact.Value.{Value}
 use Rattle.fact_model.specs.declared.fact.Value.TheVariants.{Word, Number}
-use Rattle.fact_model.specs.Limits.{reader_limit}
+use Rattle.fact_model.specs.Limits.{number_limit}
 use Rattle.fact_model.specs.Number.{number_in}
 use Rattle.fact_csv.specs.declared.refusal.RowRefusal.{RowRefusal}
 use Rattle.fact_csv.specs.declared.refusal.RowRefusal.TheVariants as refusals
 use Rattle.fact_csv.specs.Gathered.{gathered}
 
--- a value of a number attribute is 0 to the greatest that readers take
+-- a value of a number attribute is 0 to the greatest that it may have
 abbrev pub coordinate_in : ℕ → ℕ → Option ℤ → Result Value RowRefusal
 coordinate_in row field None = Err (refusals.Number row field)
 coordinate_in row field (Some (negsuc k)) = Err (refusals.Number row field)
-coordinate_in row field (Some (pos n)) = cond (nat_le n reader_limit) (Ok (Number n)) (Err (refusals.Number row field))
+coordinate_in row field (Some (pos n)) = cond (nat_le n number_limit) (Ok (Number n)) (Err (refusals.Number row field))
 
 -- the value that a field gives an attribute; a text has at most 255 bytes
 abbrev pub value_in : Kind → ℕ → ℕ → List ℕ → Result Value RowRefusal

@@ -2,7 +2,6 @@
 ghost use Rattle.std.specs.Prelude.{◌≡◌, ◌≤◌, ◌<◌, ◌+◌, List, ℕ, ◌++◌, ◌∷◌, [], Ok, IfOk, IfErr, OnOk, length};
 ghost use Rattle.std.specs.List.{All};
 ghost use Rattle.csv.specs.Records.{fields_of};
-ghost use Rattle.fact_model.specs.Limits.{HasNumbersWithin, reader_limit};
 ghost use Rattle.cube_schema.specs.Agreeing.{Agrees};
 ghost use Rattle.fact_csv.specs.Batch.{AreRead, batch_of, Refuses};
 ghost use Rattle.fact_batch.specs.Batch.{IsBetween};
@@ -26,7 +25,6 @@ pub fn read_batch(alloc: Global, schema: &Schema, block: &[u8]) -> Result<Batch,
     ensures refused { IfErr result (Refuses (batch_of schema.now block.now)) }
 
     ensures agree { IfOk result (All (Agrees schema.now)) }
-    ensures within { IfOk result (All (HasNumbersWithin reader_limit)) }
     ensures few { IfOk result (λ facts. length facts ≤ 262144) }
 {
     let mut reader = block_reader(alloc, block);

@@ -6,7 +6,7 @@ ghost use Rattle.fact_csv.specs.Drafts.{HasValue};
 use crate::refusal::RowRefusal;
 use cube_schema::Kind;
 use fact_batch::BatchBuilder;
-use fact_model::{GREATEST_READ, LONGEST_TEXT, read_number};
+use fact_model::{GREATEST_NUMBER, LONGEST_TEXT, read_number};
 
 /// Adds the value that a field gives an attribute of this kind, or answers its fault. After a fault nothing is said of the
 /// builder.
@@ -28,7 +28,7 @@ pub fn read_value(
             Ok(builder.push_text(bytes)?)
         }
         Kind::Number => match read_number(bytes) {
-            Some(number) if 0 <= number && number <= GREATEST_READ => {
+            Some(number) if 0 <= number && number <= i128::from(GREATEST_NUMBER) => {
                 Ok(builder.push_value(number as u64)?)
             }
             _ => Err(RowRefusal::Number { row, field }),

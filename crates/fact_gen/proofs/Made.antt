@@ -17,8 +17,6 @@ use Rattle.cube_schema.specs.Lawful.{IsSchema}
 use Rattle.cube_schema.specs.Words.{is_in_range}
 use Rattle.fact_batch.specs.Batch.{Draft}
 use Rattle.fact_model.specs.declared.fact.Fact.{Fact}
-use Rattle.fact_model.specs.Limits.{HasNumbersWithin, IsWithin, reader_limit}
-use Rattle.fact_model.proofs.Limits.{values_within}
 use Rattle.fact_batch.specs.Batch.{IsBetween}
 use Rattle.fact_gen.specs.Generated.{value_of, values_from, measures_from, width, fact_from, generated}
 
@@ -66,25 +64,6 @@ facts_agree schema state zero lawful = All-nil (Agrees schema)
 facts_agree schema state (suc rows) lawful =
     All-cons (Agrees schema) (fact_from schema state) (generated schema (state_after state (width schema)) rows)
     (fact_agrees schema state lawful) (facts_agree schema (state_after state (width schema)) rows lawful)
-
--- ---- no number is above the greatest that readers take
-
-value_within : (k : Kind) (drawn : ℕ) → IsWithin reader_limit (value_of k drawn)
-value_within (kind.Word max) drawn = tt
-value_within kind.Number drawn =
-    let low = mod-lt drawn {m = 1000} (omega arith) in
-    omega (arith, low)
-
-drawn_within : (attrs : List Attr) (state : ℕ) → All (IsWithin reader_limit) (values_from attrs state)
-drawn_within [] state = All-nil (IsWithin reader_limit)
-drawn_within (attr ∷ attrs) state =
-    All-cons (IsWithin reader_limit) (value_of attr.kind (draw state)) (values_from attrs (next_state state)) (value_within attr.kind (draw state)) (drawn_within attrs (next_state state))
-
-pub facts_within : (schema : Schema) (state rows : ℕ) → All (HasNumbersWithin reader_limit) (generated schema state rows)
-facts_within schema state zero = All-nil (HasNumbersWithin reader_limit)
-facts_within schema state (suc rows) =
-    All-cons (HasNumbersWithin reader_limit) (fact_from schema state) (generated schema (state_after state (width schema)) rows)
-    (values_within reader_limit (fact_from schema state) (drawn_within schema.attrs state)) (facts_within schema (state_after state (width schema)) rows)
 
 -- there are so many facts
 pub facts_count : (schema : Schema) (state rows : ℕ) → length (generated schema state rows) ≡ rows

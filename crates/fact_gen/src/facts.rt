@@ -2,7 +2,6 @@
 ghost use Rattle.std.specs.Prelude.{◌≡◌, ◌≤◌, ◌<◌, [], ◌∷◌, ◌++◌, IfOk, OnOk, length};
 ghost use Rattle.std.specs.List.{All};
 ghost use Rattle.draws.specs.Draw.{state_after};
-ghost use Rattle.fact_model.specs.Limits.{HasNumbersWithin, reader_limit};
 ghost use Rattle.cube_schema.specs.Agreeing.{Agrees};
 ghost use Rattle.cube_schema.specs.Lawful.{IsSchema};
 ghost use Rattle.fact_batch.specs.Batch.{IsBetween};
@@ -26,7 +25,6 @@ pub fn generate(alloc: Global, schema: &Schema, start: u64, rows: u64) -> Result
 
     ensures facts { IfOk result (λ facts. facts ≡ generated schema.now start rows) }
     ensures agree { IfOk result (All (Agrees schema.now)) }
-    ensures within { IfOk result (All (HasNumbersWithin reader_limit)) }
     ensures few { IfOk result (λ facts. length facts ≤ 262144) }
 {
     let mut draws = Draws { state: start };

@@ -3,7 +3,6 @@ pub mod Defaults
 pub mod Digits
 pub mod DistinctLemmas
 pub mod Folds
-pub mod Limits
 pub mod Masses
 pub mod RowsParts
 pub mod ValueOrder

@@ -9,10 +9,6 @@ use Rattle.fact_model.specs.Fact.{value_at}
 abbrev pub number_limit : ℕ
 number_limit = 2 ^ 63 - 1
 
--- the greatest number that the readers of batches and of slices take
-abbrev pub reader_limit : ℕ
-reader_limit = 2 ^ 32 - 3
-
 -- a number is within the limit
 abbrev pub IsWithin : ℕ → Value → Type 0
 IsWithin limit (Word t) = Unit {0}

@@ -12,9 +12,6 @@ pub const LONGEST_TEXT: usize = 255;
 /// The greatest value of a number attribute.
 pub const GREATEST_NUMBER: u64 = 9_223_372_036_854_775_807;
 
-/// The greatest value of a number attribute that the readers of batches and of slices take.
-pub const GREATEST_READ: i128 = 4_294_967_293;
-
 /// A value of an attribute. Numbers are ordered by value, and texts by their bytes.
 #[derive(Clone, Debug, PartialEq, Eq, PartialOrd, Ord, Drop)]
 pub enum Value {

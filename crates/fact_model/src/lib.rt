@@ -13,9 +13,7 @@ mod slow;
 mod text;
 
 pub use cell::{Cell, Part};
-pub use fact::{
-    Fact, FactList, GREATEST_NUMBER, GREATEST_READ, LONGEST_TEXT, NumberList, Value, ValueList,
-};
+pub use fact::{Fact, FactList, GREATEST_NUMBER, LONGEST_TEXT, NumberList, Value, ValueList};
 pub use list::{ListOf, put};
 pub use memory::Memory;
 pub use number::{is_numeral, magnitude, read_number};

@@ -269,8 +269,8 @@ module _ (schema : Schema) (facts : List Fact) (lawful : IsSchema schema) (accep
 -- ---- the live body of files that keep facts
 
 module _ (schema : Schema) (facts : List Fact) (last : ℕ) (body : Body) (files : Files) (kept : KeepsFacts schema facts last files) (live : IsLiveBody body (files 0)) where
-  live_there : LiveAt (held kept.format schema facts last) kept.keeps.0 body files
-  live_there = subst (λ (b : Body). LiveAt (held kept.format schema facts last) kept.keeps.0 b files) (sym (one_live (held kept.format schema facts last) kept.keeps.0 kept.keeps.1 body files kept.keeps.2 live)) kept.keeps.2
+  live_there : LiveAt (held kept.format schema facts last) kept.there.keeps.0 body files
+  live_there = subst (λ (b : Body). LiveAt (held kept.format schema facts last) kept.there.keeps.0 b files) (sym (one_live (held kept.format schema facts last) kept.there.keeps.0 kept.there.keeps.1 body files kept.there.keeps.2 live)) kept.there.keeps.2
 
   live_format : body.format ≡ kept.format
   live_format = live_there.body_is.format
@@ -281,15 +281,15 @@ module _ (schema : Schema) (facts : List Fact) (last : ℕ) (body : Body) (files
 
   pub live_body : IsLive schema body facts files
   live_body = record {
-    slot = kept.keeps.0;
-    fits = subst (λ (f : ℕ). FitsFormat f facts) (sym live_format) kept.fits;
-    at = subst (λ n. LiveAt (held body.format schema facts n) kept.keeps.0 body files) (sym live_last)
-        (subst (λ (f : ℕ). LiveAt (held f schema facts last) kept.keeps.0 body files) (sym live_format) live_there);
+    slot = kept.there.keeps.0;
+    fits = subst (λ (f : ℕ). FitsFormat f facts) (sym live_format) kept.there.fits;
+    at = subst (λ n. LiveAt (held body.format schema facts n) kept.there.keeps.0 body files) (sym live_last)
+        (subst (λ (f : ℕ). LiveAt (held f schema facts last) kept.there.keeps.0 body files) (sym live_format) live_there);
   }
 
 -- files that keep facts have no slot whose body does not decode
 pub kept_decodes : (schema : Schema) (facts : List Fact) (last slot : ℕ) (files : Files) → KeepsFacts schema facts last files → IsFirstDamaged slot (files 0) → ⊥
-kept_decodes schema facts last slot files kept first = live_damaged (files 0) kept.keeps.1 slot (held_is_live (held kept.format schema facts last) kept.keeps.0 kept.keeps.1 files kept.keeps.2) first
+kept_decodes schema facts last slot files kept first = live_damaged (files 0) kept.there.keeps.1 slot (held_is_live (held kept.format schema facts last) kept.there.keeps.0 kept.there.keeps.1 files kept.there.keeps.2) first
 
 -- the names that the live body counts are those of the facts
 pub names_counted : (schema : Schema) (facts : List Fact) (last : ℕ) (body : Body) (files : Files) → KeepsFacts schema facts last files → IsLiveBody body (files 0) → body.names_len ≡ length (names_text schema facts)

@@ -10,7 +10,7 @@ use Rattle.forest_root.specs.declared.body.Body.{Body}
 use Rattle.forest_root.specs.declared.forest.Forest.{Forest}
 use Rattle.forest_root.specs.declared.forest.Store.{Store}
 use Rattle.cube_schema.specs.declared.schema.Schema.{Schema}
-use Rattle.forest_store.specs.Held.{AreAccepted, IsLive, KeepsFacts}
+use Rattle.forest_store.specs.Held.{AreAccepted, IsLive, KeepsAs}
 use Rattle.forest_refresh.specs.declared.stop.BeginFault.{BeginFault}
 use Rattle.forest_refresh.specs.declared.stop.BeginStop.TheVariants as begins
 use Rattle.forest_refresh.specs.Back.{IsBack, IsCut}
@@ -38,9 +38,9 @@ begun_on r facts batch old new (Ok x) is same live = subst (λ x. IsRefreshOf x 
 begun_on r facts batch old new (Err fault) is same live = tt
 
 -- what a moment keeps, by an equal forest
-pub kept_by : (old new : Forest) → new ≡ old → (before after : Disk) (facts : List Fact) → LeavesOnly before after (λ told files. (told ≡ before.told) × KeepsFacts new.schema facts new.body.last files)
-    → LeavesOnly before after (λ told files. (told ≡ before.told) × KeepsFacts old.schema facts old.body.last files)
-kept_by old new same before after facts run = subst (λ (f : Forest). LeavesOnly before after (λ told files. (told ≡ before.told) × KeepsFacts f.schema facts f.body.last files)) same run
+pub kept_by : (old new : Forest) → new ≡ old → (before after : Disk) (facts : List Fact) → LeavesOnly before after (λ told files. (told ≡ before.told) × KeepsAs new.body.format new.schema facts new.body.last files)
+    → LeavesOnly before after (λ told files. (told ≡ before.told) × KeepsAs old.body.format old.schema facts old.body.last files)
+kept_by old new same before after facts run = subst (λ (f : Forest). LeavesOnly before after (λ told files. (told ≡ before.told) × KeepsAs f.body.format f.schema facts f.body.last files)) same run
 
 -- the store with the names alone that slices know is the one that was whole
 pub cut_back : (store prepared : Store) (result : Result Begun BeginFault) → prepared.forest ≡ store.forest → prepared.shown ≡ store.shown

@@ -11,7 +11,7 @@ use Rattle.forest_root.specs.declared.forest.Store.{Store}
 use Rattle.forest_root.specs.Keeps.{IsBodyOf}
 use Rattle.forest_commit.specs.Commit.{IsLiveNow, slot_of}
 use Rattle.forest_pages.specs.Forest.{forest as forest_bytes}
-use Rattle.forest_store.specs.Held.{IsLive, KeepsFacts, held}
+use Rattle.forest_store.specs.Held.{IsLive, KeepsAs, held}
 use Rattle.forest_store.specs.Stored.{IsStoreOf, IsWhole}
 use Rattle.forest_store.proofs.Places.{selection}
 use Rattle.forest_store.proofs.Schemas.{few_views}
@@ -31,16 +31,16 @@ use Rattle.forest_refresh.proofs.Sides.{whole-before}
 use Rattle.forest_refresh.proofs.Standing.{moves-few}
 
 -- on the way the facts alone are kept
-pub moved-either : (schema : Schema) (facts all : List Fact) (last number : ℕ) (old mid : Disk) → LeavesOnly old mid (λ told files. (told ≡ old.told) × KeepsFacts schema facts last files)
-    → LeavesOnly old mid (λ told files. (told ≡ old.told) × KeepsEither schema facts last all number files)
-moved-either schema facts all last number old mid run = wider old mid _ _ (λ told files left. (left.0, inl left.1)) run
+pub moved-either : (format next : ℕ) (schema : Schema) (facts all : List Fact) (last number : ℕ) (old mid : Disk) → LeavesOnly old mid (λ told files. (told ≡ old.told) × KeepsAs format schema facts last files)
+    → LeavesOnly old mid (λ told files. (told ≡ old.told) × KeepsEither format schema facts last next all number files)
+moved-either format next schema facts all last number old mid run = wider old mid _ _ (λ told files left. (left.0, inl left.1)) run
 
-pub then-committed : (schema : Schema) (facts all : List Fact) (last number : ℕ) (old mid new : Disk) → mid.told ≡ old.told
-    → LeavesOnly old mid (λ told files. (told ≡ old.told) × KeepsFacts schema facts last files)
-    → LeavesOnly mid new (λ told files. (told ≡ mid.told) × KeepsEither schema facts last all number files)
-    → LeavesOnly old new (λ told files. (told ≡ old.told) × KeepsEither schema facts last all number files)
-then-committed schema facts all last number old mid new same moved committed =
-    then_either schema facts all last number old mid new same (moved-either schema facts all last number old mid moved) committed
+pub then-committed : (format next : ℕ) (schema : Schema) (facts all : List Fact) (last number : ℕ) (old mid new : Disk) → mid.told ≡ old.told
+    → LeavesOnly old mid (λ told files. (told ≡ old.told) × KeepsAs format schema facts last files)
+    → LeavesOnly mid new (λ told files. (told ≡ mid.told) × KeepsEither format schema facts last next all number files)
+    → LeavesOnly old new (λ told files. (told ≡ old.told) × KeepsEither format schema facts last next all number files)
+then-committed format next schema facts all last number old mid new same moved committed =
+    then_either format next schema facts all last number old mid new same (moved-either format next schema facts all last number old mid moved) committed
 
 module _ (r : Begun) (begun : IsBegun r) (all : length r.progress.rows ≡ length r.store.forest.mapping.trees) where
   abbrev own : Forest

@@ -9,7 +9,7 @@ ghost use Rattle.attr_dict.specs.Room.{entries_len, entries_limit};
 ghost use Rattle.cube_schema.specs.Writing.{canonical};
 ghost use Rattle.forest_root.specs.Body.{max_facts};
 ghost use Rattle.page_fmt.specs.Formats.{wide_format};
-ghost use Rattle.forest_store.specs.Held.{AreAccepted, HasNames, IsLive};
+ghost use Rattle.forest_store.specs.Held.{AreAccepted, HasNames, IsLive, format_for};
 ghost use Rattle.forest_store.specs.Stored.{IsStoreOf, IsWhole};
 ghost use Rattle.forest_refresh.specs.Back.{IsBack};
 ghost use Rattle.forest_refresh.specs.Begun.{HasMoved, IsBegun, IsGoing, IsRefreshOf};
@@ -19,7 +19,7 @@ ghost use Rattle.delta_agg.specs.Trees.{named_tree};
 ghost use Rattle.forest_refresh.specs.Prepared.{begun_with};
 ghost use Rattle.forest_refresh.specs.Trees.{deltas_by};
 
-use crate::limits::{masses, names_len, total};
+use crate::limits::{format_for, masses, names_len, total};
 use crate::room::{Room, take_room};
 use crate::stop::BeginStop;
 use crate::writing::start_trees;
@@ -62,7 +62,7 @@ pub(crate) fn prepare(
     ensures moved { (files : Files) → IfOk result (λ p. HasMoved (begun_with store.new p) files) }
     ensures taken { IfOk result (λ p. p.room.taken ≡ 0) }
     ensures last { IfOk result (λ p. p.next.last ≡ last) }
-    ensures format { IfOk result (λ p. p.next.format ≡ store.old.forest.body.format) }
+    ensures format { IfOk result (λ p. p.next.format ≡ format_for store.old.forest.body.format facts) }
     ensures adds { (accepted : List declared.Fact) (files : Files) → IsStoreOf store.old accepted files
         → IfOk result (λ p. IsRefreshOf (begun_with store.new p) accepted facts files) }
     ensures points { IfOk result (λ p. p.deltas ≡ deltas_by (names_with store.old.dicts facts) store.old.forest.schema facts) }
@@ -111,7 +111,7 @@ fn prepare_with(
     ensures moved { (files : Files) → IfOk result (λ p. HasMoved (begun_with store.now p) files) }
     ensures taken { IfOk result (λ p. p.room.taken ≡ 0) }
     ensures last { IfOk result (λ p. p.next.last ≡ last) }
-    ensures format { IfOk result (λ p. p.next.format ≡ store.now.forest.body.format) }
+    ensures format { IfOk result (λ p. p.next.format ≡ format_for store.now.forest.body.format facts) }
     ensures adds { (accepted : List declared.Fact) (files : Files) → AreAccepted store.now.forest.schema accepted
         → IsLive store.now.forest.schema store.now.forest.body accepted files
         → ((a : ℕ) → shown_names store.now.dicts store.now.shown.at a ≡ names_of accepted a)
@@ -125,6 +125,7 @@ fn prepare_with(
 {
     let forest = &store.forest;
     let masses = masses(&forest.body.masses, &facts)?;
+    let format = format_for(forest.body.format, &facts);
     let names_len = names_len(forest.body.names_len, &admitted.names);
     let deltas = deltas(
         alloc,
@@ -134,7 +135,6 @@ fn prepare_with(
         facts,
     )?;
     let mut room = take_room(alloc, deltas.len())?;
-    let format = forest.body.format;
     let next = next_body(&forest.body, format, names_len, count, last, masses);
     start_trees(forest, &deltas, next.format, slot(&next), &mut room);
     Ok(Prepared {
@@ -158,6 +158,7 @@ pub(crate) fn prepare_upgrade(alloc: Global, store: &Store) -> Result<Prepared, 
     ensures next { IfOk result (λ p. p.next ≡ body_as store.now.forest.body wide_format) }
     ensures adds { (accepted : List declared.Fact) (files : Files) → IsStoreOf store.now accepted files
         → IfOk result (λ p. IsRefreshOf (begun_with store.now p) accepted [] files) }
+    ensures points { IfOk result (λ p. p.deltas ≡ deltas_by (names_with store.now.dicts []) store.now.forest.schema []) }
 {
     let forest = &store.forest;
     let body = &forest.body;

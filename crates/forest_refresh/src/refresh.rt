@@ -10,7 +10,7 @@ ghost use Rattle.site_core.specs.Causes.{HasCauseWhere};
 ghost use Rattle.site_core.specs.Frames.{Calls, CallsOnly};
 ghost use Rattle.forest_commit.specs.Commit.{slot_of};
 ghost use Rattle.forest_root.specs.Root.{ClosesGate};
-ghost use Rattle.forest_store.specs.Held.{IsLive, KeepsFacts};
+ghost use Rattle.forest_store.specs.Held.{IsLive, KeepsAs, format_for};
 ghost use Rattle.forest_store.specs.Opened.{IsOpened};
 ghost use Rattle.forest_store.specs.Sides.{page_total};
 ghost use Rattle.forest_store.specs.Stored.{IsStoreOf, IsWhole};
@@ -67,8 +67,9 @@ impl Model for Refresh {
 
 impl Refresh {
     /// Begins to take in a batch of 1 to 262,144 facts: tries the limits, gives codes to its new names, which slices do not know, makes its
-    /// points, takes all memory that is needed to the end, and then shuts the gate of the next generation. A batch may have a number, which is
-    /// the last one plus 1, and is the last one from its commit on.
+    /// points, takes all memory that is needed to the end, and then shuts the gate of the next generation. The new pages have the format of the
+    /// old ones, or the greatest one where a number in the batch is above 4,294,967,293. A batch may have a number, which is the last one plus
+    /// 1, and is the last one from its commit on.
     ///
     /// `FactsFull`, `NamesFull` and `Mass` name the first limit that all facts would pass, in this order. They and `Memory` come before any
     /// call on a file. The store is handed back as it was, also after `Disk`, and then nothing is said of the gate. A stop at any moment
@@ -91,9 +92,9 @@ impl Refresh {
             → IfErr result (λ fault. TellsLimit store.forest.schema (accepted ++ facts) fault.why) }
         ensures any_moment { IsTrue T.tells → (accepted : List declared.Fact) → HoldsNow (IsStoreOf store accepted) (T.disk site.old)
             → LeavesOnly (T.disk site.old) (T.disk site.new) (λ told files.
-            (told ≡ (T.disk site.old).told) × KeepsFacts store.forest.schema accepted store.forest.body.last files) }
+            (told ≡ (T.disk site.old).told) × KeepsAs store.forest.body.format store.forest.schema accepted store.forest.body.last files) }
         ensures last { IfOk result (λ refresh. refresh.next.last ≡ last_behind store.forest.body.last number) }
-        ensures format { IfOk result (λ refresh. refresh.next.format ≡ store.forest.body.format) }
+        ensures format { IfOk result (λ refresh. refresh.next.format ≡ format_for store.forest.body.format facts) }
 
         ensures ready { IsTrue T.tells → IfOk result (λ refresh. IsReady refresh (T.disk site.new)) }
         ensures goes { IfOk result (λ refresh. IsGoing refresh × (refresh.progress.taken ≡ 0)) }
@@ -131,15 +132,16 @@ impl Refresh {
             → IfOk result (λ refresh. IsRefreshOf refresh accepted [] (T.disk site.new).files) }
         ensures any_moment { IsTrue T.tells → (accepted : List declared.Fact) → HoldsNow (IsStoreOf store accepted) (T.disk site.old)
             → LeavesOnly (T.disk site.old) (T.disk site.new) (λ told files.
-            (told ≡ (T.disk site.old).told) × KeepsFacts store.forest.schema accepted store.forest.body.last files) }
+            (told ≡ (T.disk site.old).told) × KeepsAs store.forest.body.format store.forest.schema accepted store.forest.body.last files) }
         ensures next { IfOk result (λ refresh. refresh.next ≡ body_as store.forest.body wide_format) }
         ensures why { IfErr result (λ fault. (fault.why ≡ BeginStop.Memory) ⊎ (fault.why ≡ BeginStop.Disk)) }
 
         ensures ready { IsTrue T.tells → IfOk result (λ refresh. IsReady refresh (T.disk site.new)) }
         ensures goes { IfOk result (λ refresh. IsGoing refresh × (refresh.progress.taken ≡ 0)) }
         ensures stable { IsTrue T.tells → OnOk result (IsStable (T.disk site.new)) }
-        // The root file alone is written.
-        ensures others { IsTrue T.tells → OnOk result ((file : ℕ) → file ≢ 0 → (T.disk site.new).files file ≡ (T.disk site.old).files file) }
+        ensures points { IfOk result (λ refresh. refresh.deltas ≡ deltas_by (names_with store.dicts []) store.forest.schema []) }
+        // Of all files the gate of the next generation alone is written.
+        ensures closes { IsTrue T.tells → OnOk result (ClosesGate ((store.forest.body.generation + 1) % 2) (T.disk site.old).files (T.disk site.new).files) }
         ensures forest { IfOk result (λ refresh. refresh.store.forest ≡ store.forest) }
         ensures back { IfErr result (λ fault. IsBack store fault.store) }
         ensures untouched { IfErr result (λ fault. fault.why ≢ BeginStop.Disk → site.new ≡ site.old) }
@@ -195,7 +197,7 @@ impl Refresh {
             → HoldsNow (IsRefreshOf self.new accepted batch) (T.disk site.new) }
         ensures any_moment { IsTrue T.tells → (accepted batch : List declared.Fact) → HoldsNow (IsRefreshOf self.old accepted batch) (T.disk site.old)
             → LeavesOnly (T.disk site.old) (T.disk site.new) (λ told files.
-            (told ≡ (T.disk site.old).told) × KeepsFacts self.old.store.forest.schema accepted self.old.store.forest.body.last files) }
+            (told ≡ (T.disk site.old).told) × KeepsAs self.old.store.forest.body.format self.old.store.forest.schema accepted self.old.store.forest.body.last files) }
         ensures undamaged { IsTrue T.tells → (accepted batch : List declared.Fact) → IsRefreshOf self.old accepted batch (T.disk site.old).files
             → IfErr result IsNoDamage }
         ensures cost { IsTrue T.tells → (accepted batch : List declared.Fact) → IsRefreshOf self.old accepted batch (T.disk site.old).files
@@ -244,7 +246,7 @@ impl Refresh {
             → IfErr result IsNoDamage }
         ensures any_moment { IsTrue T.tells → (accepted batch : List declared.Fact) → HoldsNow (IsRefreshOf self accepted batch) (T.disk site.old)
             → LeavesOnly (T.disk site.old) (T.disk site.new) (λ told files.
-            (told ≡ (T.disk site.old).told) × KeepsEither self.store.forest.schema accepted self.store.forest.body.last (accepted ++ batch) self.next.last files) }
+            (told ≡ (T.disk site.old).told) × KeepsEither self.store.forest.body.format self.store.forest.schema accepted self.store.forest.body.last self.next.format (accepted ++ batch) self.next.last files) }
         ensures cost { IsTrue T.tells → (accepted batch : List declared.Fact) → IsRefreshOf self accepted batch (T.disk site.old).files
             → KeepsTo (moves_of self accepted batch) self.progress.taken (length (moves_of self accepted batch))
             (T.reads site.old, T.writes site.old + 3) (T.reads site.new, T.writes site.new) }
@@ -288,7 +290,7 @@ impl Refresh {
             → IfErr result IsNoDamage }
         ensures any_moment { IsTrue T.tells → (accepted batch : List declared.Fact) → HoldsNow (IsRefreshOf self.old accepted batch) (T.disk site.old)
             → LeavesOnly (T.disk site.old) (T.disk site.new) (λ told files.
-            (told ≡ (T.disk site.old).told) × KeepsEither self.old.store.forest.schema accepted self.old.store.forest.body.last (accepted ++ batch) self.old.next.last files) }
+            (told ≡ (T.disk site.old).told) × KeepsEither self.old.store.forest.body.format self.old.store.forest.schema accepted self.old.store.forest.body.last self.old.next.format (accepted ++ batch) self.old.next.last files) }
         ensures cost { IsTrue T.tells → (accepted batch : List declared.Fact) → IsRefreshOf self.old accepted batch (T.disk site.old).files
             → KeepsTo (moves_of self.old accepted batch) self.old.progress.taken (length (moves_of self.old accepted batch))
             (T.reads site.old, T.writes site.old + 3) (T.reads site.new, T.writes site.new) }
@@ -339,7 +341,7 @@ fn shut_gate<T: Site>(site: &mut T, store: Store, prepared: Prepared) -> Result<
         → OnOk result (IsLive store.forest.schema store.forest.body accepted (T.disk site.new).files) }
     ensures any_moment { IsTrue T.tells → (accepted : List declared.Fact)
         → HoldsNow (IsLive store.forest.schema store.forest.body accepted) (T.disk site.old) → LeavesOnly (T.disk site.old) (T.disk site.new) (λ told files.
-        (told ≡ (T.disk site.old).told) × KeepsFacts store.forest.schema accepted store.forest.body.last files) }
+        (told ≡ (T.disk site.old).told) × KeepsAs store.forest.body.format store.forest.schema accepted store.forest.body.last files) }
     ensures ready { IsTrue T.tells → OnOk result (IsReady (begun_with store prepared) (T.disk site.new)) }
     ensures stable { IsTrue T.tells → OnOk result (IsStable (T.disk site.new)) }
     ensures closes { IsTrue T.tells → IfOk result (λ refresh. ClosesGate (slot_of refresh.next) (T.disk site.old).files (T.disk site.new).files) }

@@ -25,7 +25,7 @@ use Rattle.slice_lang.specs.Reading.{slice_of}
 use Rattle.plain_machine.specs.declared.batch_source.BatchSource.{BatchSource}
 use Rattle.plain_machine.specs.declared.batch_source.BatchSource.TheVariants.{Rows, Numbered, Generator}
 use Rattle.plain_machine.specs.World.{Kept, World, Warehouse}
-use Rattle.plain_machine.specs.Machine.{Answer, Given, abandon, accepted, act, batch_from, begin, begun, begun_or_refused, block_read, committed, declare, declare_over, declared, fact_limit, facts_or_refusal, finish, first_full, first_heavy, full_refusal, heavy_refusal, is_covered, load, pending_over, read_by, refusal_of, replies_with, rows_reply, slice, slice_over, slice_reply, status_over, status_text, step, take_over, unless, with_last, with_number}
+use Rattle.plain_machine.specs.Machine.{Answer, Given, abandon, accepted, act, batch_from, begin, begun, begun_or_refused, block_read, committed, declare, declare_over, declared, fact_limit, facts_or_refusal, finish, first_full, first_heavy, full_refusal, heavy_refusal, is_covered, load, pending_over, read_by, refusal_of, replies_with, rows_reply, slice, slice_over, slice_reply, status_over, status_text, step, take_over, unless, upgrade, upgrade_over, with_last, with_number}
 use Rattle.plain_machine.specs.Stages.{size, makes_stage}
 use Rattle.plain_machine.specs.Histories.{Batch, batch_by}
 use Rattle.plain_machine.proofs.Outcomes.{Outcome, stays, declares, commits, counts, outcome}
@@ -190,6 +190,11 @@ status_some (Some warehouse) None = some_number (codes "facts ") (length warehou
 status_some (Some warehouse) (Some batch) =
     behind (codes "facts ") _ (behind (decimal (length warehouse.facts)) _ (some_number (codes " pending ") (length batch)))
 
+upgrade_some : (kept : Kept) (pending : Option (List Fact)) → 0 < length (upgrade_over kept pending)
+upgrade_some None pending = some_line (codes "refused no schema")
+upgrade_some (Some warehouse) None = some_line (codes "upgraded")
+upgrade_some (Some warehouse) (Some batch) = some_line (codes "refused pending")
+
 pub reply_some : (world : World) (command : Command) → 0 < length (act world command).1
 unfolding act
 reply_some world (says.Schema block) = declare_some world world.kept block
@@ -203,6 +208,7 @@ reply_some world says.Finish =
 reply_some world says.Abandon = pending_some world _ world.kept world.pending (λ warehouse batch. some_line (codes "abandoned"))
 reply_some world (says.Slice text) = slice_some world.kept text
 reply_some world says.Status = status_some world.kept world.pending
+reply_some world says.Upgrade = upgrade_some world.kept world.pending
 reply_some world says.LongLine = some_line (codes "refused long line")
 reply_some world says.OpenBlock = some_line (codes "refused open block")
 reply_some world says.Unknown = some_line (codes "refused unknown")
@@ -251,6 +257,10 @@ act_slice world text = refl
 pub act_status : (world : World) → act world says.Status ≡ (world, status_text world)
 unfolding act
 act_status world = refl
+
+pub act_upgrade : (world : World) → act world says.Upgrade ≡ upgrade world
+unfolding act
+act_upgrade world = refl
 
 pub act_long_line : (world : World) → act world says.LongLine ≡ replies_with world (codes "refused long line")
 unfolding act

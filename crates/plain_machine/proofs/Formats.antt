@@ -10,5 +10,5 @@ pub has_format : (files : Files) (kept : Kept) → Keeps files kept → (format 
 has_format files None keeps = (1, refl)
 has_format files (Some warehouse) keeps =
     let is = keeps.kept in
-    let live = is.keeps.1 in
-    (live.format, (live, held_is_live (held is.format warehouse.schema warehouse.facts warehouse.last) is.keeps.0 live files is.keeps.2, refl))
+    let live = is.there.keeps.1 in
+    (live.format, (live, held_is_live (held is.format warehouse.schema warehouse.facts warehouse.last) is.there.keeps.0 live files is.there.keeps.2, refl))

@@ -24,6 +24,10 @@ abbrev pub Keeps : Files → Kept → Type 0
 Keeps files None = KeepsNothing files
 Keeps files (Some warehouse) = KeepsWarehouse files warehouse
 
+-- the live pages in these files, if there are any, have this format or a later one
+abbrev pub IsFrom : ℕ → Files → Type 0
+IsFrom format files = (live : Body) → IsLiveBody live (files 0) → format ≤ live.format
+
 -- the format of the live pages in these files; it is 1 without a schema
 abbrev pub HasFormat : Files → Kept → ℕ → Type 0
 HasFormat files None format = format ≡ 1

@@ -19,7 +19,7 @@ use Rattle.script_lang.specs.declared.command.Block.{Block}
 use Rattle.script_lang.specs.declared.command.Block.TheVariants.{Whole, Long}
 use Rattle.script_lang.specs.declared.command.Command.{Command}
 use Rattle.script_lang.specs.declared.command.Command.TheVariants as says
-use Rattle.reply_text.specs.Replies.{line, already_text, committed_text, facts_text, gap_text, pending_text, schema_text, batch_text, full_text, mass_text, slice_text, answer_text, unopened, no_schema, is_declared, long_schema, long_block, is_pending, none_pending, too_many_facts, is_empty, not_covered, long_line, open_block, is_unknown, declared_text, begun_text, stepped_text, abandoned_text}
+use Rattle.reply_text.specs.Replies.{line, already_text, committed_text, facts_text, gap_text, pending_text, schema_text, batch_text, full_text, mass_text, slice_text, answer_text, unopened, no_schema, is_declared, long_schema, long_block, is_pending, none_pending, too_many_facts, is_empty, not_covered, long_line, open_block, is_unknown, declared_text, begun_text, stepped_text, abandoned_text, upgraded_text}
 use Rattle.slice_lang.specs.declared.refusal.SliceRefusal.{SliceRefusal}
 use Rattle.slice_lang.specs.Reading.{slice_of}
 use Rattle.view_route.specs.Routes.{covers}
@@ -183,6 +183,17 @@ finish world = pending_over world (λ warehouse batch. committed world warehouse
 abbrev pub abandon : World → Answer
 abandon world = pending_over world (λ warehouse batch. (record world { pending = None }, line abandoned_text)) world.kept world.pending
 
+-- ---- upgrade
+
+abbrev pub upgrade_over : Kept → Option (List Fact) → List ℕ
+upgrade_over None pending = line no_schema
+upgrade_over (Some warehouse) (Some batch) = line is_pending
+upgrade_over (Some warehouse) None = line upgraded_text
+
+-- nothing that is known changes
+abbrev pub upgrade : World → Answer
+upgrade world = (world, upgrade_over world.kept world.pending)
+
 -- ---- slice
 
 -- some view has all grouped and bound attributes of the slice
@@ -223,6 +234,7 @@ asked_by schema (says.Step n) = None
 asked_by schema says.Finish = None
 asked_by schema says.Abandon = None
 asked_by schema says.Status = None
+asked_by schema says.Upgrade = None
 asked_by schema says.LongLine = None
 asked_by schema says.OpenBlock = None
 asked_by schema says.Unknown = None
@@ -258,6 +270,7 @@ act world says.Finish = finish world
 act world says.Abandon = abandon world
 act world (says.Slice text) = slice world text
 act world says.Status = (world, status_text world)
+act world says.Upgrade = upgrade world
 act world says.LongLine = replies_with world long_line
 act world says.OpenBlock = replies_with world open_block
 act world says.Unknown = replies_with world is_unknown

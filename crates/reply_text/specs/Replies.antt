@@ -87,6 +87,10 @@ stepped_text = codes "stepped"
 abbrev pub abandoned_text : List ℕ
 abandoned_text = codes "abandoned"
 
+-- the pages have the greatest format
+abbrev pub upgraded_text : List ℕ
+upgraded_text = codes "upgraded"
+
 -- ---- what names a number, a name or rows
 
 -- the batch is accepted, and there are so many facts now

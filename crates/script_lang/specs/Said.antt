@@ -47,11 +47,12 @@ said_in line =
     (cond (is_text (codes "finish") line) (Says says.Finish)
     (cond (is_text (codes "abandon") line) (Says says.Abandon)
     (cond (is_text (codes "status") line) (Says says.Status)
+    (cond (is_text (codes "upgrade") line) (Says says.Upgrade)
     (cond (starts_with nat_eq line (codes "slice ")) (Says (says.Slice (drop 6 line)))
     (cond (starts_with nat_eq line (codes "step ")) (Says (step_in (count_in (drop 5 line))))
     (cond (starts_with nat_eq line (codes "generate "))
     (Says (generate_in (count_in (before_first is_space (drop 9 line))) (count_in (after_first is_space (drop 9 line)))))
-    (Says says.Unknown)))))))))))
+    (Says says.Unknown))))))))))))
 
 -- what a line between two blocks says; more than 65,536 bytes are too long
 abbrev pub said_by : List ℕ → Said

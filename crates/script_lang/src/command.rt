@@ -36,6 +36,8 @@ pub enum Command {
     Slice(Text),
     /// Tell how many facts there are.
     Status,
+    /// Make the pages anew in the greatest format.
+    Upgrade,
     /// Load a batch of so many rows that a generator makes.
     Generate {
         /// The state that the generator begins with.

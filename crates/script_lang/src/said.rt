@@ -78,6 +78,9 @@ fn said_in(alloc: Global, line: &[u8]) -> Result<Said, Memory>
     if is_text("status", line) {
         return Ok(Said::Says(Command::Status));
     }
+    if is_text("upgrade", line) {
+        return Ok(Said::Says(Command::Upgrade));
+    }
     if line.starts_with(b"slice ") {
         let text = Text::from_bytes(alloc, after(line, 6))?;
         return Ok(Said::Says(Command::Slice(text)));

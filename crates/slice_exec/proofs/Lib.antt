@@ -2,6 +2,7 @@ pub mod Agreed
 pub mod Costs
 pub mod Found
 pub mod Holding
-pub mod Kept
+pub mod Searching
 pub mod ShownNames
 pub mod Told
+pub mod Views

@@ -5,7 +5,7 @@ ghost use Rattle.std.specs.Result.{IsErrOf};
 ghost use Rattle.fact_model.specs.declared.fact.Fact as facts;
 ghost use Rattle.fact_model.specs.Rows.{rows};
 ghost use Rattle.site_core.specs.Causes.{HasCauseWhere};
-ghost use Rattle.site_core.specs.Frames.{Looks, LooksOnly};
+ghost use Rattle.site_core.specs.Frames.{Looks};
 ghost use Rattle.forest_pages.specs.Forest.{body_counts};
 ghost use Rattle.forest_store.specs.Stored.{IsStoreOf};
 ghost use Rattle.page_cache.specs.Keeping.{Agrees, HasRoom, Keeps, LiesIn, unkept};
@@ -14,8 +14,9 @@ ghost use Rattle.view_route.specs.Routes.{IsCovering, IsRoute};
 ghost use Rattle.view_rows.specs.Grouped.{HasForm};
 ghost use Rattle.slice_exec.specs.Answers.{IsJudged, IsNoDamage, IsUncovered, NamesSide, rows_told, tree_of_view, visits_of};
 ghost use Rattle.slice_exec.specs.Costs.{visits_over};
+ghost use Rattle.slice_exec.specs.Searching.{SearchesView};
 
-use crate::finding::find;
+use crate::finding::{attrs_of, find};
 use crate::stop::AnswerStop;
 use fact_model::Slice;
 use forest_root::{Forest, Store};
@@ -106,29 +107,13 @@ fn answer_from<'a, T: Site>(
     ensures undamaged { IsTrue T.tells → Agrees (T.disk site.old).files pages.old
         → (accepted : List facts.Fact) → IsStoreOf store.now accepted (T.disk site.old).files
         → IfErr result IsNoDamage }
-    ensures visits { IsTrue T.tells → Agrees (T.disk site.old).files pages.old
-        → T.reads site.new ≤ T.reads site.old + length (visits_of store.now slice.now view (T.disk site.old).files) }
-
-    // The kept pages.
-    ensures saves { IsTrue T.tells → Agrees (T.disk site.old).files pages.old
-        → HasRoom pages.old (2 + store.now.forest.body.generation % 2) (visits_of store.now slice.now view (T.disk site.old).files)
-        → T.reads site.new ≤ T.reads site.old
-        + length (unkept pages.old (2 + store.now.forest.body.generation % 2) (visits_of store.now slice.now view (T.disk site.old).files)) }
-    ensures keeps { IsTrue T.tells → Agrees (T.disk site.old).files pages.old
-        → HasRoom pages.old (2 + store.now.forest.body.generation % 2) (visits_of store.now slice.now view (T.disk site.old).files)
-        → OnOk result (Keeps pages.old pages.new (2 + store.now.forest.body.generation % 2) (visits_of store.now slice.now view (T.disk site.old).files)) }
-    ensures agrees { IsTrue T.tells → Agrees (T.disk site.old).files pages.old → Agrees (T.disk site.new).files pages.new }
 
     // Whatever the files hold.
     ensures judged { IsTrue T.tells → Agrees (T.disk site.old).files pages.old → IsJudged store.now slice.now view (T.disk site.old).files result }
     ensures form { IfOk result (All (HasForm store.now.dicts slice.now)) }
-    ensures place { IfErr result (NamesSide store.now.forest.body) }
-    ensures covered { IsErrOf result AnswerStop.NotCovered → ⊥ }
-    ensures lies { LiesIn (2 + store.now.forest.body.generation % 2) pages.old → LiesIn (2 + store.now.forest.body.generation % 2) pages.new }
-    ensures capacity { pages.new.capacity ≡ pages.old.capacity }
-    ensures looks { LooksOnly T.Site (HasCauseWhere AnswerStop.Disk) ((tree_of_view store.now view).pages) site.old site.new result }
+    ensures search { SearchesView T.Site store.now slice.now view site.old site.new pages.old pages.new result }
 {
-    let attrs = store.forest.schema.views.as_slice()[view as usize].as_slice();
+    let attrs = attrs_of(store, view);
     let mut groups = Groups::new(alloc, attrs, slice.group.as_slice());
     find(alloc, site, pages, store, slice, view, &mut groups)?;
     told(

@@ -7,7 +7,7 @@ use Rattle.std.specs.Str.{bytes_eq}
 use Rattle.std.proofs.lemmas.Bool.{and_from, not-true, lt-ltb, leb-true, eqb-true, eq-eqb}
 use Rattle.std.proofs.lemmas.List.{append-nil, map-append}
 use Rattle.std.proofs.lemmas.List.Folds.{list_all-map}
-use Rattle.fact_model.specs.Limits.{reader_limit}
+use Rattle.fact_model.specs.Limits.{number_limit}
 use Rattle.fact_model.specs.Number.{number_in}
 use Rattle.fact_model.specs.declared.slice.Column.{Column}
 use Rattle.fact_model.specs.declared.slice.Column.TheVariants.{Count, Sum, Min, Max}
@@ -120,12 +120,12 @@ group-known : (s : Schema) (part : Part) (group : List ℕ) → group_in s part 
 group-known s part group e = (gathered-ok (AreAttrs s) (name_of_group s) (name-known s) [] (parts_of 44 part.end part.text) group (refl, refl) e).0
 
 -- ---- values
-in-range : (z : Option ℤ) (n : ℕ) → in_range z ≡ Some n → n ≤ reader_limit
+in-range : (z : Option ℤ) (n : ℕ) → in_range z ≡ Some n → n ≤ number_limit
 in-range None n e = cc
 in-range (Some (negsuc k)) n e = cc
 in-range (Some (pos k)) n e =
-    elim (nat_le k reader_limit) as (λ b. nat_le k reader_limit ≡ b → (if b then Some k else None) ≡ Some n → n ≤ reader_limit) [
-      | true ↦ λ t f. (let same : k ≡ n = cc in let le = leb-true k reader_limit t in omega arith)
+    elim (nat_le k number_limit) as (λ b. nat_le k number_limit ≡ b → (if b then Some k else None) ≡ Some n → n ≤ number_limit) [
+      | true ↦ λ t f. (let same : k ≡ n = cc in let le = leb-true k number_limit t in omega arith)
       | false ↦ λ t f. cc
     ] refl e
 

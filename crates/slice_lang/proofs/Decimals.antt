@@ -8,38 +8,38 @@ use Rattle.std.proofs.lemmas.Bool.{and_parts, and_from, lt-ltb, le-leb, ne_eqb, 
 use Rattle.std.proofs.lemmas.Bool.Decides.{nat_tests}
 use Rattle.std.proofs.lemmas.Fmt.{decimal_nonempty, digits_decimal, digits_value-decimal}
 use Rattle.std.proofs.lemmas.Str.Parse.{without_leading_plus_none}
-use Rattle.fact_model.specs.Limits.{reader_limit}
+use Rattle.fact_model.specs.Limits.{number_limit}
 use Rattle.fact_model.specs.Number.{is_numeral, number_in}
 use Rattle.cube_schema.proofs.Again.{digits}
 use Rattle.cube_schema.proofs.Tests.{all-at, all-imply}
 use Rattle.slice_lang.specs.Values.{is_value_byte, in_range, coordinate_in, place_of_dots}
 
 -- ---- plain decimal
-fits : (n : ℕ) → n ≤ reader_limit → n < 2 ^ 64
+fits : (n : ℕ) → n ≤ number_limit → n < 2 ^ 64
 fits n le = omega arith
 
-are-digits : (n : ℕ) → n ≤ reader_limit → list_all is_ascii_digit (decimal n) ≡ true
+are-digits : (n : ℕ) → n ≤ number_limit → list_all is_ascii_digit (decimal n) ≡ true
 are-digits n le = digits_decimal digits n (fits n le)
 
-some-digits : (n : ℕ) → n ≤ reader_limit → 0 < length (decimal n)
+some-digits : (n : ℕ) → n ≤ number_limit → 0 < length (decimal n)
 some-digits n le = decimal_nonempty n (fits n le)
 
 digit-from : (byte : ℕ) → is_ascii_digit byte ≡ true → 48 ≤ byte
 digit-from byte h = grind (arith, nat_tests)
 
-first-from : (n : ℕ) → n ≤ reader_limit → 48 ≤ slice_index (decimal n) 0
+first-from : (n : ℕ) → n ≤ number_limit → 48 ≤ slice_index (decimal n) 0
 first-from n le = digit-from (slice_index (decimal n) 0) (all-at is_ascii_digit (decimal n) 0 0 (are-digits n le) (some-digits n le))
 
-unsigned : (n : ℕ) → n ≤ reader_limit → starts_with_minus (decimal n) ≡ false
+unsigned : (n : ℕ) → n ≤ number_limit → starts_with_minus (decimal n) ≡ false
 unsigned n le = ne_eqb (slice_index (decimal n) 0) 45 (λ e. (let from = first-from n le in omega arith))
 
-bare : (n : ℕ) → n ≤ reader_limit → without_leading_sign (decimal n) ≡ decimal n
+bare : (n : ℕ) → n ≤ number_limit → without_leading_sign (decimal n) ≡ decimal n
 bare n le =
     cond-false (starts_with_minus (decimal n)) (drop 1 (decimal n)) (without_leading_plus (decimal n)) (unsigned n le)
     ∙ without_leading_plus_none (decimal n) (λ e. (let from = first-from n le in omega arith))
 
 -- a number in plain decimal is read again
-pub number-again : (n : ℕ) → n ≤ reader_limit → number_in (decimal n) ≡ Some (pos n)
+pub number-again : (n : ℕ) → n ≤ number_limit → number_in (decimal n) ≡ Some (pos n)
 number-again n le =
     let ds = decimal n in
     let value = digits_value-decimal digits n (fits n le) in
@@ -54,8 +54,8 @@ number-again n le =
     ∙ ap Some signed
 
 -- ---- any number
-pub coordinate-again : (written : List ℕ) (n : ℕ) → number_in written ≡ Some (pos n) → n ≤ reader_limit → coordinate_in written ≡ Some n
-coordinate-again written n is le = ap in_range is ∙ ap (λ b. cond b (Some n) None) (le-leb n reader_limit le)
+pub coordinate-again : (written : List ℕ) (n : ℕ) → number_in written ≡ Some (pos n) → n ≤ number_limit → coordinate_in written ≡ Some n
+coordinate-again written n is le = ap in_range is ∙ ap (λ b. cond b (Some n) None) (le-leb n number_limit le)
 
 -- a digit or a sign
 abbrev is_mark : ℕ → Bool

@@ -7,7 +7,7 @@ use Rattle.std.specs.Str.{bytes_eq}
 use Rattle.std.proofs.lemmas.Bool.{and_parts, and_from, ltb-true, eqb-true, true≢false}
 use Rattle.std.proofs.lemmas.List.{take-append-drop, append-nil}
 use Rattle.std.proofs.lemmas.List.Sums.{passes_at_first}
-use Rattle.fact_model.specs.Limits.{reader_limit}
+use Rattle.fact_model.specs.Limits.{number_limit}
 use Rattle.fact_model.specs.Number.{number_in}
 use Rattle.fact_model.specs.declared.fact.Value.TheVariants as value
 use Rattle.fact_model.specs.declared.slice.Column.{Column}
@@ -169,7 +169,7 @@ range-number : (z : Option ℤ) (n : ℕ) → in_range z ≡ Some n → z ≡ So
 range-number None n e = cc
 range-number (Some (negsuc k)) n e = cc
 range-number (Some (pos k)) n e =
-    elim (nat_le k reader_limit) as (λ b. (if b then Some k else None) ≡ Some n → Some (pos k) ≡ Some (pos n)) [ true ↦ λ f. cc | false ↦ λ f. cc ] e
+    elim (nat_le k number_limit) as (λ b. (if b then Some k else None) ≡ Some n → Some (pos k) ≡ Some (pos n)) [ true ↦ λ f. cc | false ↦ λ f. cc ] e
 
 -- ---- numbers
 two-dots : (text : List ℕ) → starts_with nat_eq text (codes "..") ≡ true → text ≡ codes ".." ++ drop 2 text

@@ -5,7 +5,7 @@ use Rattle.std.specs.List.{list_all, prefix_len}
 use Rattle.std.proofs.lemmas.Bool.{and_parts, lt-ltb, ltb-true, le-leb, le-ltb, eqb-true, cond-false}
 use Rattle.std.proofs.lemmas.Bool.Decides.{nat_tests}
 use Rattle.std.proofs.lemmas.List.{append_assoc, append-nil, take_all, drop_all, take_at, drop_at, length-append}
-use Rattle.fact_model.specs.Limits.{reader_limit}
+use Rattle.fact_model.specs.Limits.{number_limit}
 use Rattle.fact_model.specs.Number.{number_in}
 use Rattle.fact_model.specs.declared.fact.Value.TheVariants as value
 use Rattle.fact_model.specs.declared.slice.Cond.{Cond}
@@ -74,7 +74,7 @@ plain-again end (b ∷ bs) all some =
     ∙ judged-all (plain_in text) (plain_rules end text) (ap (λ t. nat_lt 0 (length t)) front ∙ lt-ltb 0 (length text) some, tt)
     ∙ (λ i. Ok (record { quoted = false; bytes = front i; behind = behind i }))
 
-number-means-again : (attr n : ℕ) (written : List ℕ) → number_in written ≡ Some (pos n) → n ≤ reader_limit → number_cond attr written ≡ Some (Equal attr (value.Number n))
+number-means-again : (attr n : ℕ) (written : List ℕ) → number_in written ≡ Some (pos n) → n ≤ number_limit → number_cond attr written ≡ Some (Equal attr (value.Number n))
 unfolding number_cond
 number-means-again attr n written is le =
     let place : place_of_dots written ≡ length written = ap place_of_dots (sym (append-nil written)) ∙ dots-behind written [] (pos n) is ∙ omega arith in
@@ -85,7 +85,7 @@ number-means-again attr n written is le =
 abbrev range : List ℕ → List ℕ → List ℕ
 range a b = a ++ (codes ".." ++ b)
 
-range-means-again : (attr low high : ℕ) (a b : List ℕ) → number_in a ≡ Some (pos low) → number_in b ≡ Some (pos high) → low ≤ reader_limit → high ≤ reader_limit
+range-means-again : (attr low high : ℕ) (a b : List ℕ) → number_in a ≡ Some (pos low) → number_in b ≡ Some (pos high) → low ≤ number_limit → high ≤ number_limit
     → number_cond attr (range a b) ≡ Some (Between attr low high)
 unfolding number_cond
 range-means-again attr low high a b is is2 le le2 =

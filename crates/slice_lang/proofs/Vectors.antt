@@ -45,8 +45,8 @@ counted cond = record { columns = Count ∷ []; group = []; conds = cond ∷ [] 
 abbrev asked : List ℕ → Reading Slice
 asked cond = slice_of schema (codes "count where " ++ cond)
 
-conds : map asked (codes "part=x.-+_Z9" ∷ codes "part=1..2" ∷ codes "part=\"\"\"\"" ∷ codes "part=\"a\nb\"" ∷ codes "year=0004294967293" ∷ codes "year=-0" ∷ codes "year=+0..-0" ∷ codes "year=1998..1997" ∷ [])
+conds : map asked (codes "part=x.-+_Z9" ∷ codes "part=1..2" ∷ codes "part=\"\"\"\"" ∷ codes "part=\"a\nb\"" ∷ codes "year=0009223372036854775807" ∷ codes "year=-0" ∷ codes "year=+0..-0" ∷ codes "year=1998..1997" ∷ [])
     ≡ map (λ cond. Ok (counted cond)) (Equal 0 (Word (codes "x.-+_Z9")) ∷ Equal 0 (Word (codes "1..2")) ∷ Equal 0 (Word (codes "\"")) ∷ Equal 0 (Word (codes "a\nb"))
-    ∷ Equal 1 (Number 4294967293) ∷ Equal 1 (Number 0) ∷ Between 1 0 0 ∷ Between 1 1998 1997 ∷ [])
+    ∷ Equal 1 (Number 9223372036854775807) ∷ Equal 1 (Number 0) ∷ Between 1 0 0 ∷ Between 1 1998 1997 ∷ [])
 unfolding slice_of parts_of column_in count_in behind_columns behind_group cond_in attr_in value_in written_in meaning number_cond
 conds = refl

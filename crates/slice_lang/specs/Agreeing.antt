@@ -7,9 +7,8 @@ use Rattle.fact_model.specs.declared.slice.Column.TheVariants.{Count, Sum, Min, 
 use Rattle.fact_model.specs.declared.slice.Cond.{Cond}
 use Rattle.fact_model.specs.declared.slice.Cond.TheVariants.{Equal, Between}
 use Rattle.fact_model.specs.declared.slice.Slice.{Slice}
-use Rattle.fact_model.specs.Limits.{reader_limit}
 use Rattle.fact_model.specs.Slice.{attr_of}
-use Rattle.cube_schema.specs.Agreeing.{IsOfKindUpTo}
+use Rattle.cube_schema.specs.Agreeing.{IsOfKind}
 use Rattle.cube_schema.specs.Kinds.{kind_at, arity, measure_count}
 use Rattle.cube_schema.specs.Reading.{are_distinct}
 use Rattle.cube_schema.specs.declared.schema.Kind.{Kind}
@@ -22,10 +21,10 @@ is_column measures (Sum m) = nat_lt m measures
 is_column measures (Min m) = nat_lt m measures
 is_column measures (Max m) = nat_lt m measures
 
--- a value of this kind that the reader takes, or a range between two
+-- a value of this kind, or a range between two
 abbrev pub FitsKind : Kind → Cond → Type 0
-FitsKind kind (Equal attr value) = IsOfKindUpTo reader_limit kind value
-FitsKind kind (Between attr low high) = IsOfKindUpTo reader_limit kind (value.Number low) × IsOfKindUpTo reader_limit kind (value.Number high)
+FitsKind kind (Equal attr value) = IsOfKind kind value
+FitsKind kind (Between attr low high) = IsOfKind kind (value.Number low) × IsOfKind kind (value.Number high)
 
 pub record SliceAgrees (s : Schema) (q : Slice) : Type 0 where
   -- there is a column

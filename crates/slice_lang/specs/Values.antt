@@ -2,7 +2,7 @@
 use Rattle.std.specs.Prelude.{ℕ, ◌+◌, Bool, true, false, ◌||◌, ◌==◌, List, [], ◌∷◌, length, take, drop, nat_lt, nat_le, nat_eq, codes, if◌then◌else◌, Option, Some, None, Ok, Err, ℤ, pos, negsuc}
 use Rattle.std.specs.Char.{is_ascii_digit, is_ascii_lowercase, is_ascii_uppercase}
 use Rattle.std.specs.List.{prefix_len, starts_with}
-use Rattle.fact_model.specs.Limits.{reader_limit}
+use Rattle.fact_model.specs.Limits.{number_limit}
 use Rattle.fact_model.specs.Number.{number_in}
 use Rattle.fact_model.specs.declared.fact.Value.TheVariants as value
 use Rattle.fact_model.specs.declared.slice.Cond.{Cond}
@@ -60,11 +60,11 @@ plain_rules end text = (nat_lt 0 (length (plain_in text).bytes), refused.Syntax 
 unfoldable pub written_in : ℕ → List ℕ → Reading Written
 written_in end text = if begins text (codes "\"") then quoted_in end (within_quotes (drop 1 text)) else judged (plain_in text) (plain_rules end text)
 
--- a number of 0 to the greatest that readers take
+-- a number that a number attribute may have
 abbrev pub in_range : Option ℤ → Option ℕ
 in_range None = None
 in_range (Some (negsuc n)) = None
-in_range (Some (pos n)) = if nat_le n reader_limit then Some n else None
+in_range (Some (pos n)) = if nat_le n number_limit then Some n else None
 
 abbrev pub coordinate_in : List ℕ → Option ℕ
 coordinate_in text = in_range (number_in text)

@@ -7,7 +7,7 @@ ghost use Rattle.slice_lang.specs.Values.{is_value_byte, written_in, plain_in, p
 use crate::parts::byte_of;
 use crate::refusal::SliceRefusal;
 use cube_schema::Kind;
-use fact_model::{Cond, GREATEST_READ, LONGEST_TEXT, Memory, Text, Value, read_number};
+use fact_model::{Cond, GREATEST_NUMBER, LONGEST_TEXT, Memory, Text, Value, read_number};
 use std::alloc::Global;
 use std::marker::Model;
 
@@ -183,7 +183,7 @@ fn read_coordinate(text: &[u8]) -> Option<u64>
     ensures { result ≡ coordinate_in text.now }
 {
     match read_number(text) {
-        Some(number) if 0 <= number && number <= GREATEST_READ => Some(number as u64),
+        Some(number) if 0 <= number && number <= i128::from(GREATEST_NUMBER) => Some(number as u64),
         _ => None,
     }
 }

@@ -14,17 +14,20 @@ returns-in-Ok g c =
           last = _;
           given = given;
           some = c.requires.some;
-          forest = is.forest;
-          points = is.points;
-          none_made = is.goes.1;
-          goes = is.goes.0;
-          ready = is.ready;
-          closes = is.closes;
-          attends = λ t warehouse belongs. begin_attends c.args.store _ _ warehouse belongs c.args.batch c.args.number c.in-Ok.refresh is.forest is.last is.format c.requires.fits.due
-              (is.begun t warehouse.facts belongs.stored.read) (is.stable t) c.requires.some (is.ready t) is.goes.1;
-          any_moment = begin_between g.T.Site c.args.store c.args.site.now c.begin.new.site (record { any_moment = is.any_moment; told = is.told; calls = is.calls });
-          spent = record { reads = is.calls.reads; writes = is.calls.writes };
-          quiet = record { told = is.told; cause = tt; disk_faults = is.calls.cause.ok; told_faults = is.calls.told_faults };
+          format = is.format;
+          started = record {
+            forest = is.forest;
+            points = is.points;
+            none_made = is.goes.1;
+            goes = is.goes.0;
+            ready = is.ready;
+            closes = is.closes;
+            attends = λ t warehouse belongs. begin_attends c.args.store _ _ warehouse belongs c.args.batch c.args.number c.in-Ok.refresh is.forest is.last c.requires.fits.due
+                (is.begun t warehouse.facts belongs.stored.read) (is.stable t) c.requires.some (is.ready t) is.goes.1;
+            any_moment = begin_between g.T.Site c.args.store c.args.site.now c.begin.new.site (record { any_moment = is.any_moment; told = is.told; calls = is.calls });
+            spent = record { reads = is.calls.reads; writes = is.calls.writes };
+            quiet = record { told = is.told; cause = tt; disk_faults = is.calls.cause.ok; told_faults = is.calls.told_faults };
+          };
         },
       );
     }

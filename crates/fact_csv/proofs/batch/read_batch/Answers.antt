@@ -3,7 +3,7 @@ use Rattle.std.proofs.lemmas.List.{length_push}
 use Rattle.csv.specs.Records.{fields_of}
 use Rattle.csv_text.specs.Reader.{IsNext, left_by}
 use Rattle.fact_csv.specs.Batch.{AreRead}
-use Rattle.fact_csv.proofs.Rows.{agree_all, few_all, few_so_far, read_all, refused_all, too_many, within_all}
+use Rattle.fact_csv.proofs.Rows.{agree_all, few_all, few_so_far, read_all, refused_all, too_many}
 use Rattle.fact_csv.proofs.batch.read_batch.Goals as goal
 
 pub with_row-so_far-requires-clause-few : goal.with_row-so_far-requires-clause-few
@@ -42,7 +42,6 @@ returns-then-not-branch c =
       read = read_all c.args.schema.now c.args.block.now so_far.rows left so_far.all none few c.batch_from.result read;
       refused = refused_all c.args.schema.now c.args.block.now so_far.rows left so_far.all none few c.batch_from.result read;
       agree = agree_all c.args.schema.now c.args.block.now so_far.rows left so_far.all none few c.batch_from.result read;
-      within = within_all c.args.schema.now c.args.block.now so_far.rows left so_far.all none few c.batch_from.result read;
       few = few_all c.args.schema.now c.args.block.now so_far.rows left so_far.all none few c.batch_from.result read;
     }
 
@@ -57,7 +56,6 @@ returns c =
       read = read_all c.args.schema.now c.args.block.now so_far.rows left so_far.all none few c.batch_from-2.result read;
       refused = refused_all c.args.schema.now c.args.block.now so_far.rows left so_far.all none few c.batch_from-2.result read;
       agree = agree_all c.args.schema.now c.args.block.now so_far.rows left so_far.all none few c.batch_from-2.result read;
-      within = within_all c.args.schema.now c.args.block.now so_far.rows left so_far.all none few c.batch_from-2.result read;
       few = few_all c.args.schema.now c.args.block.now so_far.rows left so_far.all none few c.batch_from-2.result read;
     }
 

@@ -1,10 +1,9 @@
 use Rattle.std.proofs.Common.{◌+◌, length, sym, ap, subst, ◌∙◌, arith}
 use Rattle.std.proofs.lemmas.List.{length_push}
 use Rattle.std.specs.List.{All}
-use Rattle.fact_model.specs.Limits.{HasNumbersWithin, reader_limit}
 use Rattle.cube_schema.specs.Agreeing.{Agrees}
 use Rattle.fact_batch.specs.Batch.{Draft}
-use Rattle.fact_gen.proofs.Made.{one_more, finished, facts_agree, facts_count, facts_within, stays_between}
+use Rattle.fact_gen.proofs.Made.{one_more, finished, facts_agree, facts_count, stays_between}
 use Rattle.fact_gen.proofs.facts.generate.Goals as goal
 
 pub loop-row-preserved : goal.loop-row-preserved
@@ -25,11 +24,6 @@ pub returns-clause-agree : goal.returns-clause-agree
 returns-clause-agree c =
     let all = finished c.args.schema.now c.loop-row.draws.state c.args.rows c.loop-row._row c.loop-row.builder.facts _ c.loop-row-test.false c.loop-row.invariant.facts in
     subst (All (Agrees c.args.schema.now)) (sym (c.finish.ensures ∙ all)) (facts_agree c.args.schema.now c.args.start c.args.rows c.requires.lawful)
-
-pub returns-clause-within : goal.returns-clause-within
-returns-clause-within c =
-    let all = finished c.args.schema.now c.loop-row.draws.state c.args.rows c.loop-row._row c.loop-row.builder.facts _ c.loop-row-test.false c.loop-row.invariant.facts in
-    subst (All (HasNumbersWithin reader_limit)) (sym (c.finish.ensures ∙ all)) (facts_within c.args.schema.now c.args.start c.args.rows)
 
 pub returns-clause-few : goal.returns-clause-few
 returns-clause-few c =

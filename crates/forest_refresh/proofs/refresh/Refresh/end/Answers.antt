@@ -91,8 +91,8 @@ returns-clause-any_moment g c = λ t accepted batch was.
     let body = body-all r c.self.invariant.begun done c.view_counts-counts.result told accepted batch mid.files both.read has in
     let side = side-all r c.self.invariant.begun done c.view_counts-counts.result told accepted batch mid.files both.read has in
     let names = more_names r.store.forest.schema accepted batch r.entries both.read.entries in
-    then-committed old.store.forest.schema accepted (accepted ++ batch) old.store.forest.body.last old.next.last (g.T.Site.disk c.args.site.now) mid new (c.step.ensures.told t) (c.step.ensures.any_moment t accepted batch was)
-    (subst (λ (b : Begun). LeavesOnly mid new (λ told files. (told ≡ mid.told) × KeepsEither b.store.forest.schema accepted b.store.forest.body.last (accepted ++ batch) b.next.last files)) (c.self.view_is ∙ c.step.ensures.same)
+    then-committed old.store.forest.body.format old.next.format old.store.forest.schema accepted (accepted ++ batch) old.store.forest.body.last old.next.last (g.T.Site.disk c.args.site.now) mid new (c.step.ensures.told t) (c.step.ensures.any_moment t accepted batch was)
+    (subst (λ (b : Begun). LeavesOnly mid new (λ told files. (told ≡ mid.told) × KeepsEither b.store.forest.body.format b.store.forest.schema accepted b.store.forest.body.last b.next.format (accepted ++ batch) b.next.last files)) (c.self.view_is ∙ c.step.ensures.same)
     (c.commit.ensures.any_moment t accepted (accepted ++ batch) still.0 still.1 both.read.fits both.read.all both.read.live.fits body names side))
 
 pub returns-clause-cost : goal.returns-clause-cost
