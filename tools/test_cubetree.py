@@ -27,6 +27,14 @@ class Room(unittest.TestCase):
         os.mkdir("w")
 
 
+def live_format(folder: str) -> int:
+    """The format of the pages of a warehouse, as its live body has it."""
+    with open(os.path.join(folder, "root"), "rb") as file:
+        root = file.read()
+    bodies = [root[1024 * slot : 1024 * slot + 1024] for slot in range(2) if root[2048 + slot : 2049 + slot] == b"\x01"]
+    return max(bodies, key=lambda body: body[16:24])[9]
+
+
 class Python(Room):
     def declared(self) -> cubetree.Warehouse:
         """A warehouse with a schema and these rows."""
@@ -75,6 +83,32 @@ class Python(Room):
         self.assertEqual(self.refused(warehouse.finish).reply, "refused nothing pending")
         with cubetree.open("w", wait=False) as other:
             self.assertEqual(other.slice("count"), [(6,)])
+
+    def test_upgrade(self) -> None:
+        """The pages have format 2 behind it, or behind the first batch with a number above 4,294,967,293; the answers stay."""
+        warehouse = self.declared()
+        answer = warehouse.slice("sum(qty),count by part,year")
+        warehouse.begin(ROWS[:1])
+        self.assertEqual(self.refused(warehouse.upgrade).reply, "refused pending")
+        warehouse.abandon()
+        self.assertEqual(live_format("w"), 1)
+        for _ in range(2):
+            warehouse.upgrade()
+            self.assertEqual(live_format("w"), 2)
+        self.assertEqual((warehouse.status(), warehouse.slice("sum(qty),count by part,year")), ((True, 4, None), answer))
+        greatest = (1 << 63) - 1
+        self.assertEqual(warehouse.load([("z", greatest, 1)]), 5)
+        self.assertEqual(warehouse.slice(f"count by part,year where year=4294967294..{greatest}"), [("z", greatest, 1)])
+        refused = self.refused(warehouse.load, [("z", 1, 1), ("z", greatest + 1, 1)])
+        self.assertEqual((refused.row, refused.field), (2, 2))
+        self.assertEqual(self.refused(warehouse.slice, f"count where year={greatest + 1}").byte, 18)
+        os.mkdir("v")
+        with cubetree.open("v") as other:
+            self.assertEqual(self.refused(other.upgrade).reply, "refused no schema")
+            other.declare(SCHEMA)
+            for number, wanted in [(4294967293, 1), (4294967294, 2), (1, 2)]:
+                other.load([("z", number, 1)])
+                self.assertEqual(live_format("v"), wanted)
 
     def test_refusals(self) -> None:
         warehouse = self.declared()

@@ -12,7 +12,7 @@ RECORD = re.compile(b"(?:" + UNPARTED + b",)*" + UNPARTED)
 END = re.compile(rb"\r\n|\n|\r")
 NUMBER = re.compile(rb"([+-]?)0*([0-9]{1,39})")
 LONGEST_ROW, LONGEST_LINE, LONGEST_TEXT = 1 << 16, 1 << 17, 255
-GREATEST_VALUE, GREATEST_NUMBER = 4_294_967_293, (1 << 127) - 1
+GREATEST_VALUE, GREATEST_NUMBER = (1 << 63) - 1, (1 << 127) - 1
 
 
 class Rows:

@@ -78,6 +78,10 @@ class Warehouse:
         """Drops the pending batch."""
         self._write(b"abandon\n")
 
+    def upgrade(self) -> None:
+        """Makes all pages anew in format 2, unless they have it; facts and answers stay as they are. It is refused while a batch is pending."""
+        self._write(b"upgrade\n")
+
     # ---- what asks
 
     def slice(self, text: str) -> Answer:

@@ -101,8 +101,8 @@ class Feeding(Case):
     def test_refused_rows(self) -> None:
         """Each row that is refused stands with its reason in the file, and all others are taken in."""
         unsendable = [b"end", b'"a\nend\nb",1,1', b'"a' + b" " * 70_000]
-        odd = [b"a,1", b"a,1,1,1", b"a,-1,1", b"a,4294967294,1", b"a,+,1", b"a,1,", b"a,1,1.5", b" ,1, 1", b"x" * 256 + b",1,1", b"a,1,%d" % (1 << 127)]
-        good = [b'"a""\nb",1,1', b'a"b,1,1', b'"a"b"c,1,1', b'"a\r",1,1', b",1,-%d" % (1 << 100), b"a,4294967293,+007", b"a,00000001,1", b"x" * 255 + b",-0,1", b" end,1,1"]
+        odd = [b"a,1", b"a,1,1,1", b"a,-1,1", b"a,%d,1" % (1 << 63), b"a,+,1", b"a,1,", b"a,1,1.5", b" ,1, 1", b"x" * 256 + b",1,1", b"a,1,%d" % (1 << 127)]
+        good = [b'"a""\nb",1,1', b'a"b,1,1', b'"a"b"c,1,1', b'"a\r",1,1', b",1,-%d" % (1 << 100), b"a,%d,+007" % ((1 << 63) - 1), b"a,00000001,1", b"x" * 255 + b",-0,1", b" end,1,1"]
         os.mkdir("one")
         blocks = b"".join(b"load\n" + row + b"\nend\n" for row in odd + good)
         replies = run(program(), given=f"schema\n{SCHEMA}end\n".encode() + blocks, cwd="one")[0].splitlines()[1:]

@@ -127,6 +127,18 @@ class LoadCsv(Case):
         self.assertEqual(self.rows("sum(one) by a"), [["x", "1"]])
         self.assertIn("no rows behind the header", load("--propose", self.put("file", "a,b\n"), status=1)[1])
 
+    def test_great_numbers(self):
+        """A column of numbers up to 2^63 - 1 may be an attribute, and one with a greater number is a measure."""
+        rows = [f"{4294967294 + i},{(1 << 63) - 1 - i},{(1 << 63) - i}" for i in range(3)]
+        self.put("file", "\n".join(["Call,Id,Past", *rows, ""]))
+        lines = [line for line in load("--propose", "file")[0].splitlines() if not line.startswith(("#", "view"))]
+        self.assertEqual(lines, ["schema", "attr call number", "attr id number", "measure past", "end"])
+        self.assertEqual(load("--into", "w", "file")[1].splitlines()[-1], "load-csv: 3 rows loaded; the folder keeps 3 facts")
+        self.assertEqual(self.rows("sum(past) by call,id where call=4294967295..9223372036854775807"), [row.split(",") for row in rows[1:]])
+        self.put("file", f"call,id,past\n1,{1 << 63},1\n")
+        said = load("--into", "w", "--from-row", "1", "file", status=1)[1]
+        self.assertIn("row 1 (line 2) was refused: id is no whole number, or is out of range: '9223372036854775808'; the folder keeps 3 facts", said)
+
     def test_cut_and_started_again(self):
         """A run that is killed at some moment, or the loader, or both: the sums are those of sqlite3 over the same file."""
         draw = random.Random(35)

@@ -46,6 +46,12 @@ class RefreshSlowly(Case):
         run(program(), given=f"schema\n{SCHEMA}end\nload\nbolt,1997,5\nnut,1997,-2\nbolt,1998,4\nend\n".encode(), cwd="f")
         said = self.refresh("--in", "f", self.put("two", "bolt,1999,1\nnut,1999,1\n"))[1]
         self.assertIn("refresh-slowly: 17 moves in 1 step", said)
+        # In pages of format 2, which the number 4,294,967,294 asks for, 65 points have two leaves and a page over them.
+        os.mkdir("n")
+        rows = "".join(f"{number},1\n" for number in range(64))
+        run(program(), given=f"schema\nattr n number\nmeasure m\nview n\nend\nload\n{rows}end\n".encode(), cwd="n")
+        for row, moves in [("4294967294,1\n", 1 + 65 + 3), ("5,1\n", 3 + 65 + 3)]:
+            self.assertIn(f"refresh-slowly: {moves} moves in 1 step", self.refresh("--in", "n", self.put("one", row))[1])
         said = self.refresh("--in", "f", self.put("none", ""))[1]
         self.assertIn("refresh-slowly: 0 rows accepted; the folder keeps 5 facts\nrefresh-slowly: 0 moves in no step", said)
 
