@@ -16,7 +16,7 @@ ghost use Rattle.range_scan.specs.Visits.{hits, met, page_of};
 
 use crate::ends::is_whole;
 use crate::walk::{Query, SearchStop};
-use cube_point::{Shape, meets};
+use cube_point::{Region, Shape, meets};
 use fact_model::Memory;
 use page_fmt::{Head, Node, PAGE, inner_entry, lent_entry};
 use point_taker::Taker;
@@ -97,8 +97,10 @@ fn take_all<G: Taker>(
     Ok(())
 }
 
-/// Gives the points of a leaf that lie in the region to the taker, each tested. It stands apart, so that its loop has all registers.
+/// Gives the points of a leaf that lie in the region to the taker, each tested. It stands apart, so that its loops have all registers, and asks once
+/// whether coordinates are wide.
 #[inline(never)]
+#[tactic(auto, using(page_fmt::proofs::Widths::as_it_is))]
 fn take_inside<G: Taker>(
     page: &[u8; PAGE],
     query: &Query<'_>,
@@ -112,9 +114,40 @@ fn take_inside<G: Taker>(
     ensures { (start : G) (es : List points.Entry) → G.was_given start es taker.old → OnOk result (G.was_given start
         (es ++ filter (is_inside query.now.region.now) (entries query.now.tree.now.shape page.now)) taker.new) }
 {
+    let shape = &query.tree.shape;
+    if shape.wide {
+        let wide = Shape {
+            wide: true,
+            ..*shape
+        };
+        return take_by(page, &wide, query.region, count, taker);
+    }
+    let narrow = Shape {
+        wide: false,
+        ..*shape
+    };
+    take_by(page, &narrow, query.region, count, taker)
+}
+
+/// The same, for pages of this shape.
+#[inline(always)]
+fn take_by<G: Taker>(
+    page: &[u8; PAGE],
+    shape: &Shape,
+    region: &Region,
+    count: u16,
+    taker: &mut G,
+) -> Result<(), Memory>
+    requires page { HasEntries shape.now page.now }
+    requires said { count ≡ page_count page.now }
+    requires count { count ≡ length (entries shape.now page.now) }
+
+    ensures { (start : G) (es : List points.Entry) → G.was_given start es taker.old → OnOk result (G.was_given start
+        (es ++ filter (is_inside region.now) (entries shape.now page.now)) taker.new) }
+{
     for index in 0..count as usize {
-        let entry = lent_entry(page, &query.tree.shape, index);
-        if entry.is_inside(query.region) {
+        let entry = lent_entry(page, shape, index);
+        if entry.is_inside(region) {
             taker.take(&entry)?;
         }
     }

@@ -4,13 +4,13 @@ use Rattle.page_fmt.specs.Taking.{entries}
 use Rattle.range_scan.specs.Meeting.{is_inside}
 use Rattle.range_scan.proofs.Lists.{keeps, skips}
 use Rattle.range_scan.proofs.Tests.{inside-is}
-use Rattle.range_scan.proofs.page.take_inside.Goals as goal
-use Rattle.range_scan.proofs.page.take_inside.Goals.{then-is_inside+in_ok-take, else-is_inside}
+use Rattle.range_scan.proofs.page.take_by.Goals as goal
+use Rattle.range_scan.proofs.page.take_by.Goals.{then-is_inside+in_ok-take, else-is_inside}
 
 pub loop-index-preserved : goal.loop-index-preserved
 loop-index-preserved g c = λ start es given.
-    let region = c.args.query.now.region.now in
-    let all = entries c.args.query.now.tree.now.shape c.args.page.now in
+    let region = c.args.region.now in
+    let all = entries c.args.shape.now c.args.page.now in
     let i = c.loop-index.index in
     let e = c.lent_entry-entry.result in
     let low : i < length all = omega arith in
