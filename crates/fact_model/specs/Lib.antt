@@ -1,3 +1,4 @@
+pub mod Adds
 pub mod Cell
 pub mod Distinct
 pub mod Fact

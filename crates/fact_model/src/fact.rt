@@ -13,7 +13,7 @@ pub const LONGEST_TEXT: usize = 255;
 pub const GREATEST_NUMBER: u64 = 9_223_372_036_854_775_807;
 
 /// A value of an attribute. Numbers are ordered by value, and texts by their bytes.
-#[derive(Clone, Debug, PartialEq, Eq, PartialOrd, Ord, Drop)]
+#[derive(Clone, Debug, PartialEq, Eq, PartialOrd, Ord, Hash, Drop)]
 pub enum Value {
     /// The value of a text attribute.
     Word(Text),
