@@ -5,7 +5,7 @@ use Rattle.std.specs.declared.cmp.Ordering.{Ordering}
 use Rattle.std.specs.Cmp.{Equal-is}
 use Rattle.std.specs.FinMap.{IsAntisymmetric}
 use Rattle.std.specs.Ordering.{is_eq}
-use Rattle.view_points.specs.Squeezed.{onto, squeezed}
+use Rattle.row_fold.specs.Squeezed.{onto, squeezed}
 
 module _ {K : Type 0} (R : K → K → Ordering) (only : IsAntisymmetric R) {C : Type 0} (join : C → C → C) (assoc : (a b c : C) → join (join a b) c ≡ join a (join b c)) where
   -- an entry in front of one of its key, and of one of another

@@ -1,0 +1,12 @@
+pub mod Adding
+pub mod FoldLaws
+pub mod Grouping
+pub mod Groups
+pub mod JoinSteps
+pub mod Merges
+pub mod Neighbours
+pub mod NumberJoins
+pub mod Regroup
+pub mod Shuffles
+pub mod Sorts
+pub mod Squeezes

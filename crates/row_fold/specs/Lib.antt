@@ -1,0 +1,6 @@
+pub mod Ascends
+pub mod Folds
+pub mod Joins
+pub mod Laws
+pub mod Merge
+pub mod Squeezed

@@ -1,0 +1,9 @@
+//! One fold of rows: rows of which a part of the key is the same are joined, counts and sums added, and of least and greatest numbers the
+//! least and the greatest kept. Folding the rows of facts is grouping the facts.
+#![tactic(auto)]
+
+mod joining;
+mod laws;
+
+pub use joining::join_numbers;
+pub use laws::{lists_of_facts_fold, lists_of_facts_join, rows_of_facts_add, rows_of_facts_fold};
