@@ -21,13 +21,10 @@ use Rattle.fact_model.proofs.Masses.{mass-cons}
 use Rattle.row_fold.specs.Folds.{KeepsMass}
 use Rattle.row_fold.specs.Joins.{join_numbers, size_at}
 use Rattle.row_fold.specs.Laws.{RowsAdd}
+use Rattle.row_fold.specs.Taking.{group_size}
 use Rattle.row_fold.proofs.FoldLaws.{facts-grouped}
 use Rattle.row_fold.proofs.Grouping.{grouped, put}
 use Rattle.row_fold.proofs.NumberJoins.{numbers-length, numbers-size, one}
-
--- the magnitude of a group's number of a column
-abbrev pub group_size : ℕ → Key × List ℤ → ℕ
-group_size i g = size_at i g.1
 
 module _ (cs : List Column) (k : Key) (ns : List ℤ) where
   -- a group more adds no more than its numbers

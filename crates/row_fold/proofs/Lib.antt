@@ -1,11 +1,13 @@
 pub mod Adding
 pub mod FoldLaws
+pub mod FoldSteps
 pub mod Grouping
 pub mod Groups
 pub mod JoinSteps
 pub mod Merges
 pub mod Neighbours
 pub mod NumberJoins
+pub mod Puts
 pub mod Regroup
 pub mod Shuffles
 pub mod Sorts

@@ -2,8 +2,12 @@
 //! least and the greatest kept. Folding the rows of facts is grouping the facts.
 #![tactic(auto)]
 
+mod fold;
 mod joining;
 mod laws;
+mod lent;
 
+pub use fold::RowFold;
 pub use joining::join_numbers;
 pub use laws::{lists_of_facts_fold, lists_of_facts_join, rows_of_facts_add, rows_of_facts_fold};
+pub use lent::LentValue;
