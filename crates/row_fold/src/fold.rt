@@ -13,6 +13,7 @@ use std::collections::BTreeMap;
 use std::marker::Model;
 
 /// Groups of rows, which contracts see as the list of their keys and numbers, ascending by key.
+#[derive(Drop)]
 pub struct RowFold<'a> {
     groups: Groups<'a>,
 }

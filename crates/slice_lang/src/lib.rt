@@ -12,4 +12,5 @@ mod write;
 
 pub use read::read_slice;
 pub use refusal::SliceRefusal;
+pub use values::read_coordinate;
 pub use write::write_slice;

@@ -178,8 +178,8 @@ fn place_of_dots(text: &[u8]) -> usize
     text.len()
 }
 
-/// A number that a number attribute may have.
-fn read_coordinate(text: &[u8]) -> Option<u64>
+/// The number that a text writes, if a number attribute may have it.
+pub fn read_coordinate(text: &[u8]) -> Option<u64>
     ensures { result ≡ coordinate_in text.now }
 {
     match read_number(text) {

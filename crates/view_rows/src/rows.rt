@@ -1,5 +1,5 @@
-//! The rows of a slice, which are made when they are written.
-ghost use Rattle.std.specs.Prelude.{◌≡◌, ◌<◌, [], All, OnErr, OnOk, get_or, length, map};
+//! The rows of a slice, which are made when they are written or asked for.
+ghost use Rattle.std.specs.Prelude.{◌≡◌, ◌<◌, [], All, IfOk, OnErr, OnOk, get_or, length, map};
 ghost use Rattle.std.specs.Fmt.{signed_decimal};
 ghost use Rattle.csv_text.specs.Rows.{nothing_written, row_fields, value_text, with_end, with_field, with_fields, with_rows};
 ghost use Rattle.fact_model.specs.Cell.{part_of};
@@ -7,15 +7,17 @@ ghost use Rattle.view_points.specs.Answer.{column_of, row_from};
 ghost use Rattle.view_rows.specs.Grouped.{key_of_entry, keyed, value_at_code};
 
 use crate::keys::coordinate;
+use crate::making::rows_made;
 use crate::ordered::OrderedPoints;
 use attr_dict::{Dicts, ValueRef};
 use csv_text::RowWriter;
 use cube_point::Entry;
-use fact_model::{Cell, Column, Memory, Part, Slice};
+use fact_model::{Cell, Column, Memory, Part, Rows, Slice};
+use std::alloc::Global;
 use std::marker::Model;
 
 /// The rows of a slice, which contracts see as the list of the rows. Of each there is the point that it is of; its values and numbers are
-/// made when it is written.
+/// made when it is written or asked for.
 #[derive(Drop)]
 pub struct SliceRows<'a> {
     names: &'a Dicts,
@@ -61,6 +63,13 @@ impl<'a> SliceRows<'a> {
         ensures { result ≡ length self.now }
     {
         self.points.len()
+    }
+
+    /// The rows, each with its values and numbers made.
+    pub fn to_rows(&self, alloc: Global) -> Result<Rows, Memory>
+        ensures { IfOk result (λ rows. rows ≡ self.now) }
+    {
+        rows_made(alloc, self.names, self.view, self.slice, &self.points)
     }
 
     /// Writes the rows, where no row has begun. Want of memory alone makes it fail, and the writer is then as a new one.
@@ -155,7 +164,7 @@ fn push_numbers(columns: &[Column], cell: &Cell, writer: &mut RowWriter) -> Resu
 }
 
 /// A column of a cell, which is 0 for a measure that a cell does not have.
-fn column_of(cell: &Cell, column: Column) -> i128
+pub(crate) fn column_of(cell: &Cell, column: Column) -> i128
     ensures { result ≡ column_of cell.now column }
 {
     match column {

@@ -1,0 +1,94 @@
+//! The rows of points, made.
+ghost use Rattle.std.specs.Prelude.{◌≡◌, ◌<◌, All, IfOk, length, map};
+ghost use Rattle.view_points.specs.Answer.{column_of, row_from};
+ghost use Rattle.view_rows.specs.Grouped.{key_of_entry, keyed, value_at_code};
+
+use crate::keys::coordinate;
+use crate::ordered::OrderedPoints;
+use crate::rows::column_of;
+use attr_dict::{Dicts, ValueRef};
+use cube_point::Entry;
+use fact_model::{
+    Cell, Column, ListOf, Memory, NumberList, Row, Rows, Slice, Text, Value, ValueList,
+};
+use std::alloc::Global;
+
+/// The row of each point.
+pub(crate) fn rows_made(
+    alloc: Global,
+    names: &Dicts,
+    view: &[u32],
+    slice: &Slice,
+    points: &OrderedPoints,
+) -> Result<Rows, Memory>
+    requires { All (λ a. a < length names.now.kinds) slice.now.group }
+    ensures { IfOk result (λ rows. rows ≡ map (row_from slice.now.columns) (map (keyed names.now view.now slice.now.group) points.now)) }
+{
+    let mut rows = ListOf::new(alloc);
+    for place in 0..points.len() {
+        rows.push(row_made(alloc, names, view, slice, points.at(place))?)?;
+    }
+    Ok(rows)
+}
+
+/// The row of a point.
+fn row_made(
+    alloc: Global,
+    names: &Dicts,
+    view: &[u32],
+    slice: &Slice,
+    entry: &Entry,
+) -> Result<Row, Memory>
+    requires { All (λ a. a < length names.now.kinds) slice.now.group }
+    ensures { IfOk result (λ row. row ≡ row_from slice.now.columns (keyed names.now view.now slice.now.group entry.now)) }
+{
+    Ok(Row {
+        key: key_made(alloc, names, view, slice.group.as_slice(), entry)?,
+        numbers: numbers_made(alloc, slice.columns.as_slice(), &entry.cell)?,
+    })
+}
+
+/// The values of the grouped attributes at a point.
+fn key_made(
+    alloc: Global,
+    names: &Dicts,
+    view: &[u32],
+    group: &[u32],
+    entry: &Entry,
+) -> Result<ValueList, Memory>
+    requires { All (λ a. a < length names.now.kinds) group.now }
+    ensures { IfOk result (λ key. key ≡ key_of_entry names.now view.now group.now entry.now) }
+{
+    let mut key = Vec::with_capacity(alloc, group.len())?;
+    for attr in group {
+        let code = coordinate(view, &entry.point.at, *attr);
+        key.push(value_made(alloc, names, *attr, code)?)?;
+    }
+    Ok(ListOf::from_vec(key))
+}
+
+/// The value that a coordinate of an attribute stands for, and the number 0 where there is none.
+fn value_made(alloc: Global, names: &Dicts, attr: u32, code: u64) -> Result<Value, Memory>
+    requires { attr < length names.now.kinds }
+    ensures { IfOk result (λ value. value ≡ value_at_code names.now attr code) }
+{
+    match names.value_of(attr, code) {
+        Some(ValueRef::Word(text)) => {
+            let copy = Text::from_bytes(alloc, text.as_bytes())?;
+            Ok(Value::Word(copy))
+        }
+        Some(ValueRef::Number(number)) => Ok(Value::Number(number)),
+        None => Ok(Value::Number(0)),
+    }
+}
+
+/// The columns of a cell.
+fn numbers_made(alloc: Global, columns: &[Column], cell: &Cell) -> Result<NumberList, Memory>
+    ensures { IfOk result (λ numbers. numbers ≡ map (column_of cell.now) columns.now) }
+{
+    let mut numbers = Vec::with_capacity(alloc, columns.len())?;
+    for column in columns {
+        numbers.push(column_of(cell, *column))?;
+    }
+    Ok(ListOf::from_vec(numbers))
+}
