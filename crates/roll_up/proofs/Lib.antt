@@ -1,0 +1,10 @@
+pub mod Agreed
+pub mod Amongs
+pub mod Answered
+pub mod Bases
+pub mod Fields
+pub mod Lawful
+pub mod Lifts
+pub mod Readings
+pub mod Theorem
+pub mod Values

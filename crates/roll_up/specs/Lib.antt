@@ -1,0 +1,5 @@
+pub mod Bases
+pub mod Levels
+pub mod Lifted
+pub mod Parents
+pub mod Reading

@@ -1,0 +1,114 @@
+//! The keys of base rows, rolled up.
+ghost use Rattle.std.specs.Prelude.{◌≡◌, OnOk, map, unwrap_or, option_copied};
+ghost use Rattle.fact_model.specs.declared.fact.Value.TheVariants as values;
+ghost use Rattle.row_fold.specs.Lent.{value_of};
+ghost use Rattle.roll_up.specs.Bases.{base};
+ghost use Rattle.roll_up.specs.Lifted.{is_kept, is_met, rolled, value_for, value_in};
+ghost use Rattle.roll_up.specs.Parents.{parent_of};
+
+use crate::level::Level;
+use fact_model::{Cond, Memory, Slice, Value};
+use row_fold::LentValue;
+
+/// What a roll-up asks of the base rows.
+#[derive(Clone, Copy)]
+pub(crate) struct Lifting<'a> {
+    /// How many attributes there are. From there on a number names a level.
+    pub(crate) arity: u32,
+    /// The levels.
+    pub(crate) levels: &'a [Level],
+    /// The slice by the extended schema.
+    pub(crate) slice: &'a Slice,
+    /// What the base slice groups by.
+    pub(crate) group: &'a [u32],
+}
+
+impl<'a> Lifting<'a> {
+    /// Makes these values the key of a base row, rolled up.
+    pub(crate) fn roll(
+        &self,
+        key: &'a [Value],
+        values: &mut Vec<LentValue<'a>>,
+    ) -> Result<(), Memory>
+        requires { self.now.group.now ≡ (base self.now.arity self.now.levels.now self.now.slice.now).group }
+        ensures { OnOk result (map value_of values.new.items ≡ rolled self.now.arity self.now.levels.now self.now.slice.now key.now) }
+    {
+        values.clear();
+        for attr in self.slice.group.as_slice() {
+            values.push(self.value(key, *attr))?;
+        }
+        Ok(())
+    }
+
+    /// Whether the key of a base row meets the conditions on levels.
+    pub(crate) fn keeps(&self, key: &'a [Value]) -> bool
+        requires { self.now.group.now ≡ (base self.now.arity self.now.levels.now self.now.slice.now).group }
+        ensures { result ≡ is_kept self.now.arity self.now.levels.now self.now.slice.now key.now }
+    {
+        for cond in self.slice.conds.as_slice() {
+            if cond.attr() >= self.arity && !is_met(cond, self.value(key, cond.attr())) {
+                return false;
+            }
+        }
+        true
+    }
+
+    /// A base row's value of an attribute of the extended schema. It is the number 0 for one that there is not.
+    fn value(&self, key: &'a [Value], attr: u32) -> LentValue<'a>
+        requires { self.now.group.now ≡ (base self.now.arity self.now.levels.now self.now.slice.now).group }
+        ensures { value_of result ≡ value_in self.now.arity self.now.levels.now self.now.slice.now key.now attr }
+    {
+        if attr < self.arity {
+            return value_or_zero(value_for(self.group, key, attr));
+        }
+        match self.levels.get((attr - self.arity) as usize) {
+            Some(level) => LentValue::Word(parent_for(self.group, key, level)),
+            None => LentValue::Number(0),
+        }
+    }
+}
+
+/// A key's value of an attribute, if it is grouped.
+fn value_for<'a>(group: &[u32], key: &'a [Value], attr: u32) -> Option<&'a Value>
+    ensures { unwrap_or (option_copied result) (values.Number 0) ≡ value_for group.now key.now attr }
+{
+    for i in 0..group.len().min(key.len()) {
+        if group[i] == attr {
+            return Some(&key[i]);
+        }
+    }
+    None
+}
+
+/// The parent that a level gives the value of its attribute in a key.
+fn parent_for<'a>(group: &[u32], key: &[Value], level: &'a Level) -> &'a [u8]
+    ensures { result.now ≡ parent_of level.now.parents (value_for group.now key.now level.now.attr) }
+{
+    match value_for(group, key, level.attr) {
+        Some(value) => level.parents.parent(value),
+        None => level.parents.parent(&Value::Number(0)),
+    }
+}
+
+/// The value, or the number 0 where there is none.
+fn value_or_zero<'a>(value: Option<&'a Value>) -> LentValue<'a>
+    ensures { value_of result ≡ unwrap_or (option_copied value.entry) (values.Number 0) }
+{
+    match value {
+        Some(value) => LentValue::of(value),
+        None => LentValue::Number(0),
+    }
+}
+
+/// Whether the value meets the condition.
+fn is_met(cond: &Cond, value: LentValue<'_>) -> bool
+    ensures { result ≡ is_met cond.now (value_of value.entry) }
+{
+    match cond {
+        Cond::Equal { value: wanted, .. } => LentValue::of(wanted).cmp(&value).is_eq(),
+        Cond::Between { low, high, .. } => match value {
+            LentValue::Number(number) => *low <= number && number <= *high,
+            LentValue::Word(_) => false,
+        },
+    }
+}
