@@ -1,5 +1,5 @@
 -- Rows as text.
-use Rattle.std.specs.Prelude.{ℕ, List, [], ◌∷◌, ◌++◌, map, flat_map, decimal}
+use Rattle.std.specs.Prelude.{ℕ, List, [], ◌∷◌, ◌++◌, map, flat_map, codes, decimal}
 use Rattle.std.specs.Fmt.{signed_decimal}
 use Rattle.csv.specs.Writing.{default_writer, row_text}
 use Rattle.fact_model.specs.declared.fact.Value.{Value}
@@ -43,3 +43,7 @@ with_end written = record { text = written.text ++ row_text default_writer writt
 -- these rows more
 abbrev pub with_rows : Written → List (List (List ℕ)) → Written
 with_rows written rows = record { text = written.text ++ rows_text rows; fields = written.fields }
+
+-- a text of rows, and then a line with their number
+abbrev pub with_count : List ℕ → ℕ → List ℕ
+with_count text count = text ++ (codes "rows " ++ (decimal count ++ 10 ∷ []))

@@ -4,7 +4,7 @@ ghost use Rattle.std.specs.Fmt.{signed_decimal};
 ghost use Rattle.csv.specs.Records.{fields_of};
 ghost use Rattle.csv.specs.Writing.{default_writer, fields_written, has_written, row_text, with_flexible, writer_setup};
 ghost use Rattle.csv_text.specs.Between.{IsBetween, text_of};
-ghost use Rattle.csv_text.specs.Rows.{nothing_written, with_field, with_end};
+ghost use Rattle.csv_text.specs.Rows.{nothing_written, with_count, with_field, with_end};
 
 use csv::{ByteRecord, Writer, WriterBuilder};
 use fact_model::Memory;
@@ -99,6 +99,16 @@ impl RowWriter {
             // Over memory `csv` fails for want of memory alone.
             Err(_) => Err(Memory),
         }
+    }
+
+    /// The text of the rows that have ended, and then a line with their number, which is `count`.
+    pub fn into_answer(self, count: u64) -> Result<Vec<u8>, Memory>
+        ensures { IfOk result (λ text. text.items ≡ with_count self.text count) }
+    {
+        let last = format!(in self.alloc; "rows {count}\n")?;
+        let mut text = self.into_text()?;
+        text.extend_from_slice(last.as_bytes())?;
+        Ok(text)
     }
 }
 

@@ -1,14 +1,16 @@
 -- A slice is carried out: it is only answered, or it goes to the pages of a view.
 use Rattle.cube_slices.proofs.Names.{RepliesAlone, no_schema, SideStays, Vec, Global, Agrees, LiesIn, GivesFound, StopCause, Option, Result, List, sym, subst, ap, Some, ◌∙◌, None, ◌≡◌, ℕ, length}
 use Rattle.cube_slices.proofs.Names.{inr, refl, arith, Bool, true, false, cond, inl, true≢false, Ok, IsTrue, Err, IfErr, ◌≤◌, ◌+◌, IfOk, OnOk, cases_Bool, IfOk-weaker, ◌↔◌, IsErrOf, HasCauseWhere}
-use Rattle.cube_slices.proofs.Names.{Disk, Files, Looks, Ghosts, rows, Fact, Row, Slice, Schema, Picks, covers, Cache, HasRoom, Keeps, Body, Store, side_of, IsStoreOf, Command, same-cost, IsJudged}
+use Rattle.cube_slices.proofs.Names.{Disk, Files, Looks, Ghosts, rows, Fact, Row, Slice, Schema, IsPicked, covers, Cache, HasRoom, Keeps, Body, Store, side_of, IsStoreOf, Command, same-cost, IsJudged}
 use Rattle.cube_slices.proofs.Names.{IsUncovered, visits_of, AnswerStop, slice_of, SliceRefusal, answer_text, line, not_covered, act_slice, Answer, act, asked_by, asked_over, asked_slice}
 use Rattle.cube_slices.proofs.Names.{slice_over, slice_reply, covered, is_covered, Kept, Warehouse, World, OnlyNow, fit_rests, resting, stands_rests, holds, kept_same, OnlySays, runs_out_as}
 use Rattle.cube_slices.proofs.Names.{only_replies, attends_belongs, spares_same, AreLive, KeepsUp, Saves, Fits, FitsLive, live_file, live_of, ByWorld, CarriesOut, IsReadyFor, OverAnyFiles, Reply}
 use Rattle.cube_slices.proofs.Names.{Spares, Gives, Cost, Spends, IsQuiet, Belongs, Stands, IsAnswer, GivesRead, TellsSpoilt, SliceGives, SliceTells, IsNoDamage, GoesFrom, GoesOver, GoesTo}
 use Rattle.cube_slices.proofs.Names.{ReadsFor, ReadsFrom, asked_from, asks_pages, is_asked, store_of, State, Empty, Idle, Hollow, Pending, Stop, subst₂, IsUndamaged}
 use Rattle.cube_slices.specs.Told.{Tells, answer_stop}
-use Rattle.cube_state.proofs.SliceCosts.{none-covers, some-covers}
+use Rattle.cube_state.proofs.SliceCosts.{none-covers, picked-one, some-covers}
+use Rattle.slice_exec.specs.Answering.{AnswersFrom}
+use Rattle.slice_exec.specs.Searching.{SearchesView}
 use Rattle.cube_state.specs.Moves.{format_in, format_of}
 
 same_in : {A : Type 0} {x y : A} → Some x ≡ Some y → x ≡ y
@@ -110,23 +112,11 @@ module _ {S : Type 0} (T : Ghosts S) (old new : S) (store : Store) (before after
   Stored P = Known ((facts : List Fact) → IsStoreOf store facts (T.disk old).files → P facts)
 
   abbrev Visited : (List ℕ → Type 0) → Type 0
-  Visited P = Known ((view : ℕ) → Picks store.forest.schema.views store.forest.body.counts s view → P (visits_of store s view (T.disk old).files))
+  Visited P = Known ((view : ℕ) → IsPicked store.forest.schema.views store.forest.body.counts s view → P (visits_of store s view (T.disk old).files))
 
   -- what the answer to a slice promises
-  pub record Answers (answer : Result (List Row) AnswerStop) : Type 0 where
-    pub rows : Stored (λ facts. IfOk answer (λ found. found ≡ rows facts s))
-    pub undamaged : Stored (λ facts. IfErr answer IsUndamaged)
-    pub uncovered : IsErrOf answer AnswerStop.NotCovered ↔ IsUncovered store.forest.schema s
-    pub visits : Visited (λ numbers. T.reads new ≤ T.reads old + length numbers)
-    pub saves : Visited (λ numbers. Saves before (side_of store.forest.body) numbers (T.reads old) (T.reads new))
-    pub keeps : Visited (λ numbers. HasRoom before (side_of store.forest.body) numbers → OnOk answer (Keeps before after (side_of store.forest.body) numbers))
-    pub agrees : Known (Agrees (T.disk new).files after)
-    pub judged : Known ((view : ℕ) → Picks store.forest.schema.views store.forest.body.counts s view → IsJudged store s view (T.disk old).files answer)
-    pub untouched : IsErrOf answer AnswerStop.NotCovered → new ≡ old
-    pub unasked : IsErrOf answer AnswerStop.NotCovered → after ≡ before
-    pub lies : LiesIn (side_of store.forest.body) before → LiesIn (side_of store.forest.body) after
-    pub capacity : after.capacity ≡ before.capacity
-    pub looks : Looks T (HasCauseWhere AnswerStop.Disk) old new answer
+  abbrev pub Answers : Result (List Row) AnswerStop → Type 0
+  Answers answer = AnswersFrom T (λ counts view. IsPicked store.forest.schema.views counts s view) store s old new before after answer
 
   -- what is told of it, where some view covers the slice
   record Ends (result : Reply) : Type 0 where
@@ -137,35 +127,48 @@ module _ {S : Type 0} (T : Ghosts S) (old new : S) (store : Store) (before after
     pub answered : Known (IfOk result (λ reply. GivesFound store (T.disk old).files s reply.items))
     pub quiet : IsQuiet T old new result
 
-  stops_by : (answer : Result (List Row) AnswerStop) → Answers answer → (stop : Stop) → StopCause (T.disk_faults old) (T.disk_faults new) (T.told_faults old) (T.told_faults new) stop
-      → Stored (λ facts. IsNoDamage stop) → Known (TellsSpoilt store (T.disk old).files (Some s) stop) → Ends (Err stop)
-  stops_by answer is stop cause undamaged damage =
-      let quiet : IsQuiet {A = Vec ℕ Global} T old new (Err stop) = record { told = λ t. (is.looks.disk t).told; cause = cause; disk_faults = tt; told_faults = is.looks.told_faults } in
-      assumption (undamaged, damage, quiet)
-
   module _ (covers : is_covered store.forest.schema s ≡ true) where
+    pub picked : (view : ℕ) × IsPicked store.forest.schema.views store.forest.body.counts s view
+    picked = let some = some-covers store.forest.schema s covers in picked-one store.forest.schema.views store.forest.body.counts s some.0 some.1
+
+    -- the tree of the view picked is searched
+    pub searched : (answer : Result (List Row) AnswerStop) → Answers answer → SearchesView T store s picked.0 old new before after answer
+    searched answer is = is.search picked.0 picked.1
+
+    stops_by : (answer : Result (List Row) AnswerStop) → Answers answer → (stop : Stop) → StopCause (T.disk_faults old) (T.disk_faults new) (T.told_faults old) (T.told_faults new) stop
+        → Stored (λ facts. IsNoDamage stop) → Known (TellsSpoilt store (T.disk old).files (Some s) stop) → Ends (Err stop)
+    stops_by answer is stop cause undamaged damage =
+        let looks = (searched answer is).tree.looks in
+        let quiet : IsQuiet {A = Vec ℕ Global} T old new (Err stop) = record { told = λ t. (looks.disk t).told; cause = cause; disk_faults = tt; told_faults = looks.told_faults } in
+        assumption (undamaged, damage, quiet)
+
     not_uncovered : Answers (Err AnswerStop.NotCovered) → ⊥
     not_uncovered is = let some = some-covers store.forest.schema s covers in is.uncovered.0 refl some.0 some.1
 
     stop_ends : (answer : Result (List Row) AnswerStop) → Answers answer → Ends (Err (answer_stop answer))
-    stop_ends (Ok found) is = stops_by (Ok found) is Stop.Memory (is.looks.cause.ok, is.looks.told_faults) (λ t agree facts stored. tt) (λ t agree. tt)
+    stop_ends (Ok found) is =
+        let looks = (searched (Ok found) is).tree.looks in
+        stops_by (Ok found) is Stop.Memory (looks.cause.ok, looks.told_faults) (λ t agree facts stored. tt) (λ t agree. tt)
     stop_ends (Err AnswerStop.NotCovered) is = absurd (not_uncovered is)
     stop_ends (Err AnswerStop.Disk) is =
-        stops_by (Err AnswerStop.Disk) is Stop.Disk ((is.looks.cause.failed refl, is.looks.cause.once), is.looks.told_faults) (λ t agree facts stored. tt) (λ t agree. tt)
+        let looks = (searched (Err AnswerStop.Disk) is).tree.looks in
+        stops_by (Err AnswerStop.Disk) is Stop.Disk ((looks.cause.failed refl, looks.cause.once), looks.told_faults) (λ t agree facts stored. tt) (λ t agree. tt)
     stop_ends (Err (AnswerStop.Damaged file offset)) is =
-        stops_by (Err (AnswerStop.Damaged file offset)) is (Stop.Damaged file offset) (is.looks.cause.other (damaged_no_fault file offset), is.looks.told_faults) is.undamaged is.judged
+        let looks = (searched (Err (AnswerStop.Damaged file offset)) is).tree.looks in
+        stops_by (Err (AnswerStop.Damaged file offset)) is (Stop.Damaged file offset) (looks.cause.other (damaged_no_fault file offset), looks.told_faults) is.undamaged is.judged
     stop_ends (Err AnswerStop.Memory) is =
-        stops_by (Err AnswerStop.Memory) is Stop.Memory (is.looks.cause.other memory_no_fault, is.looks.told_faults) (λ t agree facts stored. tt) (λ t agree. tt)
+        let looks = (searched (Err AnswerStop.Memory) is).tree.looks in
+        stops_by (Err AnswerStop.Memory) is Stop.Memory (looks.cause.other memory_no_fault, looks.told_faults) (λ t agree facts stored. tt) (λ t agree. tt)
 
     ends_by : (answer : Result (List Row) AnswerStop) → Answers answer → (result : Reply) → Tells answer result → Ends result
     ends_by answer is (Err stop) told = subst (λ (e : Stop). Ends (Err e)) (sym told) (stop_ends answer is)
-    ends_by (Ok found) is (Ok reply) told = record {
+    ends_by (Ok found) is (Ok reply) told = let looks = (searched (Ok found) is).tree.looks in record {
       replied = λ t agree facts stored. sym (same_in told) ∙ ap answer_text (is.rows t agree facts stored);
       undamaged = λ t agree facts stored. tt;
-      keeps = is.keeps;
+      keeps = λ t agree view picks. (is.search view picks).tree.keeps t agree;
       damage = λ t agree. tt;
       answered = λ t agree. (Some found, (covers, is.judged t agree), sym (same_in told));
-      quiet = record { told = λ t. (is.looks.disk t).told; cause = tt; disk_faults = is.looks.cause.ok; told_faults = is.looks.told_faults };
+      quiet = record { told = λ t. (looks.disk t).told; cause = tt; disk_faults = looks.cause.ok; told_faults = looks.told_faults };
     }
     ends_by (Err AnswerStop.NotCovered) is (Ok reply) told = absurd (not_uncovered is)
     ends_by (Err _) is (Ok reply) told = absurd (none_some told)
@@ -184,9 +187,6 @@ module _ {S : Type 0} (T : Ghosts S) (old new : S) (state : State) (store : Stor
   fitting : IsTrue T.tells → AreLive store.forest.body (T.disk old).files before
   fitting t = subst (λ (b : Option Body). FitsLive b (T.disk old).files before) live (ready.fits t)
 
-  fits : IsTrue T.tells → Fits state (T.disk new).files after
-  fits t = subst (λ (b : Option Body). FitsLive b (T.disk new).files after) (sym live) (record { lie = is.lies (fitting t).lie; agree = is.agrees t (fitting t).agree })
-
   -- no view covers it
   refuses : is_covered store.forest.schema s ≡ false → Tells answer result → CarriesOut T its state state old new before after result
   refuses not told =
@@ -201,6 +201,12 @@ module _ {S : Type 0} (T : Ghosts S) (old new : S) (state : State) (store : Stor
       by (Err stop) told = runs_out_as T its state old before only ready state (Err stop) told
 
   module _ (covers : is_covered store.forest.schema s ≡ true) (ends : Ends T old new store before after s result) where
+    found : SearchesView T store s (picked T old new store before after s covers).0 old new before after answer
+    found = searched T old new store before after s covers answer is
+
+    fits : IsTrue T.tells → Fits state (T.disk new).files after
+    fits t = subst (λ (b : Option Body). FitsLive b (T.disk new).files after) (sym live) (record { lie = found.tree.lies (fitting t).lie; agree = found.tree.agrees t (fitting t).agree })
+
     asked : asked_by store.forest.schema its ≡ Some s
     asked = ap (covered store.forest.schema) read ∙ ap (λ (b : Bool). cond b (Some s) None) covers
 
@@ -218,10 +224,11 @@ module _ {S : Type 0} (T : Ghosts S) (old new : S) (state : State) (store : Stor
       pages_over : (numbers : List ℕ) → GoesOver store.forest.body.format store.forest.schema kept.facts (Some s) numbers → Pages (live_of state) numbers
       pages_over numbers goes =
           let agree = (fitting t).agree in
-          let picks = subst (λ (counts : List ℕ). Picks store.forest.schema.views counts s goes.0) (sym kept.stored.live.at.body_is.counts) goes.1 in
+          let picks = subst (λ (counts : List ℕ). IsPicked store.forest.schema.views counts s goes.0) (sym kept.stored.live.at.body_is.counts) goes.1 in
+          let its_search = (is.search goes.0 picks).tree in
           subst (λ (b : Option Body). Pages b numbers) (sym live)
           (subst (Pages (Some store.forest.body)) (same-cost store s goes.0 goes.1.covering.0 kept.facts (T.disk old).files kept.stored ∙ sym goes.2)
-          (is.visits t agree goes.0 picks, is.saves t agree goes.0 picks, ends.keeps t agree goes.0 picks))
+          (its_search.visits t agree, its_search.saves t agree, ends.keeps t agree goes.0 picks))
 
       pages : (numbers : List ℕ) → GoesFrom (format_of state) world.kept (Some s) numbers → Pages (live_of state) numbers
       pages numbers goes = pages_over numbers (subst₂ (λ (b : Option Body) (k : Kept). GoesFrom (format_in b) k (Some s) numbers) live kept.kept goes)
@@ -232,7 +239,7 @@ module _ {S : Type 0} (T : Ghosts S) (old new : S) (state : State) (store : Stor
       spends : (cost : Cost) → ReadsFor (format_of state) world its cost → Spends T cost old new
       spends cost costs =
           let its = subst (λ (a : Option Slice). ReadsFrom (format_of state) world.kept a cost) asks_slice costs in
-          record { reads = omega (arith, (pages its.0 its.1).0, ap (λ (c : Cost). c.reads) its.2); writes = omega (arith, is.looks.writes) }
+          record { reads = omega (arith, (pages its.0 its.1).0, ap (λ (c : Cost). c.reads) its.2); writes = omega (arith, found.tree.looks.writes) }
 
       reply_is : (act world its).1 ≡ answer_text (rows kept.facts s)
       reply_is =
@@ -242,7 +249,7 @@ module _ {S : Type 0} (T : Ghosts S) (old new : S) (state : State) (store : Stor
       answers_so : Stands state (T.disk old) world → IfOk result (λ reply. IsAnswer (T.disk new) (act world its) state reply.items)
       answers_so stands = IfOk-weaker result _ _
           (λ reply said. record {
-            stands = subst (λ (a : Answer). Stands state (T.disk new) a.0) (sym (act_slice world text)) (stands_rests state (T.disk old) (T.disk new) world (is.looks.disk t) stands);
+            stands = subst (λ (a : Answer). Stands state (T.disk new) a.0) (sym (act_slice world text)) (stands_rests state (T.disk old) (T.disk new) world (found.tree.looks.disk t) stands);
             said = said ∙ sym reply_is;
           })
           (ends.replied t (fitting t).agree kept.facts kept.stored)
@@ -250,7 +257,7 @@ module _ {S : Type 0} (T : Ghosts S) (old new : S) (state : State) (store : Stor
       by_world : Stands state (T.disk old) world → ByWorld T its world state state old new before after result
       by_world stands = record {
         answer = answers_so stands;
-        any_moment = resting state (T.disk old) (T.disk new) world (act world its).0 stands (only t) (is.looks.disk t);
+        any_moment = resting state (T.disk old) (T.disk new) world (act world its).0 stands (only t) (found.tree.looks.disk t);
         undamaged = ends.undamaged t (fitting t).agree kept.facts kept.stored;
         moved = holds result refl;
         cost = spends;
@@ -265,8 +272,8 @@ module _ {S : Type 0} (T : Ghosts S) (old new : S) (state : State) (store : Stor
           (subst (λ (a : Option Slice). IfErr result (TellsSpoilt store (T.disk old).files a)) (sym asked) (ends.damage t (fitting t).agree));
       answered = subst (λ (k : Option Store). IfOk result (λ reply. SliceGives k (T.disk old).files text reply.items)) (sym has)
           (subst (λ (r : Result Slice SliceRefusal). IfOk result (λ reply. GivesRead store (T.disk old).files r reply.items)) (sym read) (ends.answered t (fitting t).agree));
-      spared = subst (λ (f : Files). IfErr result (Spares (live_of state) (T.disk old).files f)) (sym (is.looks.disk t).files) (spared_all result (live_of state) (T.disk old).files);
-      looks = λ none. is.looks.disk t;
+      spared = subst (λ (f : Files). IfErr result (Spares (live_of state) (T.disk old).files f)) (sym (found.tree.looks.disk t).files) (spared_all result (live_of state) (T.disk old).files);
+      looks = λ none. found.tree.looks.disk t;
       fits = holds result (fits t);
     }
 
@@ -274,7 +281,7 @@ module _ {S : Type 0} (T : Ghosts S) (old new : S) (state : State) (store : Stor
     said_never alone files = absurd alone
 
     side_stays : IsTrue T.tells → SideStays (live_of state) (T.disk old).files (T.disk new).files
-    side_stays t = ap (λ (f : Files). f (live_file (live_of state))) (is.looks.disk t).files
+    side_stays t = ap (λ (f : Files). f (live_file (live_of state))) (found.tree.looks.disk t).files
 
     -- some view does
     replies : CarriesOut T its state state old new before after result
@@ -282,10 +289,10 @@ module _ {S : Type 0} (T : Ghosts S) (old new : S) (state : State) (store : Stor
       by_world = λ t world stands. by_world t world (kept_over state (Some store) (T.disk old) world has stands) stands;
       any_files = any_files;
       goes_on = record {
-        runs = holds result (record { running = ready.runs.running; fit = λ t. fit_rests state (T.disk old) (T.disk new) (is.looks.disk t) (ready.runs.fit t) });
+        runs = holds result (record { running = ready.runs.running; fit = λ t. fit_rests state (T.disk old) (T.disk new) (found.tree.looks.disk t) (ready.runs.fit t) });
         cache = λ none. holds result (asks none ∙ sym (kept_same (live_of state) (live_of state) before refl));
-        capacity = is.capacity;
-        unwritten = λ none. is.looks.writes;
+        capacity = found.tree.capacity;
+        unwritten = λ none. found.tree.looks.writes;
         quiet = ends.quiet;
       };
       leaves = search (holds, fits, asks, said_never, side_stays, absurd);

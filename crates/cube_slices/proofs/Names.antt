@@ -20,5 +20,5 @@ pub use Rattle.{forest_store.specs.Stored.IsStoreOf, page_cache.specs.Giving.Cac
 pub use Rattle.{page_cache.specs.Keeping.LiesIn, plain_machine.proofs.Acts.act_slice, plain_machine.specs.World.Kept, plain_machine.specs.World.Warehouse, plain_machine.specs.World.World}
 pub use Rattle.{reply_text.specs.Replies.answer_text, reply_text.specs.Replies.line, reply_text.specs.Replies.no_schema, reply_text.specs.Replies.not_covered, reply_text.specs.Replies.slice_text}
 pub use Rattle.{script_lang.specs.declared.command.Command.Command, site_core.specs.Causes.HasCauseWhere, site_core.specs.Disk.Disk, site_core.specs.Disk.Files, site_core.specs.Frames.Looks}
-pub use Rattle.{site_core.specs.declared.site.Site.Ghosts, slice_lang.specs.Reading.slice_of, slice_lang.specs.declared.refusal.SliceRefusal.SliceRefusal, view_route.specs.Routes.Picks}
+pub use Rattle.{site_core.specs.declared.site.Site.Ghosts, slice_lang.specs.Reading.slice_of, slice_lang.specs.declared.refusal.SliceRefusal.SliceRefusal, replica_route.specs.Picked.IsPicked}
 pub use Rattle.{view_route.specs.Routes.covers}

@@ -42,7 +42,10 @@ fn reply_to<T: Site>(
     ensures { CarriesOutOver T.Site text.now store.now site.old site.new pages.old pages.new result }
 {
     match read_slice(alloc, &store.forest.schema, text) {
-        Ok(slice) => told(alloc, slice_exec::answer(alloc, site, pages, store, &slice)),
+        Ok(slice) => told(
+            alloc,
+            slice_exec::answer_picked(alloc, site, pages, store, &slice),
+        ),
         Err(refusal) => Ok(refused_slice(alloc, refusal)?),
     }
 }

@@ -19,11 +19,11 @@ use Rattle.slice_lang.specs.Reading.{slice_of}
 use Rattle.plain_machine.specs.declared.batch_source.BatchSource.{BatchSource}
 use Rattle.plain_machine.specs.declared.batch_source.BatchSource.TheVariants.{Rows, Numbered, Generator}
 use Rattle.plain_machine.specs.Machine.{Given}
-use Rattle.plain_machine.proofs.Acts.{HasByte, HasReply, answer_some, behind, declare_some, refused_some, some_line, some_number, source_has}
+use Rattle.plain_machine.proofs.Acts.{HasByte, HasReply, answer_some, behind, declare_some, explained_some, refused_some, some_line, some_number, source_has}
 use Rattle.cube_state.specs.declared.state.State.TheVariants.{Empty, Idle, Hollow, Pending}
 use Rattle.cube_state.specs.Batches.{GivesBatch, GivesBegun, GivesGiven, IsRefused, LoadGives, given_to, pending_line, refusal_text}
 use Rattle.cube_state.specs.Commands.{Gives}
-use Rattle.cube_state.specs.Slices.{GivesRead, SliceGives}
+use Rattle.cube_state.specs.Slices.{GivesRead, SliceGives, explain_text}
 use Rattle.cube_state.specs.Visits.{store_of}
 
 -- by the text that it is
@@ -51,6 +51,10 @@ read_some store files (Ok s) reply (None, right, said) = as_text _ reply said (s
 slice_some : (store : Option Store) (files : Files) (text reply : List ℕ) → SliceGives store files text reply → 0 < length reply
 slice_some None files text reply is = as_line no_schema reply is
 slice_some (Some store) files text reply is = read_some store files (slice_of store.forest.schema text) reply is
+
+explain_some : (store : Option Store) (text : List ℕ) → 0 < length (explain_text store text)
+explain_some None text = some_line no_schema
+explain_some (Some store) text = explained_some store.forest.schema store.forest.body.counts (slice_of store.forest.schema text)
 
 batch_some : (store : Store) (files : Files) (batch : List Fact) (reply : List ℕ) → GivesBatch store files batch reply → 0 < length reply
 batch_some store files [] reply is = as_text _ reply is (some_number (codes "committed ") store.forest.body.facts)
@@ -83,6 +87,7 @@ gives_some state files (says.Load block) reply is = load_some state files (Rows 
 gives_some state files (says.LoadNumbered number block) reply is = load_some state files (Numbered number block) reply is
 gives_some state files (says.Generate start rows) reply is = load_some state files (Generator start rows) reply is
 gives_some state files (says.Slice text) reply is = slice_some (store_of state) files text reply is
+gives_some state files (says.Explain text) reply is = as_text _ reply is (explain_some (store_of state) text)
 gives_some Empty files says.Status reply is = as_text _ reply is (some_line unopened)
 gives_some (Idle store) files says.Status reply is = as_text _ reply is (some_number (codes "facts ") store.forest.body.facts)
 gives_some (Hollow store) files says.Status reply is =

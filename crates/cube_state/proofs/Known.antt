@@ -3,20 +3,27 @@ use Rattle.cube_state.proofs.Answering.{OnlyNow}
 use Rattle.cube_state.proofs.Carried.{OnlySays, says_or_out}
 use Rattle.cube_state.specs.Carried.{CarriesOut, IsReadyFor, Reply}
 use Rattle.cube_state.specs.Commands.{SchemaGives}
-use Rattle.cube_state.specs.Session.{Stands, state_text}
+use Rattle.cube_schema.specs.declared.schema.Schema.{Schema}
+use Rattle.cube_state.proofs.Standing.{attends_belongs}
+use Rattle.cube_state.specs.Session.{Belongs, Stands, state_text}
+use Rattle.cube_state.specs.Slices.{explain_text}
+use Rattle.cube_state.specs.Visits.{store_of}
 use Rattle.cube_state.specs.declared.state.State.{State}
 use Rattle.cube_state.specs.declared.state.State.TheVariants.{Empty, Hollow, Idle, Pending}
 use Rattle.cube_state.specs.declared.stop.Stop.{Stop}
 use Rattle.fact_model.specs.declared.fact.Fact.{Fact}
+use Rattle.forest_pages.specs.Forest.{body_counts}
 use Rattle.forest_refresh.specs.Begun.{batch_size}
+use Rattle.forest_root.specs.declared.forest.Store.{Store}
 use Rattle.page_cache.specs.Giving.{Cache}
-use Rattle.plain_machine.proofs.Acts.{act_long_line, act_open_block, act_schema, act_status, act_unknown}
-use Rattle.plain_machine.specs.Machine.{Answer, declare_over, status_over, status_text}
-use Rattle.plain_machine.specs.World.{Kept, Knows, World, bare}
+use Rattle.plain_machine.proofs.Acts.{act_explain, act_long_line, act_open_block, act_schema, act_status, act_unknown}
+use Rattle.plain_machine.specs.Machine.{Answer, declare_over, explain_over, explain_reply, status_over, status_text}
+use Rattle.plain_machine.specs.World.{Kept, Knows, Warehouse, World, bare}
 use Rattle.reply_text.specs.Replies.{facts_text, is_declared, is_unknown, line, long_line, open_block, pending_text}
 use Rattle.script_lang.specs.declared.command.Block.{Block}
 use Rattle.script_lang.specs.declared.command.Command.{Command}
 use Rattle.site_core.specs.Disk.{Disk}
+use Rattle.slice_lang.specs.Reading.{slice_of}
 use Rattle.site_core.specs.declared.site.Site.{Ghosts}
 use Rattle.std.proofs.Common.{IfErr, IfOk, IsTrue, List, None, Option, Some, ap, arith, length, length-append, refl, subst, sym, ℕ, ◌∙◌, ◌≡◌}
 use Rattle.cube_state.specs.Moves.{format_of}
@@ -41,6 +48,21 @@ status_known (Pending r) disk world is =
     let size : batch_size r ≡ length is.1 = omega (arith, now, adds.counted, length-append is.0.facts is.1) in
     (λ i. pending_text (now i) (size i)) ∙ known_status (Some is.0) (Some is.1) world is.2
 
+-- ---- which view answers a slice
+
+explain_store : (store : Store) (disk : Disk) (warehouse : Warehouse) (text : List ℕ) → Belongs store disk warehouse → explain_text (Some store) text ≡ explain_over (Some warehouse) text
+explain_store store disk warehouse text is =
+    ap (λ (counts : List ℕ). explain_reply store.forest.schema counts (slice_of store.forest.schema text)) is.stored.read.live.at.body_is.counts
+    ∙ ap (λ (s : Schema). explain_reply s (body_counts s warehouse.facts) (slice_of s text)) is.schema
+
+-- it knows how many points each view has
+explain_known : (state : State) (disk : Disk) (world : World) (text : List ℕ) → Stands state disk world → explain_text (store_of state) text ≡ explain_over world.kept text
+explain_known Empty disk world text is = ap (λ (k : Kept). explain_over k text) (sym is.0.kept)
+explain_known (Idle store) disk world text is = explain_store store disk is.0 text is.2 ∙ ap (λ (k : Kept). explain_over k text) (sym is.1.kept)
+explain_known (Hollow store) disk world text is = explain_store store disk is.0 text is.2 ∙ ap (λ (k : Kept). explain_over k text) (sym is.1.kept)
+explain_known (Pending r) disk world text is =
+    explain_store r.store disk is.0 text (attends_belongs r disk is.0 is.1 is.3.attends) ∙ ap (λ (k : Kept). explain_over k text) (sym is.2.kept)
+
 -- ---- they only answer
 
 module _ {S : Type 0} (T : Ghosts S) (state : State) (site : S) where
@@ -49,6 +71,15 @@ module _ {S : Type 0} (T : Ghosts S) (state : State) (site : S) where
     acts = λ t world stands. act_status world ∙ ap (λ text. (world, text)) (sym (status_known state (T.disk site) world stands));
     moves = λ t world stands. refl;
     goes = λ t world stands. goes_nowhere Command.Status (λ schema. refl) (format_of state) world;
+    gives = λ files. refl;
+    alone = λ none. refl;
+  }
+
+  pub explain_says : (text : List ℕ) → OnlySays T (Command.Explain text) state site (explain_text (store_of state) text)
+  explain_says text = record {
+    acts = λ t world stands. act_explain world text ∙ ap (λ reply. (world, reply)) (sym (explain_known state (T.disk site) world text stands));
+    moves = λ t world stands. refl;
+    goes = λ t world stands. goes_nowhere (Command.Explain text) (λ schema. refl) (format_of state) world;
     gives = λ files. refl;
     alone = λ none. refl;
   }

@@ -79,6 +79,7 @@ tells_none state files (says.Step n) stop is = finish_none state files stop is
 tells_none state files says.Finish stop is = finish_none state files stop is
 tells_none state files says.Upgrade stop is = upgrade_none state files stop is
 tells_none state files (says.Schema block) stop is = is
+tells_none state files (says.Explain text) stop is = is
 tells_none state files says.Status stop is = is
 tells_none state files says.LongLine stop is = is
 tells_none state files says.OpenBlock stop is = is

@@ -64,6 +64,7 @@ effect_of says.Finish = record rewrites { ends = true }
 effect_of says.Abandon = record answers { ends = true }
 effect_of says.Upgrade = rewrites
 effect_of (says.Slice text) = record answers { tells = true; looks = true }
+effect_of (says.Explain text) = answers
 effect_of says.Status = answers
 effect_of says.LongLine = answers
 effect_of says.OpenBlock = answers

@@ -19,7 +19,7 @@ use Rattle.cube_state.specs.Batches.{BeginGives, FinishGives, LoadGives, Upgrade
 use Rattle.cube_state.specs.Costs.{Cost, both, free}
 use Rattle.cube_state.specs.Moves.{Reached, reached_behind}
 use Rattle.cube_state.specs.Session.{IsLine, state_text}
-use Rattle.cube_state.specs.Slices.{SliceGives, SliceTells}
+use Rattle.cube_state.specs.Slices.{SliceGives, SliceTells, explain_text}
 use Rattle.cube_state.specs.Stops.{IsNoDamage}
 use Rattle.cube_state.specs.Visits.{ReadsFor, store_of}
 
@@ -43,6 +43,7 @@ Costs world reached (says.Step n) cost = cost ≡ step_cost world reached n
 Costs world reached says.Finish cost = cost ≡ finish_cost world reached
 Costs world reached says.Abandon cost = cost ≡ free
 Costs world reached says.Upgrade cost = cost ≡ upgrade_cost reached.format world
+Costs world reached (says.Explain text) cost = cost ≡ free
 Costs world reached says.Status cost = cost ≡ free
 Costs world reached says.LongLine cost = cost ≡ free
 Costs world reached says.OpenBlock cost = cost ≡ free
@@ -73,6 +74,7 @@ MakesNoCall world reached (says.Step n) = HasNoFact world.pending
 MakesNoCall world reached says.Finish = HasNoFact world.pending
 MakesNoCall world reached says.Upgrade = remakes world reached.format ≡ false
 MakesNoCall world reached says.Abandon = Unit {0}
+MakesNoCall world reached (says.Explain text) = Unit {0}
 MakesNoCall world reached says.Status = Unit {0}
 MakesNoCall world reached says.LongLine = Unit {0}
 MakesNoCall world reached says.OpenBlock = Unit {0}
@@ -94,6 +96,7 @@ Gives state files (says.Load block) reply = LoadGives state files (Rows block) r
 Gives state files (says.LoadNumbered number block) reply = LoadGives state files (Numbered number block) reply
 Gives state files (says.Generate start rows) reply = LoadGives state files (Generator start rows) reply
 Gives state files (says.Slice text) reply = SliceGives (store_of state) files text reply
+Gives state files (says.Explain text) reply = reply ≡ explain_text (store_of state) text
 Gives state files says.Status reply = reply ≡ state_text state
 Gives state files says.Upgrade reply = UpgradeGives state files reply
 Gives state files (says.Begin block) reply = BeginGives state block reply
@@ -116,6 +119,7 @@ TellsDamage state files (says.Step n) stop = FinishTells state files stop
 TellsDamage state files says.Finish stop = FinishTells state files stop
 TellsDamage state files says.Upgrade stop = UpgradeTells state files stop
 TellsDamage state files (says.Schema block) stop = IsNoDamage stop
+TellsDamage state files (says.Explain text) stop = IsNoDamage stop
 TellsDamage state files says.Status stop = IsNoDamage stop
 TellsDamage state files says.LongLine stop = IsNoDamage stop
 TellsDamage state files says.OpenBlock stop = IsNoDamage stop

@@ -10,8 +10,8 @@ use Rattle.slice_exec.specs.Answers.{IsJudged}
 use Rattle.slice_exec.specs.declared.stop.AnswerStop.TheVariants as answers
 use Rattle.slice_lang.specs.declared.refusal.SliceRefusal.{SliceRefusal}
 use Rattle.slice_lang.specs.Reading.{slice_of}
-use Rattle.view_route.specs.Routes.{Picks}
-use Rattle.plain_machine.specs.Machine.{asked_by, is_covered}
+use Rattle.replica_route.specs.Picked.{IsPicked}
+use Rattle.plain_machine.specs.Machine.{asked_by, explain_reply, is_covered}
 use Rattle.cube_state.specs.declared.stop.Stop.{Stop}
 use Rattle.cube_state.specs.declared.stop.Stop.TheVariants as stops
 use Rattle.cube_state.specs.Session.{IsLine}
@@ -21,7 +21,7 @@ use Rattle.cube_state.specs.Stops.{IsNoDamage}
 
 -- these are the rows of the picked view in these files, each page of which that was gone to is sound
 abbrev pub AreRowsIn : Store → Files → Slice → List Row → Type 0
-AreRowsIn store files s rows = (view : ℕ) → Picks store.forest.schema.views store.forest.body.counts s view → IsJudged store s view files (Ok rows)
+AreRowsIn store files s rows = (view : ℕ) → IsPicked store.forest.schema.views store.forest.body.counts s view → IsJudged store s view files (Ok rows)
 
 -- rows are found where some view covers the slice, and none where no view does
 abbrev pub Finds : Store → Files → Slice → Option (List Row) → Type 0
@@ -47,13 +47,18 @@ abbrev pub SliceGives : Option Store → Files → List ℕ → List ℕ → Typ
 SliceGives None files text reply = IsLine no_schema reply
 SliceGives (Some store) files text reply = GivesRead store files (slice_of store.forest.schema text) reply
 
+-- the reply that explains the text of a slice, of a session that has this store, by the numbers of points in its body
+abbrev pub explain_text : Option Store → List ℕ → List ℕ
+explain_text None text = line no_schema
+explain_text (Some store) text = explain_reply store.forest.schema store.forest.body.counts (slice_of store.forest.schema text)
+
 -- ---- damage
 
 -- in these files the slice is answered by damage at this place; where none is answered there is none
 abbrev pub IsSpoiltAt : Store → Files → Option Slice → ℕ → ℕ → Type 0
 IsSpoiltAt store files None file offset = ⊥
 IsSpoiltAt store files (Some s) file offset =
-    (view : ℕ) → Picks store.forest.schema.views store.forest.body.counts s view → IsJudged store s view files (Err (answers.Damaged file offset))
+    (view : ℕ) → IsPicked store.forest.schema.views store.forest.body.counts s view → IsJudged store s view files (Err (answers.Damaged file offset))
 
 -- damage that is told is there
 abbrev pub TellsSpoilt : Store → Files → Option Slice → Stop → Type 0

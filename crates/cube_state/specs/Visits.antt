@@ -7,7 +7,7 @@ use Rattle.forest_pages.specs.Forest.{body_counts}
 use Rattle.forest_root.specs.declared.forest.Store.{Store}
 use Rattle.script_lang.specs.declared.command.Command.{Command}
 use Rattle.slice_exec.specs.Costs.{visits_over}
-use Rattle.view_route.specs.Routes.{Picks}
+use Rattle.replica_route.specs.Picked.{IsPicked}
 use Rattle.plain_machine.specs.Machine.{asked_by, asked_slice}
 use Rattle.plain_machine.specs.World.{Kept, World}
 use Rattle.cube_state.specs.declared.state.State.{State}
@@ -26,7 +26,7 @@ store_of (Pending refresh) = Some refresh.store
 -- the slice goes to these pages of the picked view, over these facts in pages of this format
 abbrev pub GoesOver : ℕ → Schema → List Fact → Option Slice → List ℕ → Type 0
 GoesOver format schema facts None numbers = ⊥
-GoesOver format schema facts (Some s) numbers = (view : ℕ) × Picks schema.views (body_counts schema facts) s view × (numbers ≡ visits_over format schema facts s view)
+GoesOver format schema facts (Some s) numbers = (view : ℕ) × IsPicked schema.views (body_counts schema facts) s view × (numbers ≡ visits_over format schema facts s view)
 
 abbrev pub GoesFrom : ℕ → Kept → Option Slice → List ℕ → Type 0
 GoesFrom format None asked numbers = ⊥

@@ -1,4 +1,5 @@
-//! What the plain list of facts answers, a slice that is written, a script that is fed in pieces, and a host that lacks a file.
+//! What the plain list of facts answers, a slice that is written, one that is answered by points and declaration alone, a script that is
+//! fed in pieces, and a host that lacks a file.
 ghost use Rattle.std.specs.Prelude.{◌≡◌, [], ◌∷◌, IfOk};
 ghost use Rattle.fact_model.specs.declared.slice.Column.TheVariants.{Sum, Count};
 
@@ -6,15 +7,19 @@ use cube_schema::Schema;
 use fact_model::{
     Column, ColumnList, Fact, FactList, ListOf, Memory, Row, Slice, Text, Value, slow_slice,
 };
+use forest_open::{init, open_store};
+use page_cache::Pages;
 use part_host::PartHost;
 use script_lang::{Command, Lines};
 use site_core::Site;
 use site_folder::FolderSite;
 use site_mem::MemorySite;
+use slice_exec::{answer, rows_text};
 use slice_lang::{read_slice, write_slice};
 use std::alloc::Global;
 use std::process::Abort;
 use std::test::Fail;
+use view_route::route;
 
 /// A sale of so many of a part in a year.
 fn sale(alloc: Global, part: &str, year: u64, count: i128) -> Result<Fact, Memory>
@@ -73,6 +78,38 @@ fn the_slice_of_an_example_is_written(rt: HostRuntime) -> Result<(), Fail> {
     let slice = read_slice(alloc, &schema, b"sum(qty),count by year")?;
     let text = write_slice(alloc, &schema, &slice)?;
     assert_eq!(rt; text.as_bytes(), b"sum(qty),count by year".as_slice());
+    Ok(())
+}
+
+#[test]
+fn of_views_with_as_few_points_the_first_is_the_route(rt: HostRuntime) -> Result<(), Fail> {
+    let alloc = rt.alloc();
+    let schema = Schema::read(
+        alloc,
+        b"attr part text\nattr year number\nmeasure qty\nview part,year\nview year,part\nview year\n",
+    )?;
+    let mut counts = [0; 32];
+    counts[0] = 3;
+    counts[1] = 3;
+    counts[2] = 2;
+    let by_part = read_slice(alloc, &schema, b"count by year where part=bolt")?;
+    assert_eq!(rt; route(&schema, &counts, &by_part), Some(0));
+    let by_year = read_slice(alloc, &schema, b"count by year")?;
+    assert_eq!(rt; route(&schema, &counts, &by_year), Some(2));
+    Ok(())
+}
+
+#[test]
+fn without_facts_a_slice_has_no_rows(rt: HostRuntime) -> Result<(), Fail> {
+    let alloc = rt.alloc();
+    let mut site = MemorySite::new(alloc);
+    let schema = Schema::read(alloc, b"attr year number\nmeasure qty\nview year\n")?;
+    assert!(rt; open_store(alloc, &mut site)?.is_none());
+    let store = init(alloc, &mut site, schema)?;
+    let slice = read_slice(alloc, &store.forest.schema, b"sum(qty) by year")?;
+    let mut pages = Pages::new(alloc, 1)?;
+    let rows = answer(alloc, &mut site, &mut pages, &store, &slice)?;
+    assert_eq!(rt; rows_text(alloc, &rows)?.as_bytes(), b"rows 0\n".as_slice());
     Ok(())
 }
 

@@ -18,14 +18,17 @@ use Rattle.script_lang.specs.declared.command.Block.{Block}
 use Rattle.script_lang.specs.declared.command.Block.TheVariants.{Whole, Long}
 use Rattle.script_lang.specs.declared.command.Command.{Command}
 use Rattle.script_lang.specs.declared.command.Command.TheVariants as says
-use Rattle.reply_text.specs.Replies.{line, already_text, gap_text, numbered, schema_text, batch_text, slice_text, answer_text}
+use Rattle.forest_pages.specs.Forest.{body_counts}
+use Rattle.replica_route.specs.Picked.{picked}
+use Rattle.replica_route.specs.declared.picking.Choice.{Choice}
+use Rattle.reply_text.specs.Replies.{line, already_text, gap_text, numbered, run_text, schema_text, batch_text, slice_text, answer_text}
 use Rattle.slice_lang.specs.declared.refusal.SliceRefusal.{SliceRefusal}
 use Rattle.slice_lang.specs.declared.refusal.SliceRefusal.TheVariants as slices
 use Rattle.slice_lang.specs.Reading.{slice_of}
 use Rattle.plain_machine.specs.declared.batch_source.BatchSource.{BatchSource}
 use Rattle.plain_machine.specs.declared.batch_source.BatchSource.TheVariants.{Rows, Numbered, Generator}
 use Rattle.plain_machine.specs.World.{Kept, World, Warehouse}
-use Rattle.plain_machine.specs.Machine.{Answer, Given, abandon, accepted, act, batch_from, begin, begun, begun_or_refused, block_read, committed, declare, declare_over, declared, fact_limit, facts_or_refusal, finish, first_full, first_heavy, full_refusal, heavy_refusal, is_covered, load, pending_over, read_by, refusal_of, replies_with, rows_reply, slice, slice_over, slice_reply, status_over, status_text, step, take_over, unless, upgrade, upgrade_over, with_last, with_number}
+use Rattle.plain_machine.specs.Machine.{Answer, Given, abandon, accepted, act, batch_from, begin, begun, begun_or_refused, block_read, committed, declare, declare_over, declared, explain, explain_over, explain_reply, fact_limit, facts_or_refusal, finish, first_full, first_heavy, full_refusal, heavy_refusal, is_covered, load, pending_over, picked_reply, read_by, refusal_of, replies_with, rows_reply, slice, slice_over, slice_reply, status_over, status_text, step, take_over, unless, upgrade, upgrade_over, with_last, with_number}
 use Rattle.plain_machine.specs.Stages.{size, makes_stage}
 use Rattle.plain_machine.specs.Histories.{Batch, batch_by}
 use Rattle.plain_machine.proofs.Outcomes.{Outcome, stays, declares, commits, counts, outcome}
@@ -184,6 +187,19 @@ slice_some : (kept : Kept) (text : List ℕ) → 0 < length (slice_over kept tex
 slice_some None text = some_line (codes "refused no schema")
 slice_some (Some warehouse) text = slice_reply_some warehouse.schema warehouse.facts (slice_of warehouse.schema text)
 
+choice_some : (choice : Option Choice) → 0 < length (picked_reply choice)
+choice_some None = some_line (codes "refused notcovered")
+choice_some (Some choice) =
+    behind (codes "view ") _ (behind (decimal (choice.view + 1)) _ (behind (codes " suffix ") _ (behind (decimal choice.suffix) _ (some_line (run_text choice.run)))))
+
+pub explained_some : (schema : Schema) (points : List ℕ) (read : Result Slice SliceRefusal) → 0 < length (explain_reply schema points read)
+explained_some schema points (Err refusal) = refused_some refusal
+explained_some schema points (Ok s) = choice_some (picked schema.views points s)
+
+explain_some : (kept : Kept) (text : List ℕ) → 0 < length (explain_over kept text)
+explain_some None text = some_line (codes "refused no schema")
+explain_some (Some warehouse) text = explained_some warehouse.schema (body_counts warehouse.schema warehouse.facts) (slice_of warehouse.schema text)
+
 status_some : (kept : Kept) (pending : Option (List Fact)) → 0 < length (status_over kept pending)
 status_some None pending = some_line (codes "no schema")
 status_some (Some warehouse) None = some_number (codes "facts ") (length warehouse.facts)
@@ -207,6 +223,7 @@ reply_some world says.Finish =
     pending_some world (λ warehouse batch. committed world warehouse batch warehouse.last) world.kept world.pending (λ warehouse batch. committed_some world warehouse batch warehouse.last)
 reply_some world says.Abandon = pending_some world _ world.kept world.pending (λ warehouse batch. some_line (codes "abandoned"))
 reply_some world (says.Slice text) = slice_some world.kept text
+reply_some world (says.Explain text) = explain_some world.kept text
 reply_some world says.Status = status_some world.kept world.pending
 reply_some world says.Upgrade = upgrade_some world.kept world.pending
 reply_some world says.LongLine = some_line (codes "refused long line")
@@ -253,6 +270,10 @@ act_generate world start rows = refl
 pub act_slice : (world : World) (text : List ℕ) → act world (says.Slice text) ≡ slice world text
 unfolding act
 act_slice world text = refl
+
+pub act_explain : (world : World) (text : List ℕ) → act world (says.Explain text) ≡ explain world text
+unfolding act
+act_explain world text = refl
 
 pub act_status : (world : World) → act world says.Status ≡ (world, status_text world)
 unfolding act

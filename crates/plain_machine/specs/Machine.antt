@@ -19,7 +19,10 @@ use Rattle.script_lang.specs.declared.command.Block.{Block}
 use Rattle.script_lang.specs.declared.command.Block.TheVariants.{Whole, Long}
 use Rattle.script_lang.specs.declared.command.Command.{Command}
 use Rattle.script_lang.specs.declared.command.Command.TheVariants as says
-use Rattle.reply_text.specs.Replies.{line, already_text, committed_text, facts_text, gap_text, pending_text, schema_text, batch_text, full_text, mass_text, slice_text, answer_text, unopened, no_schema, is_declared, long_schema, long_block, is_pending, none_pending, too_many_facts, is_empty, not_covered, long_line, open_block, is_unknown, declared_text, begun_text, stepped_text, abandoned_text, upgraded_text}
+use Rattle.forest_pages.specs.Forest.{body_counts}
+use Rattle.replica_route.specs.Picked.{picked}
+use Rattle.replica_route.specs.declared.picking.Choice.{Choice}
+use Rattle.reply_text.specs.Replies.{line, already_text, choice_text, committed_text, facts_text, gap_text, pending_text, schema_text, batch_text, full_text, mass_text, slice_text, answer_text, unopened, no_schema, is_declared, long_schema, long_block, is_pending, none_pending, too_many_facts, is_empty, not_covered, long_line, open_block, is_unknown, declared_text, begun_text, stepped_text, abandoned_text, upgraded_text}
 use Rattle.slice_lang.specs.declared.refusal.SliceRefusal.{SliceRefusal}
 use Rattle.slice_lang.specs.Reading.{slice_of}
 use Rattle.view_route.specs.Routes.{covers}
@@ -233,6 +236,7 @@ asked_by schema (says.Begin block) = None
 asked_by schema (says.Step n) = None
 asked_by schema says.Finish = None
 asked_by schema says.Abandon = None
+asked_by schema (says.Explain text) = None
 asked_by schema says.Status = None
 asked_by schema says.Upgrade = None
 asked_by schema says.LongLine = None
@@ -245,6 +249,25 @@ asked_over (Some warehouse) command = asked_by warehouse.schema command
 
 abbrev pub asked_slice : World → Command → Option Slice
 asked_slice world command = asked_over world.kept command
+
+-- ---- explain
+
+-- the view picked and how its points lie, or the refusal where no view covers the slice
+abbrev pub picked_reply : Option Choice → List ℕ
+picked_reply (Some choice) = choice_text choice
+picked_reply None = line not_covered
+
+-- the reply for a slice that was read, or for a text that is none, by how many points each view has
+abbrev pub explain_reply : Schema → List ℕ → Result Slice SliceRefusal → List ℕ
+explain_reply schema counts (Err refusal) = slice_text refusal
+explain_reply schema counts (Ok s) = picked_reply (picked schema.views counts s)
+
+abbrev pub explain_over : Kept → List ℕ → List ℕ
+explain_over None text = line no_schema
+explain_over (Some warehouse) text = explain_reply warehouse.schema (body_counts warehouse.schema warehouse.facts) (slice_of warehouse.schema text)
+
+abbrev pub explain : World → List ℕ → Answer
+explain world text = (world, explain_over world.kept text)
 
 -- ---- status
 
@@ -269,6 +292,7 @@ act world (says.Step n) = step world
 act world says.Finish = finish world
 act world says.Abandon = abandon world
 act world (says.Slice text) = slice world text
+act world (says.Explain text) = explain world text
 act world says.Status = (world, status_text world)
 act world says.Upgrade = upgrade world
 act world says.LongLine = replies_with world long_line

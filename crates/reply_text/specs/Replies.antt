@@ -1,11 +1,12 @@
 -- The texts of replies.
-use Rattle.std.specs.Prelude.{ℕ, List, [], ◌∷◌, ◌++◌, codes, length, map, decimal}
+use Rattle.std.specs.Prelude.{ℕ, ◌+◌, Bool, true, false, List, [], ◌∷◌, ◌++◌, codes, length, map, decimal}
 use Rattle.csv_text.specs.Rows.{row_fields, rows_text}
 use Rattle.cube_schema.specs.declared.schema.SchemaRefusal.{SchemaRefusal}
 use Rattle.cube_schema.specs.declared.schema.SchemaRefusal.TheVariants as schemas
 use Rattle.fact_csv.specs.declared.refusal.RowRefusal.{RowRefusal}
 use Rattle.fact_csv.specs.declared.refusal.RowRefusal.TheVariants as rows
 use Rattle.fact_model.specs.declared.slice.Row.{Row}
+use Rattle.replica_route.specs.declared.picking.Choice.{Choice}
 use Rattle.slice_lang.specs.declared.refusal.SliceRefusal.{SliceRefusal}
 use Rattle.slice_lang.specs.declared.refusal.SliceRefusal.TheVariants as slices
 
@@ -150,6 +151,15 @@ slice_text (slices.UnknownMeasure byte) = numbered (codes "refused measure ") by
 slice_text (slices.Repeated byte) = numbered (codes "refused repeated ") byte
 slice_text (slices.BadValue byte) = numbered (codes "refused value ") byte
 slice_text slices.Memory = line []
+
+-- whether the points that meet the conditions are one part of the view's points
+abbrev pub run_text : Bool → List ℕ
+run_text true = codes " run yes"
+run_text false = codes " run no"
+
+-- the view picked, counted from 1, how many of its last attributes are bound, and how its points lie
+abbrev pub choice_text : Choice → List ℕ
+choice_text choice = codes "view " ++ (decimal (choice.view + 1) ++ (codes " suffix " ++ (decimal choice.suffix ++ line (run_text choice.run))))
 
 -- the rows, and then their number
 abbrev pub answer_text : List Row → List ℕ

@@ -1,8 +1,9 @@
 //! Replies of one line.
 ghost use Rattle.std.specs.Prelude.{◌≡◌, IfOk};
-ghost use Rattle.reply_text.specs.Replies.{line, numbered, committed_text, already_text, facts_text, pending_text};
+ghost use Rattle.reply_text.specs.Replies.{line, numbered, committed_text, already_text, facts_text, pending_text, choice_text, run_text};
 
 use fact_model::Memory;
+use replica_route::Choice;
 use std::alloc::Global;
 
 /// One fixed line.
@@ -38,6 +39,23 @@ pub fn pending(alloc: Global, count: u64, pending: u64) -> Result<Vec<u8>, Memor
     ensures { IfOk result (λ reply. reply.items ≡ pending_text count pending) }
 {
     Ok(format!(in alloc; "facts {count} pending {pending}\n")?.into_bytes())
+}
+
+/// The view that a slice is answered from, counted from 1, and how its points lie there.
+pub fn picked(alloc: Global, choice: Choice) -> Result<Vec<u8>, Memory>
+    ensures { IfOk result (λ reply. reply.items ≡ choice_text choice) }
+{
+    let view = u64::from(choice.view) + 1;
+    let suffix = choice.suffix;
+    let run = run_word(choice.run);
+    Ok(format!(in alloc; "view {view} suffix {suffix}{run}\n")?.into_bytes())
+}
+
+/// Whether the points are one part of the view's points, in words.
+fn run_word(run: bool) -> &'static str
+    ensures { result.now ≡ run_text run }
+{
+    if run { " run yes" } else { " run no" }
 }
 
 /// One line of a text and a number behind it.

@@ -36,23 +36,29 @@ generate_in (Some start) (Some rows) = says.Generate start rows
 abbrev pub is_space : ℕ → Bool
 is_space byte = byte == 32
 
+-- what a line says that is not one word alone
+abbrev pub said_with : List ℕ → Said
+said_with line =
+    cond (starts_with nat_eq line (codes "load ")) (load_in (count_in (drop 5 line)))
+    (cond (starts_with nat_eq line (codes "slice ")) (Says (says.Slice (drop 6 line)))
+    (cond (starts_with nat_eq line (codes "explain ")) (Says (says.Explain (drop 8 line)))
+    (cond (starts_with nat_eq line (codes "step ")) (Says (step_in (count_in (drop 5 line))))
+    (cond (starts_with nat_eq line (codes "generate "))
+    (Says (generate_in (count_in (before_first is_space (drop 9 line))) (count_in (after_first is_space (drop 9 line)))))
+    (Says says.Unknown)))))
+
 -- what a line says, without the carriage return at its end
 abbrev pub said_in : List ℕ → Said
 said_in line =
     cond (length line == 0) Nothing
     (cond (is_text (codes "schema") line) (Opens opens.Schema)
     (cond (is_text (codes "load") line) (Opens opens.Load)
-    (cond (starts_with nat_eq line (codes "load ")) (load_in (count_in (drop 5 line)))
     (cond (is_text (codes "begin") line) (Opens opens.Begin)
     (cond (is_text (codes "finish") line) (Says says.Finish)
     (cond (is_text (codes "abandon") line) (Says says.Abandon)
     (cond (is_text (codes "status") line) (Says says.Status)
     (cond (is_text (codes "upgrade") line) (Says says.Upgrade)
-    (cond (starts_with nat_eq line (codes "slice ")) (Says (says.Slice (drop 6 line)))
-    (cond (starts_with nat_eq line (codes "step ")) (Says (step_in (count_in (drop 5 line))))
-    (cond (starts_with nat_eq line (codes "generate "))
-    (Says (generate_in (count_in (before_first is_space (drop 9 line))) (count_in (after_first is_space (drop 9 line)))))
-    (Says says.Unknown))))))))))))
+    (said_with line))))))))
 
 -- what a line between two blocks says; more than 65,536 bytes are too long
 abbrev pub said_by : List ℕ → Said

@@ -90,6 +90,7 @@ KeepsLimit (says.Step count) = Unit {0}
 KeepsLimit says.Finish = Unit {0}
 KeepsLimit says.Abandon = Unit {0}
 KeepsLimit (says.Slice text) = Unit {0}
+KeepsLimit (says.Explain text) = Unit {0}
 KeepsLimit says.Status = Unit {0}
 KeepsLimit says.Upgrade = Unit {0}
 KeepsLimit (says.Generate start rows) = Unit {0}

@@ -34,6 +34,8 @@ pub enum Command {
     Abandon,
     /// Answer the slice of this text, which may be empty.
     Slice(Text),
+    /// Tell which view answers the slice of this text, and how its points lie there.
+    Explain(Text),
     /// Tell how many facts there are.
     Status,
     /// Make the pages anew in the greatest format.

@@ -2,7 +2,7 @@
 ghost use Rattle.std.specs.Prelude.{◌≡◌, IfOk};
 ghost use Rattle.std.specs.List.{before_first, after_first};
 ghost use Rattle.script_lang.specs.Script.{KeepsLimit, SaysNoBlock};
-ghost use Rattle.script_lang.specs.Said.{is_text, said_in, said_by, is_end, is_space, load_in, step_in, generate_in, count_in};
+ghost use Rattle.script_lang.specs.Said.{is_text, said_in, said_with, said_by, is_end, is_space, load_in, step_in, generate_in, count_in};
 
 use crate::command::Command;
 use crate::count::read_count;
@@ -63,9 +63,6 @@ fn said_in(alloc: Global, line: &[u8]) -> Result<Said, Memory>
     if is_text("load", line) {
         return Ok(Said::Opens(Opening::Load));
     }
-    if line.starts_with(b"load ") {
-        return Ok(load(after(line, 5)));
-    }
     if is_text("begin", line) {
         return Ok(Said::Opens(Opening::Begin));
     }
@@ -81,9 +78,24 @@ fn said_in(alloc: Global, line: &[u8]) -> Result<Said, Memory>
     if is_text("upgrade", line) {
         return Ok(Said::Says(Command::Upgrade));
     }
+    said_with(alloc, line)
+}
+
+/// What a line says that is not one word alone.
+fn said_with(alloc: Global, line: &[u8]) -> Result<Said, Memory>
+    ensures said { IfOk result (λ said. said ≡ said_with line.now) }
+    ensures fits { IfOk result SaysNoBlock }
+{
+    if line.starts_with(b"load ") {
+        return Ok(load(after(line, 5)));
+    }
     if line.starts_with(b"slice ") {
         let text = Text::from_bytes(alloc, after(line, 6))?;
         return Ok(Said::Says(Command::Slice(text)));
+    }
+    if line.starts_with(b"explain ") {
+        let text = Text::from_bytes(alloc, after(line, 8))?;
+        return Ok(Said::Says(Command::Explain(text)));
     }
     if line.starts_with(b"step ") {
         return Ok(Said::Says(step(after(line, 5))));

@@ -46,7 +46,7 @@ use Rattle.slice_exec.proofs.ShownNames.{shown-inside}
 -- ---- lists
 
 -- of those that pass a weaker test the same pass the stronger one
-filter-through : {X : Type 0} (p q : X → Bool) → ((x : X) → p x ≡ true → q x ≡ true) → (xs : List X) → filter p xs ≡ filter p (filter q xs)
+pub filter-through : {X : Type 0} (p q : X → Bool) → ((x : X) → p x ≡ true → q x ≡ true) → (xs : List X) → filter p xs ≡ filter p (filter q xs)
 filter-through p q only [] = refl
 filter-through p q only (x ∷ xs) = elim (cases_Bool (q x)) [
   | inl kept ↦ rw kept (λ i. cond (p x) (x ∷ filter-through p q only xs i) (filter-through p q only xs i))
@@ -56,7 +56,7 @@ filter-through p q only (x ∷ xs) = elim (cases_Bool (q x)) [
   ]
 ]
 
-filter-map : {X Y : Type 0} (p : Y → Bool) (f : X → Y) (xs : List X) → filter p (map f xs) ≡ map f (filter (λ x. p (f x)) xs)
+pub filter-map : {X Y : Type 0} (p : Y → Bool) (f : X → Y) (xs : List X) → filter p (map f xs) ≡ map f (filter (λ x. p (f x)) xs)
 filter-map p f [] = refl
 filter-map p f (x ∷ xs) =
     elim (p (f x)) as (λ b. cond b (f x ∷ filter p (map f xs)) (filter p (map f xs)) ≡ map f (cond b (x ∷ filter (λ y. p (f y)) xs) (filter (λ y. p (f y)) xs)))

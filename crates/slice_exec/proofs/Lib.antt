@@ -1,6 +1,8 @@
 pub mod Agreed
 pub mod Costs
+pub mod FewLeaves
 pub mod Found
+pub mod FromView
 pub mod Holding
 pub mod Searching
 pub mod ShownNames

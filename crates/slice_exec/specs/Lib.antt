@@ -1,3 +1,5 @@
+pub mod Answering
 pub mod Answers
 pub mod Costs
+pub mod Leaves
 pub mod Searching

@@ -1,19 +1,16 @@
 //! The rows of a slice, from the view that it is answered from.
-ghost use Rattle.std.specs.Prelude.{◌≡◌, ◌≤◌, ◌+◌, ◌%◌, ◌↔◌, ℕ, IsTrue, IfOk, IfErr, OnOk, List, length};
+ghost use Rattle.std.specs.Prelude.{◌≡◌, ℕ, IsTrue, IfOk, IfErr, List};
 ghost use Rattle.std.specs.List.{All};
-ghost use Rattle.std.specs.Result.{IsErrOf};
 ghost use Rattle.fact_model.specs.declared.fact.Fact as facts;
 ghost use Rattle.fact_model.specs.Rows.{rows};
-ghost use Rattle.site_core.specs.Causes.{HasCauseWhere};
-ghost use Rattle.site_core.specs.Frames.{Looks};
-ghost use Rattle.forest_pages.specs.Forest.{body_counts};
 ghost use Rattle.forest_store.specs.Stored.{IsStoreOf};
-ghost use Rattle.page_cache.specs.Keeping.{Agrees, HasRoom, Keeps, LiesIn, unkept};
+ghost use Rattle.page_cache.specs.Keeping.{Agrees};
+ghost use Rattle.replica_route.specs.Picked.{IsPicked};
 ghost use Rattle.slice_lang.specs.Agreeing.{SliceAgrees};
 ghost use Rattle.view_route.specs.Routes.{IsCovering, IsRoute};
 ghost use Rattle.view_rows.specs.Grouped.{HasForm};
-ghost use Rattle.slice_exec.specs.Answers.{IsJudged, IsNoDamage, IsUncovered, NamesSide, rows_told, tree_of_view, visits_of};
-ghost use Rattle.slice_exec.specs.Costs.{visits_over};
+ghost use Rattle.slice_exec.specs.Answering.{AnswersFrom};
+ghost use Rattle.slice_exec.specs.Answers.{IsJudged, IsNoDamage, rows_told};
 ghost use Rattle.slice_exec.specs.Searching.{SearchesView};
 
 use crate::finding::{attrs_of, find};
@@ -21,6 +18,7 @@ use crate::stop::AnswerStop;
 use fact_model::Slice;
 use forest_root::{Forest, Store};
 use page_cache::Pages;
+use replica_route::pick;
 use site_core::{SIDES, Site};
 use std::alloc::Global;
 use view_route::route;
@@ -39,48 +37,9 @@ pub fn answer<'a, T: Site>(
     store: &'a Store,
     slice: &'a Slice,
 ) -> Result<SliceRows<'a>, AnswerStop>
-    requires agrees { SliceAgrees store.now.forest.schema slice.now }
-
-    ensures rows { IsTrue T.tells → Agrees (T.disk site.old).files pages.old
-        → (accepted : List facts.Fact) → IsStoreOf store.now accepted (T.disk site.old).files
-        → IfOk result (λ found. found ≡ rows accepted slice.now) }
-    ensures undamaged { IsTrue T.tells → Agrees (T.disk site.old).files pages.old
-        → (accepted : List facts.Fact) → IsStoreOf store.now accepted (T.disk site.old).files
-        → IfErr result IsNoDamage }
-    ensures uncovered { IsErrOf result AnswerStop.NotCovered ↔ IsUncovered store.now.forest.schema slice.now }
-    ensures visits { IsTrue T.tells → Agrees (T.disk site.old).files pages.old
-        → (view : ℕ) → IsRoute store.now.forest.schema.views store.now.forest.body.counts slice.now view
-        → T.reads site.new ≤ T.reads site.old + length (visits_of store.now slice.now view (T.disk site.old).files) }
-    ensures cost { IsTrue T.tells → Agrees (T.disk site.old).files pages.old
-        → (accepted : List facts.Fact) → IsStoreOf store.now accepted (T.disk site.old).files
-        → (view : ℕ) → IsRoute store.now.forest.schema.views (body_counts store.now.forest.schema accepted) slice.now view
-        → T.reads site.new ≤ T.reads site.old + length (visits_over store.now.forest.body.format store.now.forest.schema accepted slice.now view) }
-
-    // The kept pages.
-    ensures saves { IsTrue T.tells → Agrees (T.disk site.old).files pages.old
-        → (view : ℕ) → IsRoute store.now.forest.schema.views store.now.forest.body.counts slice.now view
-        → HasRoom pages.old (2 + store.now.forest.body.generation % 2) (visits_of store.now slice.now view (T.disk site.old).files)
-        → T.reads site.new ≤ T.reads site.old
-        + length (unkept pages.old (2 + store.now.forest.body.generation % 2) (visits_of store.now slice.now view (T.disk site.old).files)) }
-    ensures keeps { IsTrue T.tells → Agrees (T.disk site.old).files pages.old
-        → (view : ℕ) → IsRoute store.now.forest.schema.views store.now.forest.body.counts slice.now view
-        → HasRoom pages.old (2 + store.now.forest.body.generation % 2) (visits_of store.now slice.now view (T.disk site.old).files)
-        → OnOk result (Keeps pages.old pages.new (2 + store.now.forest.body.generation % 2) (visits_of store.now slice.now view (T.disk site.old).files)) }
-    ensures agrees { IsTrue T.tells → Agrees (T.disk site.old).files pages.old → Agrees (T.disk site.new).files pages.new }
-
-    // Whatever the files hold.
-    ensures judged { IsTrue T.tells → Agrees (T.disk site.old).files pages.old
-        → (view : ℕ) → IsRoute store.now.forest.schema.views store.now.forest.body.counts slice.now view
-        → IsJudged store.now slice.now view (T.disk site.old).files result }
-    ensures untouched { IsErrOf result AnswerStop.NotCovered → site.new ≡ site.old }
-    ensures form { IfOk result (All (HasForm store.now.dicts slice.now)) }
-    ensures place { IfErr result (NamesSide store.now.forest.body) }
-    ensures unasked { IsErrOf result AnswerStop.NotCovered → pages.new ≡ pages.old }
-    ensures lies { LiesIn (2 + store.now.forest.body.generation % 2) pages.old → LiesIn (2 + store.now.forest.body.generation % 2) pages.new }
-    ensures capacity { pages.new.capacity ≡ pages.old.capacity }
-    ensures looks { Looks T.Site (HasCauseWhere AnswerStop.Disk) site.old site.new result }
-    ensures reads { (view : ℕ) → IsRoute store.now.forest.schema.views store.now.forest.body.counts slice.now view
-        → T.reads site.new ≤ T.reads site.old + (tree_of_view store.now view).pages }
+    requires { SliceAgrees store.now.forest.schema slice.now }
+    ensures answers { AnswersFrom T.Site (λ counts view. IsRoute store.now.forest.schema.views counts slice.now view) store.now slice.now
+        site.old site.new pages.old pages.new result }
 {
     let forest = &store.forest;
     match route(&forest.schema, &forest.body.counts, slice) {
@@ -89,8 +48,27 @@ pub fn answer<'a, T: Site>(
     }
 }
 
-/// The rows of a slice, from the points of this view, which covers it.
-fn answer_from<'a, T: Site>(
+/// The same, where of the covering views with fewest points the one is picked of which most last attributes are bound by equalities.
+pub fn answer_picked<'a, T: Site>(
+    alloc: Global,
+    site: &mut T,
+    pages: &mut Pages,
+    store: &'a Store,
+    slice: &'a Slice,
+) -> Result<SliceRows<'a>, AnswerStop>
+    requires { SliceAgrees store.now.forest.schema slice.now }
+    ensures answers { AnswersFrom T.Site (λ counts view. IsPicked store.now.forest.schema.views counts slice.now view) store.now slice.now
+        site.old site.new pages.old pages.new result }
+{
+    let forest = &store.forest;
+    match pick(&forest.schema, &forest.body.counts, slice) {
+        Some(choice) => answer_from(alloc, site, pages, store, slice, choice.view),
+        None => Err(AnswerStop::NotCovered),
+    }
+}
+
+/// The same from this view, which has all grouped and bound attributes. It never answers `NotCovered`.
+pub fn answer_from<'a, T: Site>(
     alloc: Global,
     site: &mut T,
     pages: &mut Pages,

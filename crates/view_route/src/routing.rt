@@ -37,8 +37,8 @@ fn is_fewer(counts: &[u64; 32], view: u32, best: Option<u32>) -> bool
     }
 }
 
-/// Whether the view has all grouped and bound attributes.
-fn covers(view: &[u32], slice: &Slice) -> bool
+/// Whether the view has all grouped and bound attributes of the slice. It takes no memory.
+pub fn covers(view: &[u32], slice: &Slice) -> bool
     ensures { result ≡ covers view.now slice.now }
 {
     has_all(view, slice.group.as_slice()) && has_bound(view, slice.conds.as_slice())
