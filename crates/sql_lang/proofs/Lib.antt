@@ -1,0 +1,10 @@
+pub mod QuotedTexts
+pub mod Cutting
+pub mod Finishing
+pub mod Answered
+pub mod Drafted
+pub mod Forms
+pub mod Told
+pub mod Standing
+pub mod Again
+pub mod Vectors

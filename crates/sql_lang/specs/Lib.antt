@@ -1,0 +1,9 @@
+pub mod Agreeing
+pub mod Answers
+pub mod Closed
+pub mod Drafting
+pub mod Grammar
+pub mod Quoting
+pub mod Reading
+pub mod Tests
+pub mod Tokens

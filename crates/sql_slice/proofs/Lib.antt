@@ -1,0 +1,17 @@
+pub mod Members
+pub mod Ranges
+pub mod TextSteps
+pub mod Fronts
+pub mod FoldLaws
+pub mod FoldSteps
+pub mod KeySteps
+pub mod ListSteps
+pub mod RecordSteps
+pub mod EndLaws
+pub mod Among
+pub mod TextLaws
+pub mod PlanLaws
+pub mod SqlLaws
+pub mod PlanAgrees
+pub mod PlanTheorem
+pub mod Vectors
