@@ -4,6 +4,7 @@ import time
 from typing import Optional
 
 from .errors import Fault, Refused
+from .limits import rows_over
 from .records import faults_of, may_be_unsendable
 from .rows import block, line_writer
 from .sessions import Loading
@@ -14,6 +15,10 @@ from .words import counted
 
 GREATEST = (1 << 64) - 1
 LONGEST_RUN, LONGEST_PAUSE, GAP = 10.0, 0.2, 0.05  # seconds: of a run, of a run without a batch, and between two runs, in which others get in
+
+
+class Full(Fault):
+    """The folder has as many facts as it may have."""
 
 
 class Sender:
@@ -87,13 +92,17 @@ class Sender:
         self.sent, self.batches = self.sent + len(batch.rows), self.batches + 1
 
     def put_faults_aside(self, batch: Batch, reply: str) -> None:
-        """Takes the rows out of a batch that are refused: the one that the reply names, and all that would be in its place."""
+        """Takes the rows out of a batch that are refused: the one that the reply names, and all that would be in its place; or those that the folder has
+        no room for."""
+        if reply == "refused facts":
+            raise Full(f"{self.folder} has {counted(self.facts, 'fact')}, and no room for those of batch {batch.number}")
         faults = faults_of(batch.rows, self.schema)
-        if reply:
-            row = Refused(reply).row
-            if row is None:
-                raise Fault(f"batch {batch.number} is refused, and its rows stand in the spool {self.spool.folder}: {reply}")
+        row = Refused(reply).row
+        if row:
             faults[row - 1] = reply.partition(f"row {row} ")[2]
+        faults.update(rows_over(reply, batch.rows, self.schema, self.folder))
+        if reply and not faults:
+            raise Fault(f"batch {batch.number} is refused: {reply}")
         if faults:
             text = "".join(refused_line(self.schema.row_fault(reason), batch.rows[place]) for place, reason in sorted(faults.items()))
             self.spool.rewrite(batch, [row for place, row in enumerate(batch.rows) if place not in faults], text, size_of(self.refused))
@@ -106,7 +115,6 @@ class Sender:
         if "refused" in batch.head:
             place = min(batch.head["offset"], size_of(self.refused))
             write_at(self.refused, batch.head["refused"].encode("utf-8", "surrogateescape"), place)
-
 
     def put_row_aside(self, why: str, row: bytes) -> None:
         """Puts a row aside that is in no batch."""

@@ -119,16 +119,55 @@ class Feeding(Case):
         with open("mine") as file:
             self.assertEqual(file.read(), 'it has not 3 fields,"b,1"\n')
 
-    def test_refused_batch(self) -> None:
-        """What cannot be taken in with any of its rows stays in the spool."""
+    def declare(self, *lines: str) -> None:
+        """Begins the folder anew with another schema."""
         shutil.rmtree("w")
         os.mkdir("w")
-        run(program(), given=b"schema\nattr part text max 2\nmeasure qty\nview part\nend\n", cwd="w")
-        said = self.feed(given=b"a,1\nb,1\nc,1\n", status=1)
-        self.assertIn("feed: batch 1 is refused, and its rows stand in the spool ", said)
-        self.assertIn(": refused names part; ", said)
-        with open("w/.feed/sending.1") as file:
-            self.assertIn("\na,1\nb,1\nc,1\n", file.read())
+        run(program(), given="".join(line + "\n" for line in ("schema", *lines, "end")).encode(), cwd="w")
+
+    def test_no_room_for_texts(self) -> None:
+        """Rows with a new text are put aside where an attribute has no room for it, and all others are taken in, in this batch and in the next ones."""
+        self.declare("attr part text max 2", "attr year number", "attr shop text max 3", "measure qty", "view part,year,shop")
+        rows = ["a,1,x,1", "a,1,y,2", "b,1,x,4", "c,1,z,8", "b,2,z,16", "a,2,u,32", "b,3,z,64"]
+        said = self.feed(given="\n".join(rows).encode(), status=1)
+        self.assertIn("feed: 1 row of batch 1 refused: ", said)
+        self.assertIn("feed: 5 rows sent; 2 refused: ", said)
+        no_part, no_shop = [f"{name} has a new text, and no more room for one" for name in ("part", "shop")]
+        self.assertEqual(self.refused(), [[no_part, "c,1,z,8"], [no_shop, "a,2,u,32"]])
+        self.assertEqual(self.rows("sum(qty) by part,shop"), [["a", "x", "1"], ["a", "y", "2"], ["b", "x", "4"], ["b", "z", "80"]])
+        said = self.feed("--rows", "2", given=b'"c",1,x,1\n"a",1,"x",128\nb,1,y,256\nb,1,,512\n', status=1)
+        self.assertIn("feed: 2 rows sent; 2 refused: ", said)
+        self.assertEqual(self.refused()[2:], [[no_part, '"c",1,x,1'], [no_shop, "b,1,,512"]])
+        self.assertEqual(self.rows("count,sum(qty)"), [["7", str(1 + 2 + 4 + 80 + 128 + 256)]])
+        self.assertEqual(os.listdir("w/.feed").count("refused.csv"), 1)
+        self.assertFalse([name for name in os.listdir("w/.feed") if name.startswith("se")])
+
+    def test_no_room_for_numbers(self) -> None:
+        """Rows that would bring the mass of a measure above its greatest value are put aside, and smaller ones are taken in."""
+        self.declare("attr part text", "measure qty", "measure cost", "view part")
+        half, greatest = 1 << 126, (1 << 127) - 1
+        self.feed(given=b"a,%d,1\n" % half)
+        said = self.feed(given=b"b,-%d,1\nc,%d,%d\nd,1,1\n" % (half, half - 2, greatest - 2) + b"e,1,1\nf,0,1\n", status=1)
+        self.assertIn("feed: 2 rows sent; 3 refused: ", said)
+        no_qty, no_cost = [f"{name} would add up to more than 2^127 - 1" for name in ("qty", "cost")]
+        self.assertEqual(self.refused(), [[no_qty, f"b,-{half},1"], [no_qty, "e,1,1"], [no_cost, "f,0,1"]])
+        self.assertEqual(self.rows("sum(qty),sum(cost)"), [[str(greatest), str(greatest)]])
+
+    def test_no_room_for_facts(self) -> None:
+        """A folder that takes no more facts ends the feed with a status of its own, and the rows stay in the spool."""
+        self.feed(given=b"a,1,1\n")
+        with open("w/root", "r+b") as root:
+            root.seek(1024 + 32)  # the facts of the live body
+            root.write((1 << 40).to_bytes(8, "big"))
+        for given in (b"a,1,1\nb,1,1\n", b""):
+            said = self.feed(given=given, status=5)
+            self.assertRegex(said, "feed: w has 1,099,511,627,776 facts, and no room for those of batch 2; what was read stands in the spool .*/w/.feed\n$")
+            with open("w/.feed/sending.2") as file:
+                self.assertIn("\na,1,1\nb,1,1\n", file.read())
+        with open("w/root", "r+b") as root:
+            root.seek(1024 + 32)
+            root.write((1).to_bytes(8, "big"))
+        self.assertIn("feed: 2 rows sent; the folder keeps 3 facts", self.feed(given=b""))
 
     def kill(self, feed: "subprocess.Popen[bytes]", draw: random.Random) -> str:
         """Kills a feed, or its program, or both, and tells which."""
@@ -200,12 +239,13 @@ runpy.run_path(sys.argv[0], run_name="__main__")
 """
 
     def test_killed_at_each_call(self) -> None:
-        """A feed that is killed before any of its calls leaves each row once to the next one, refused rows too: every fourth call is tried, and each one
-        where there are 200 kills."""
+        """A feed that is killed before any of its calls leaves each row once to the next one, refused rows too, also those with the 50th text of a part: every
+        fourth call is tried, and each one where there are 200 kills."""
+        self.declare("attr part text max 49", *SCHEMA.splitlines()[1:])
         self.put("cut.py", self.CUT)
         rows = [f"{'p' * 240}{number % 50:03},x{number},1" if number % 100 == 99 else f"{'p' * 240}{number % 50:03},{number},1" for number in range(400)]
         self.put("rows", "".join(row + "\n" for row in rows))
-        bad = [row for row in rows if ",x" in row]
+        bad = [row for row in rows if ",x" in row or "p049," in row]
         words = ["--into", "w", "--rows", "1"]
         os.rename("w", "empty")
         for call in range(0, 200, 1 if self.KILLS >= 200 else 4):
@@ -217,11 +257,11 @@ runpy.run_path(sys.argv[0], run_name="__main__")
                 break
             # At its very end a feed lets go of its input, and the next one would read it anew.
             with open("rows", "rb") as file:
-                is_over = os.path.exists("w/.feed/refused.csv") and not self.is_spooled(b'"-"') and self.rows("count") == [["396"]]
+                is_over = os.path.exists("w/.feed/refused.csv") and not self.is_spooled(b'"-"') and self.rows("count") == [["392"]]
                 run(os.path.join(TOOLS, "feed"), *words, status=None, stdin=subprocess.DEVNULL if is_over else file)
             with self.subTest(call=call):
-                self.assertEqual(self.rows("count,sum(qty)"), [["396", "396"]])
-                self.assertEqual([row[1] for row in self.refused()], bad)
+                self.assertEqual(self.rows("count,sum(qty)"), [["392", "392"]])
+                self.assertEqual(sorted(row[1] for row in self.refused()), sorted(bad))
         self.assertEqual(cut.returncode, 1, cut.stderr)
         self.assertGreater(call, 40)
 
