@@ -15,8 +15,10 @@ What goes wrong is a Fault: Refused has the reply of the program and the place t
 Ended has the status of a program that ended early, and Damaged the file and the offset as well.
 """
 from .errors import Busy, Damaged, Ended, Fault, Refused
+from .pages import Visits
 from .rows import Answer
 from .schema import Schema
+from .views import Choice
 from .warehouse import Status, Warehouse, open
 
-__all__ = ["Answer", "Busy", "Damaged", "Ended", "Fault", "Refused", "Schema", "Status", "Warehouse", "open"]
+__all__ = ["Answer", "Busy", "Choice", "Damaged", "Ended", "Fault", "Refused", "Schema", "Status", "Visits", "Warehouse", "open"]

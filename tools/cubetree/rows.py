@@ -1,16 +1,15 @@
 """Rows as they go to the program and come from it: lines of csv, and tuples of str and int."""
 import csv
 import operator
-import re
 from typing import Callable, Iterable, Iterator, List, Sequence, SupportsIndex, Tuple, Union
 
+from .questions import Question
 from .schema import Schema
 
 Value = Union[str, int]
 GivenRow = Sequence[Union[str, SupportsIndex]]
 MOST_ROWS, MOST_BYTES = 262_144, (1 << 26) - 64  # of a block
 MARK = "\ufeff".encode()
-SLICE = re.compile(r"(\S+)(?: by (\S+))?(?: where .*)?")
 
 
 class Echo:
@@ -50,13 +49,15 @@ def block(command: bytes, rows: Sequence[bytes]) -> bytes:
 
 
 class Answer(List[Tuple[Value, ...]]):
-    """The rows of the answer to a slice, as tuples of str and int, the names of their columns, and whether each has numbers."""
+    """The rows of an answer, as tuples of str and int, the names of their columns, and whether each has numbers."""
 
-    def __init__(self, text: str, schema: Schema, records: Iterable[list[str]]) -> None:
-        parts = SLICE.fullmatch(text)
-        assert parts, "the program has accepted the slice"
-        grouped = parts[2].split(",") if parts[2] else []
-        self.columns = tuple(grouped + parts[1].split(","))
-        self.numeric = tuple(place >= len(grouped) or name in schema.numbers for place, name in enumerate(self.columns))
+    def __init__(self, columns: Sequence[str], numeric: Sequence[bool], records: Iterable[Sequence[str]]) -> None:
+        self.columns, self.numeric = tuple(columns), tuple(numeric)
         kinds: list[type] = [int if is_number else str for is_number in self.numeric]
         super().__init__(tuple(kind(cell) for kind, cell in zip(kinds, record)) for record in records)
+
+
+def answer_of(question: Question, schema: Schema, records: Iterable[Sequence[str]]) -> Answer:
+    """The answer to a slice: its groups, and then its columns."""
+    numeric = [name in schema.numbers for name in question.groups] + [True] * len(question.columns)
+    return Answer(question.groups + question.columns, numeric, records)

@@ -8,6 +8,12 @@ WHOLE = {
     "end": "a line of it is `end`, which would end the block",
     "whole": "it has more than 65,536 bytes, or a quote that is not closed",
 }
+OF_A_FIELD = {
+    "long": "has more than 255 bytes",
+    "number": "is no whole number, or is out of range",
+    "names": "has a new text, and no more room for one",
+    "mass": "would add up to more than 2^127 - 1",
+}
 
 
 class Schema:
@@ -36,8 +42,7 @@ class Schema:
             return f"it has not {len(self.columns())} fields"
         if word in WHOLE:
             return WHOLE[word]
-        why = "has more than 255 bytes" if word == "long" else "is no whole number, or is out of range"
-        return f"{self.columns()[int(field[0]) - 1]} {why}"
+        return f"{self.columns()[int(field[0]) - 1]} {OF_A_FIELD[word]}"
 
 
 def declared_lines(lines: Union[str, Iterable[str]]) -> "list[str]":

@@ -7,10 +7,13 @@ from types import TracebackType
 from typing import Iterable, Iterator, NamedTuple, Optional, Union, overload
 
 from .errors import Fault, Refused
-from .rows import Answer, GivenRow, block, encoded, has_end
+from .pages import Visits, visits
+from .questions import question_of
+from .rows import Answer, GivenRow, answer_of, block, encoded, has_end
 from .schema import Schema, declared_lines
 from .sessions import Asking, Loading, Session
 from .turns import Reader, Writer
+from .views import Choice, views_of
 
 LONGEST_RUN = 1.0  # seconds of a run that only asks, after which others get their turn
 LONGEST_PAUSE = 0.1  # seconds between two of its questions
@@ -86,14 +89,28 @@ class Warehouse:
 
     def slice(self, text: str) -> Answer:
         """The answer to a slice, in the words of the program without `slice` before them."""
-        question = text.encode("utf-8", "surrogateescape")
-        if b"\n" in question or len(question) > LONGEST_SLICE:
-            raise Fault(f"a slice is one line of at most {LONGEST_SLICE:,} bytes")
+        question = _line(text)
         with self._question() as session:
             records, last = session.answer(question)
         if session.schema is None or last.startswith("refused "):
             raise Refused(last)
-        return Answer(text, session.schema, records)
+        return answer_of(question_of(text), session.schema, records)
+
+    def explain(self, text: str) -> Choice:
+        """The view that answers a slice; what `slice` refuses is refused."""
+        command = b"explain " + _line(text) + b"\n"
+        with self._question() as session:
+            reply = session.ask(command)
+        return _choice(reply, session.schema)
+
+    def visits(self, text: str) -> Visits:
+        """The same, with how many pages the slice goes to."""
+        command = b"explain " + _line(text) + b"\n"
+        with self._question() as session:
+            reply = session.ask(command)
+            if session.schema and not reply.startswith("refused "):
+                return visits(self.folder, session.schema, _choice(reply, session.schema), question_of(text))
+        raise Refused(reply)
 
     def status(self) -> Status:
         """How many facts there are."""
@@ -166,6 +183,22 @@ class Warehouse:
             with self._lock, suppress(Fault):  # All that was asked has been answered.
                 if not over.is_set() and time.monotonic() > self._asked + LONGEST_PAUSE:
                     self.pause()
+
+
+def _line(text: str) -> bytes:
+    """The bytes of a slice."""
+    line = text.encode("utf-8", "surrogateescape")
+    if b"\n" in line or len(line) > LONGEST_SLICE:
+        raise Fault(f"a slice is one line of at most {LONGEST_SLICE:,} bytes")
+    return line
+
+
+def _choice(reply: str, schema: Optional[Schema]) -> Choice:
+    """What a reply to `explain` tells; a fault where it is a refusal."""
+    if schema is None or reply.startswith("refused "):
+        raise Refused(reply)
+    words = reply.split()
+    return Choice(views_of(schema)[int(words[1]) - 1], int(words[3]), words[5] == "yes")
 
 
 def _block(command: bytes, given: Iterable[GivenRow]) -> bytes:

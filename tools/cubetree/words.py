@@ -13,6 +13,11 @@ def counted(number: int, word: str, words: str = "") -> str:
     return f"{number:,} {word if number == 1 else words or word + 's'}"
 
 
+def shown(text: str) -> str:
+    """A text on one line: what cannot be printed is shown as Python writes it."""
+    return text if text.isprintable() else "".join(c if c.isprintable() else repr(c)[1:-1] for c in text)
+
+
 def say_bytes(errors: str) -> None:
     """What standard output makes of bytes that are no UTF-8; standard error shows them as escapes."""
     for stream, how in ((sys.stdout, errors), (sys.stderr, "backslashreplace")):
