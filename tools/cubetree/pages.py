@@ -74,5 +74,7 @@ def visits(folder: str, schema: Schema, choice: Choice, question: Question) -> V
     forest = Forest(schema)
     tree = forest.trees(body.points, body.width())[forest.numbers[views_of(schema).index(choice.view)]]
     region = [bound.get(name, ALL) for name in choice.view] + [UNUSED] * (tree.dimensions - len(choice.view))
+    if not tree.pages:
+        return Visits(choice, 0, 0)
     with open(os.path.join(folder, f"side{body.slot}"), "rb") as side:
         return Visits(choice, searched(side, tree, region), tree.pages)
