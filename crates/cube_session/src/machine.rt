@@ -4,7 +4,7 @@ ghost use Rattle.cube_state.specs.Carried.{CarriesOut, IsReadyFor};
 use crate::answering::{plain, status};
 use crate::declaring::declare;
 use cube_batches::{abandon, begin, finish, load, step, upgrade};
-use cube_slices::{explain, slice};
+use cube_slices::{explain, slice, sql};
 use cube_state::{State, Stop};
 use page_cache::Pages;
 use plain_machine::BatchSource;
@@ -37,6 +37,7 @@ pub fn act<T: Site>(
         }
         Command::Slice(text) => slice(alloc, pages, state, text.as_bytes(), site),
         Command::Explain(text) => explain(alloc, state, text.as_bytes()),
+        Command::Sql(text) => sql(alloc, pages, state, text.as_bytes(), site),
         Command::Status => status(alloc, state),
         Command::Begin(block) => begin(alloc, state, block, site),
         Command::Step(moves) => step(alloc, state, moves, site),

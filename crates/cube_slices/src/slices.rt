@@ -1,7 +1,8 @@
 //! The command `slice`.
 ghost use Rattle.script_lang.specs.declared.command.Command.TheVariants as says;
 ghost use Rattle.cube_state.specs.Carried.{CarriesOut, IsReadyFor};
-ghost use Rattle.cube_slices.specs.Told.{CarriesOutOver, Tells};
+ghost use Rattle.std.specs.Prelude.{Err};
+ghost use Rattle.cube_slices.specs.Told.{CarriesOutAs, Tells};
 
 use cube_state::{State, Stop};
 use forest_root::Store;
@@ -39,7 +40,7 @@ fn reply_to<T: Site>(
     text: &[u8],
     site: &mut T,
 ) -> Result<Vec<u8>, Stop>
-    ensures { CarriesOutOver T.Site text.now store.now site.old site.new pages.old pages.new result }
+    ensures { CarriesOutAs T.Site (says.Slice text.now) store.now site.old site.new pages.old pages.new result }
 {
     match read_slice(alloc, &store.forest.schema, text) {
         Ok(slice) => told(
@@ -56,9 +57,18 @@ fn told(alloc: Global, answer: Result<SliceRows<'_>, AnswerStop>) -> Result<Vec<
 {
     match answer {
         Ok(rows) => Ok(rows_text(alloc, &rows)?.into_vec()),
-        Err(AnswerStop::NotCovered) => Ok(plain(alloc, "refused notcovered")?),
-        Err(AnswerStop::Disk) => Err(Stop::Disk),
-        Err(AnswerStop::Damaged { file, offset }) => Err(Stop::Damaged { file, offset }),
-        Err(AnswerStop::Memory) => Err(Stop::Memory),
+        Err(stop) => unanswered(alloc, stop),
+    }
+}
+
+/// What is told where a slice has no answer: that no view covers it, or why the command stops.
+pub(crate) fn unanswered(alloc: Global, stop: AnswerStop) -> Result<Vec<u8>, Stop>
+    ensures { Tells (Err stop) result }
+{
+    match stop {
+        AnswerStop::NotCovered => Ok(plain(alloc, "refused notcovered")?),
+        AnswerStop::Disk => Err(Stop::Disk),
+        AnswerStop::Damaged { file, offset } => Err(Stop::Damaged { file, offset }),
+        AnswerStop::Memory => Err(Stop::Memory),
     }
 }

@@ -3,7 +3,7 @@ use Rattle.cube_state.specs.declared.state.State.{State}
 use Rattle.plain_machine.specs.World.{bare}
 use Rattle.script_lang.specs.declared.command.Command.{Command}
 use Rattle.site_core.specs.Disk.{Files}
-use Rattle.std.proofs.Common.{◌≡◌, ◌<◌, ℕ, inl, inr, List, [], ◌∷◌, length, Option, Some, None, Result, Ok, Err, codes, decimal, sym, subst}
+use Rattle.std.proofs.Common.{◌≡◌, ◌<◌, ℕ, inl, inr, List, [], ◌∷◌, length, map, Option, Some, None, Result, Ok, Err, codes, decimal, sym, subst}
 use Rattle.cube_schema.specs.declared.schema.Schema.{Schema}
 use Rattle.cube_schema.specs.Kinds.{name_at, measure_name_at}
 use Rattle.fact_model.specs.declared.fact.Fact.{Fact}
@@ -19,11 +19,19 @@ use Rattle.slice_lang.specs.Reading.{slice_of}
 use Rattle.plain_machine.specs.declared.batch_source.BatchSource.{BatchSource}
 use Rattle.plain_machine.specs.declared.batch_source.BatchSource.TheVariants.{Rows, Numbered, Generator}
 use Rattle.plain_machine.specs.Machine.{Given}
-use Rattle.plain_machine.proofs.Acts.{HasByte, HasReply, answer_some, behind, declare_some, explained_some, refused_some, some_line, some_number, source_has}
+use Rattle.plain_machine.proofs.Acts.{HasByte, HasReply, answer_some, behind, declare_some, explained_some, query_refused_some, records_some, refused_some, some_line, some_number, source_has}
 use Rattle.cube_state.specs.declared.state.State.TheVariants.{Empty, Idle, Hollow, Pending}
 use Rattle.cube_state.specs.Batches.{GivesBatch, GivesBegun, GivesGiven, IsRefused, LoadGives, given_to, pending_line, refusal_text}
 use Rattle.cube_state.specs.Commands.{Gives}
+use Rattle.cube_state.specs.Folds.{GivesQuery, QueryGives, records_found}
 use Rattle.cube_state.specs.Slices.{GivesRead, SliceGives, explain_text}
+use Rattle.fact_model.specs.declared.slice.Row.{Row}
+use Rattle.sql_lang.specs.Reading.{query_of}
+use Rattle.sql_lang.specs.declared.query.Query.{Query}
+use Rattle.sql_lang.specs.declared.refusal.SqlRefusal.{SqlRefusal}
+use Rattle.sql_slice.specs.Plans.{plan_of}
+use Rattle.sql_slice.specs.RowFold.{joined_rows, laid_entry}
+use Rattle.sql_slice.specs.declared.planned.Plan.{Plan}
 use Rattle.cube_state.specs.Visits.{store_of}
 
 -- by the text that it is
@@ -55,6 +63,18 @@ slice_some (Some store) files text reply is = read_some store files (slice_of st
 explain_some : (store : Option Store) (text : List ℕ) → 0 < length (explain_text store text)
 explain_some None text = some_line no_schema
 explain_some (Some store) text = explained_some store.forest.schema store.forest.body.counts (slice_of store.forest.schema text)
+
+found_some : (q : Query) (p : Plan) (found : Option (List Row)) → 0 < length (records_found q p found)
+found_some q p (Some rows) = records_some (map (laid_entry q) (joined_rows p.slice.columns (length q.group) p.slice.group q.tests rows))
+found_some q p None = some_line not_covered
+
+query_read_some : (store : Store) (files : Files) (read : Result Query SqlRefusal) (reply : List ℕ) → GivesQuery store files read reply → 0 < length reply
+query_read_some store files (Err refusal) reply is = as_text _ reply is (query_refused_some refusal)
+query_read_some store files (Ok q) reply is = as_text _ reply is.2 (found_some q (plan_of store.forest.schema q) is.0)
+
+query_some : (store : Option Store) (files : Files) (text reply : List ℕ) → QueryGives store files text reply → 0 < length reply
+query_some None files text reply is = as_line no_schema reply is
+query_some (Some store) files text reply is = query_read_some store files (query_of store.forest.schema text) reply is
 
 batch_some : (store : Store) (files : Files) (batch : List Fact) (reply : List ℕ) → GivesBatch store files batch reply → 0 < length reply
 batch_some store files [] reply is = as_text _ reply is (some_number (codes "committed ") store.forest.body.facts)
@@ -88,6 +108,7 @@ gives_some state files (says.LoadNumbered number block) reply is = load_some sta
 gives_some state files (says.Generate start rows) reply is = load_some state files (Generator start rows) reply is
 gives_some state files (says.Slice text) reply is = slice_some (store_of state) files text reply is
 gives_some state files (says.Explain text) reply is = as_text _ reply is (explain_some (store_of state) text)
+gives_some state files (says.Sql text) reply is = query_some (store_of state) files text reply is
 gives_some Empty files says.Status reply is = as_text _ reply is (some_line unopened)
 gives_some (Idle store) files says.Status reply is = as_text _ reply is (some_number (codes "facts ") store.forest.body.facts)
 gives_some (Hollow store) files says.Status reply is =

@@ -104,6 +104,7 @@ reached_more world reached says.Abandon known = omega arith
 reached_more world reached says.Upgrade known = upgraded_more world.kept world.pending reached.format known
 reached_more world reached (says.Slice text) known = omega arith
 reached_more world reached (says.Explain text) known = omega arith
+reached_more world reached (says.Sql text) known = omega arith
 reached_more world reached says.Status known = omega arith
 reached_more world reached says.LongLine known = omega arith
 reached_more world reached says.OpenBlock known = omega arith

@@ -21,6 +21,7 @@ use Rattle.cube_state.specs.BatchDamage.{FinishTells, LoadTells, TellsBatchDamag
 use Rattle.cube_state.specs.Batches.{given_to}
 use Rattle.cube_state.specs.Carried.{Spares, SparesOf}
 use Rattle.cube_state.specs.Commands.{TellsDamage}
+use Rattle.cube_state.specs.Folds.{FoldTells, TellsFold}
 use Rattle.cube_state.specs.Slices.{SliceTells, TellsSpoilt}
 use Rattle.cube_state.specs.Stops.{IsNoDamage}
 use Rattle.cube_state.specs.Visits.{store_of}
@@ -34,6 +35,16 @@ spoilt_none kept files asked stops.Memory is = tt
 pub slice_none : (kept : Option Store) (files : Files) (command : Command) (stop : Stop) → IsNoDamage stop → SliceTells kept files command stop
 slice_none None files command stop is = is
 slice_none (Some kept) files command stop is = spoilt_none kept files (asked_by kept.forest.schema command) stop is
+
+fold_spoilt_none : (kept : Store) (files : Files) (asked : Option Slice) (stop : Stop) → IsNoDamage stop → TellsFold kept files asked stop
+fold_spoilt_none kept files asked stops.Disk is = tt
+fold_spoilt_none kept files asked stops.Output is = tt
+fold_spoilt_none kept files asked (stops.Damaged file offset) is = absurd is
+fold_spoilt_none kept files asked stops.Memory is = tt
+
+fold_none : (kept : Option Store) (files : Files) (command : Command) (stop : Stop) → IsNoDamage stop → FoldTells kept files command stop
+fold_none None files command stop is = is
+fold_none (Some kept) files command stop is = fold_spoilt_none kept files (asked_by kept.forest.schema command) stop is
 
 pub batch_none : (kept : Store) (files : Files) (batch : List Fact) (stop : Stop) → IsNoDamage stop → TellsBatchDamage kept files batch stop
 batch_none kept files batch stops.Disk is = tt
@@ -80,6 +91,7 @@ tells_none state files says.Finish stop is = finish_none state files stop is
 tells_none state files says.Upgrade stop is = upgrade_none state files stop is
 tells_none state files (says.Schema block) stop is = is
 tells_none state files (says.Explain text) stop is = is
+tells_none state files (says.Sql text) stop is = fold_none (store_of state) files (says.Sql text) stop is
 tells_none state files says.Status stop is = is
 tells_none state files says.LongLine stop is = is
 tells_none state files says.OpenBlock stop is = is

@@ -49,6 +49,10 @@ pub record Effect : Type 0 where
 abbrev pub answers : Effect
 answers = record { writes = false; moves = false; ends = false; renews = false; tells = false; looks = false }
 
+-- it answers from pages
+abbrev pub asks : Effect
+asks = record answers { tells = true; looks = true }
+
 -- it may write all points anew
 abbrev pub rewrites : Effect
 rewrites = record { writes = true; moves = false; ends = false; renews = true; tells = true; looks = true }
@@ -63,8 +67,9 @@ effect_of (says.Step n) = record answers { writes = true; moves = true; tells = 
 effect_of says.Finish = record rewrites { ends = true }
 effect_of says.Abandon = record answers { ends = true }
 effect_of says.Upgrade = rewrites
-effect_of (says.Slice text) = record answers { tells = true; looks = true }
+effect_of (says.Slice text) = asks
 effect_of (says.Explain text) = answers
+effect_of (says.Sql text) = asks
 effect_of says.Status = answers
 effect_of says.LongLine = answers
 effect_of says.OpenBlock = answers

@@ -19,6 +19,7 @@ use Rattle.cube_state.specs.Batches.{BeginGives, FinishGives, LoadGives, Upgrade
 use Rattle.cube_state.specs.Costs.{Cost, both, free}
 use Rattle.cube_state.specs.Moves.{Reached, reached_behind}
 use Rattle.cube_state.specs.Session.{IsLine, state_text}
+use Rattle.cube_state.specs.Folds.{FoldTells, QueryGives}
 use Rattle.cube_state.specs.Slices.{SliceGives, SliceTells, explain_text}
 use Rattle.cube_state.specs.Stops.{IsNoDamage}
 use Rattle.cube_state.specs.Visits.{ReadsFor, store_of}
@@ -44,6 +45,7 @@ Costs world reached says.Finish cost = cost ≡ finish_cost world reached
 Costs world reached says.Abandon cost = cost ≡ free
 Costs world reached says.Upgrade cost = cost ≡ upgrade_cost reached.format world
 Costs world reached (says.Explain text) cost = cost ≡ free
+Costs world reached (says.Sql text) cost = ReadsFor reached.format world (says.Sql text) cost
 Costs world reached says.Status cost = cost ≡ free
 Costs world reached says.LongLine cost = cost ≡ free
 Costs world reached says.OpenBlock cost = cost ≡ free
@@ -75,6 +77,7 @@ MakesNoCall world reached says.Finish = HasNoFact world.pending
 MakesNoCall world reached says.Upgrade = remakes world reached.format ≡ false
 MakesNoCall world reached says.Abandon = Unit {0}
 MakesNoCall world reached (says.Explain text) = Unit {0}
+MakesNoCall world reached (says.Sql text) = asked_slice world (says.Sql text) ≡ None
 MakesNoCall world reached says.Status = Unit {0}
 MakesNoCall world reached says.LongLine = Unit {0}
 MakesNoCall world reached says.OpenBlock = Unit {0}
@@ -97,6 +100,7 @@ Gives state files (says.LoadNumbered number block) reply = LoadGives state files
 Gives state files (says.Generate start rows) reply = LoadGives state files (Generator start rows) reply
 Gives state files (says.Slice text) reply = SliceGives (store_of state) files text reply
 Gives state files (says.Explain text) reply = reply ≡ explain_text (store_of state) text
+Gives state files (says.Sql text) reply = QueryGives (store_of state) files text reply
 Gives state files says.Status reply = reply ≡ state_text state
 Gives state files says.Upgrade reply = UpgradeGives state files reply
 Gives state files (says.Begin block) reply = BeginGives state block reply
@@ -109,7 +113,7 @@ Gives state files says.Unknown reply = IsLine is_unknown reply
 
 -- ---- damage
 
--- damage that a command tells is there; no command but these seven tells any
+-- damage that a command tells is there; no command but these eight tells any
 abbrev pub TellsDamage : State → Files → Command → Stop → Type 0
 TellsDamage state files (says.Slice text) stop = SliceTells (store_of state) files (says.Slice text) stop
 TellsDamage state files (says.Load block) stop = LoadTells state files (Rows block) stop
@@ -120,6 +124,7 @@ TellsDamage state files says.Finish stop = FinishTells state files stop
 TellsDamage state files says.Upgrade stop = UpgradeTells state files stop
 TellsDamage state files (says.Schema block) stop = IsNoDamage stop
 TellsDamage state files (says.Explain text) stop = IsNoDamage stop
+TellsDamage state files (says.Sql text) stop = FoldTells (store_of state) files (says.Sql text) stop
 TellsDamage state files says.Status stop = IsNoDamage stop
 TellsDamage state files says.LongLine stop = IsNoDamage stop
 TellsDamage state files says.OpenBlock stop = IsNoDamage stop

@@ -5,6 +5,7 @@ pub mod Cached
 pub mod Carried
 pub mod Commands
 pub mod Costs
+pub mod Folds
 pub mod Frames
 pub mod Moves
 pub mod Session

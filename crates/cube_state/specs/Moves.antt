@@ -72,6 +72,7 @@ reached_behind world reached says.Abandon = unmoved reached.format
 reached_behind world reached says.Upgrade = record reached { format = format_upgraded world.kept world.pending reached.format }
 reached_behind world reached (says.Slice text) = reached
 reached_behind world reached (says.Explain text) = reached
+reached_behind world reached (says.Sql text) = reached
 reached_behind world reached says.Status = reached
 reached_behind world reached says.LongLine = reached
 reached_behind world reached says.OpenBlock = reached

@@ -8,6 +8,7 @@ use fact_model::{
     Column, ColumnList, Fact, FactList, ListOf, Memory, Row, Slice, Text, Value, slow_slice,
 };
 use forest_open::{init, open_store};
+use forest_root::Store;
 use page_cache::Pages;
 use part_host::PartHost;
 use script_lang::{Command, Lines};
@@ -99,17 +100,30 @@ fn of_views_with_as_few_points_the_first_is_the_route(rt: HostRuntime) -> Result
     Ok(())
 }
 
+/// The sums by year over a store, as text.
+fn sums_by_year(alloc: Global, site: &mut MemorySite, store: &Store) -> Result<Text, Fail> {
+    let slice = read_slice(alloc, &store.forest.schema, b"sum(qty) by year")?;
+    let mut pages = Pages::new(alloc, 1)?;
+    let rows = answer(alloc, site, &mut pages, store, &slice)?;
+    Ok(rows_text(alloc, &rows)?)
+}
+
+/// Declares a schema in files that keep none.
+fn declared(alloc: Global, site: &mut MemorySite) -> Result<Store, Fail> {
+    let schema = Schema::read(alloc, b"attr year number\nmeasure qty\nview year\n")?;
+    match open_store(alloc, site)? {
+        None => Ok(init(alloc, site, schema)?),
+        Some(store) => Ok(store),
+    }
+}
+
 #[test]
 fn without_facts_a_slice_has_no_rows(rt: HostRuntime) -> Result<(), Fail> {
     let alloc = rt.alloc();
     let mut site = MemorySite::new(alloc);
-    let schema = Schema::read(alloc, b"attr year number\nmeasure qty\nview year\n")?;
-    assert!(rt; open_store(alloc, &mut site)?.is_none());
-    let store = init(alloc, &mut site, schema)?;
-    let slice = read_slice(alloc, &store.forest.schema, b"sum(qty) by year")?;
-    let mut pages = Pages::new(alloc, 1)?;
-    let rows = answer(alloc, &mut site, &mut pages, &store, &slice)?;
-    assert_eq!(rt; rows_text(alloc, &rows)?.as_bytes(), b"rows 0\n".as_slice());
+    let store = declared(alloc, &mut site)?;
+    let text = sums_by_year(alloc, &mut site, &store);
+    assert_eq!(rt; text?.as_bytes(), b"rows 0\n".as_slice());
     Ok(())
 }
 

@@ -21,14 +21,20 @@ use Rattle.script_lang.specs.declared.command.Command.TheVariants as says
 use Rattle.forest_pages.specs.Forest.{body_counts}
 use Rattle.replica_route.specs.Picked.{picked}
 use Rattle.replica_route.specs.declared.picking.Choice.{Choice}
-use Rattle.reply_text.specs.Replies.{line, already_text, gap_text, numbered, run_text, schema_text, batch_text, slice_text, answer_text}
+use Rattle.reply_text.specs.Replies.{line, already_text, gap_text, numbered, query_text, run_text, schema_text, batch_text, slice_text, answer_text}
 use Rattle.slice_lang.specs.declared.refusal.SliceRefusal.{SliceRefusal}
 use Rattle.slice_lang.specs.declared.refusal.SliceRefusal.TheVariants as slices
 use Rattle.slice_lang.specs.Reading.{slice_of}
+use Rattle.sql_lang.specs.Reading.{query_of}
+use Rattle.sql_lang.specs.declared.query.Query.{Query}
+use Rattle.sql_lang.specs.declared.refusal.SqlRefusal.{SqlRefusal}
+use Rattle.sql_lang.specs.declared.refusal.SqlRefusal.TheVariants as queries
+use Rattle.sql_slice.specs.Plans.{plan_of}
+use Rattle.sql_slice.specs.SqlRows.{records_text, sql_reply, sqlrows}
 use Rattle.plain_machine.specs.declared.batch_source.BatchSource.{BatchSource}
 use Rattle.plain_machine.specs.declared.batch_source.BatchSource.TheVariants.{Rows, Numbered, Generator}
 use Rattle.plain_machine.specs.World.{Kept, World, Warehouse}
-use Rattle.plain_machine.specs.Machine.{Answer, Given, abandon, accepted, act, batch_from, begin, begun, begun_or_refused, block_read, committed, declare, declare_over, declared, explain, explain_over, explain_reply, fact_limit, facts_or_refusal, finish, first_full, first_heavy, full_refusal, heavy_refusal, is_covered, load, pending_over, picked_reply, read_by, refusal_of, replies_with, rows_reply, slice, slice_over, slice_reply, status_over, status_text, step, take_over, unless, upgrade, upgrade_over, with_last, with_number}
+use Rattle.plain_machine.specs.Machine.{Answer, Given, abandon, accepted, act, batch_from, begin, begun, begun_or_refused, block_read, committed, declare, declare_over, declared, explain, explain_over, explain_reply, fact_limit, facts_or_refusal, finish, first_full, first_heavy, full_refusal, heavy_refusal, is_covered, load, pending_over, picked_reply, query, query_over, query_reply, read_by, refusal_of, replies_with, rows_reply, slice, slice_over, slice_reply, status_over, status_text, step, take_over, unless, upgrade, upgrade_over, with_last, with_number}
 use Rattle.plain_machine.specs.Stages.{size, makes_stage}
 use Rattle.plain_machine.specs.Histories.{Batch, batch_by}
 use Rattle.plain_machine.proofs.Outcomes.{Outcome, stays, declares, commits, counts, outcome}
@@ -200,6 +206,30 @@ explain_some : (kept : Kept) (text : List ℕ) → 0 < length (explain_over kept
 explain_some None text = some_line (codes "refused no schema")
 explain_some (Some warehouse) text = explained_some warehouse.schema (body_counts warehouse.schema warehouse.facts) (slice_of warehouse.schema text)
 
+pub query_refused_some : (refusal : SqlRefusal) → 0 < length (query_text refusal)
+query_refused_some (queries.Syntax byte) = some_number (codes "refused sql syntax ") byte
+query_refused_some (queries.Table byte) = some_number (codes "refused sql table ") byte
+query_refused_some (queries.Name byte) = some_number (codes "refused sql name ") byte
+query_refused_some (queries.Group byte) = some_number (codes "refused sql group ") byte
+query_refused_some (queries.Value byte) = some_number (codes "refused sql value ") byte
+query_refused_some queries.Memory = some_line []
+
+pub records_some : (records : List (List (List ℕ))) → 0 < length (records_text records)
+records_some records = behind (rows_text records) _ (some_number (codes "rows ") (length records))
+
+query_reply_some : (schema : Schema) (facts : List Fact) (read : Result Query SqlRefusal) → 0 < length (query_reply schema facts read)
+unfolding sql_reply
+query_reply_some schema facts (Err refusal) = query_refused_some refusal
+query_reply_some schema facts (Ok q) = by (is_covered schema (plan_of schema q).slice)
+  where
+    by : (b : Bool) → 0 < length (cond b (records_text (sqlrows facts q)) (line (codes "refused notcovered")))
+    by true = records_some (sqlrows facts q)
+    by false = some_line (codes "refused notcovered")
+
+query_some : (kept : Kept) (text : List ℕ) → 0 < length (query_over kept text)
+query_some None text = some_line (codes "refused no schema")
+query_some (Some warehouse) text = query_reply_some warehouse.schema warehouse.facts (query_of warehouse.schema text)
+
 status_some : (kept : Kept) (pending : Option (List Fact)) → 0 < length (status_over kept pending)
 status_some None pending = some_line (codes "no schema")
 status_some (Some warehouse) None = some_number (codes "facts ") (length warehouse.facts)
@@ -224,6 +254,7 @@ reply_some world says.Finish =
 reply_some world says.Abandon = pending_some world _ world.kept world.pending (λ warehouse batch. some_line (codes "abandoned"))
 reply_some world (says.Slice text) = slice_some world.kept text
 reply_some world (says.Explain text) = explain_some world.kept text
+reply_some world (says.Sql text) = query_some world.kept text
 reply_some world says.Status = status_some world.kept world.pending
 reply_some world says.Upgrade = upgrade_some world.kept world.pending
 reply_some world says.LongLine = some_line (codes "refused long line")
@@ -274,6 +305,10 @@ act_slice world text = refl
 pub act_explain : (world : World) (text : List ℕ) → act world (says.Explain text) ≡ explain world text
 unfolding act
 act_explain world text = refl
+
+pub act_sql : (world : World) (text : List ℕ) → act world (says.Sql text) ≡ query world text
+unfolding act
+act_sql world text = refl
 
 pub act_status : (world : World) → act world says.Status ≡ (world, status_text world)
 unfolding act

@@ -141,6 +141,7 @@ outcome world says.Abandon =
     pending_stays world (λ warehouse batch. (record world { pending = None }, line (codes "abandoned"))) (λ warehouse batch. refl) world.kept world.pending
 outcome world (says.Slice text) = stays
 outcome world (says.Explain text) = stays
+outcome world (says.Sql text) = stays
 outcome world says.Status = stays
 outcome world says.Upgrade = stays
 outcome world says.LongLine = stays

@@ -76,6 +76,7 @@ batch_by world (says.Step n) = None
 batch_by world says.Abandon = None
 batch_by world (says.Slice text) = None
 batch_by world (says.Explain text) = None
+batch_by world (says.Sql text) = None
 batch_by world says.Status = None
 batch_by world says.Upgrade = None
 batch_by world says.LongLine = None

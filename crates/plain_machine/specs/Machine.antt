@@ -22,8 +22,13 @@ use Rattle.script_lang.specs.declared.command.Command.TheVariants as says
 use Rattle.forest_pages.specs.Forest.{body_counts}
 use Rattle.replica_route.specs.Picked.{picked}
 use Rattle.replica_route.specs.declared.picking.Choice.{Choice}
-use Rattle.reply_text.specs.Replies.{line, already_text, choice_text, committed_text, facts_text, gap_text, pending_text, schema_text, batch_text, full_text, mass_text, slice_text, answer_text, unopened, no_schema, is_declared, long_schema, long_block, is_pending, none_pending, too_many_facts, is_empty, not_covered, long_line, open_block, is_unknown, declared_text, begun_text, stepped_text, abandoned_text, upgraded_text}
+use Rattle.reply_text.specs.Replies.{line, already_text, choice_text, committed_text, facts_text, gap_text, pending_text, schema_text, batch_text, full_text, mass_text, query_text, slice_text, answer_text, unopened, no_schema, is_declared, long_schema, long_block, is_pending, none_pending, too_many_facts, is_empty, not_covered, long_line, open_block, is_unknown, declared_text, begun_text, stepped_text, abandoned_text, upgraded_text}
 use Rattle.slice_lang.specs.declared.refusal.SliceRefusal.{SliceRefusal}
+use Rattle.sql_lang.specs.Reading.{query_of}
+use Rattle.sql_lang.specs.declared.query.Query.{Query}
+use Rattle.sql_lang.specs.declared.refusal.SqlRefusal.{SqlRefusal}
+use Rattle.sql_slice.specs.Plans.{plan_of}
+use Rattle.sql_slice.specs.SqlRows.{sql_reply}
 use Rattle.slice_lang.specs.Reading.{slice_of}
 use Rattle.view_route.specs.Routes.{covers}
 use Rattle.plain_machine.specs.declared.batch_source.BatchSource.{BatchSource}
@@ -225,31 +230,6 @@ abbrev pub covered : Schema → Result Slice SliceRefusal → Option Slice
 covered schema (Err refusal) = None
 covered schema (Ok s) = cond (is_covered schema s) (Some s) None
 
--- the slice that a command has answered from pages by this schema, if it has one answered
-abbrev pub asked_by : Schema → Command → Option Slice
-asked_by schema (says.Slice text) = covered schema (slice_of schema text)
-asked_by schema (says.Schema block) = None
-asked_by schema (says.Load block) = None
-asked_by schema (says.LoadNumbered number block) = None
-asked_by schema (says.Generate start rows) = None
-asked_by schema (says.Begin block) = None
-asked_by schema (says.Step n) = None
-asked_by schema says.Finish = None
-asked_by schema says.Abandon = None
-asked_by schema (says.Explain text) = None
-asked_by schema says.Status = None
-asked_by schema says.Upgrade = None
-asked_by schema says.LongLine = None
-asked_by schema says.OpenBlock = None
-asked_by schema says.Unknown = None
-
-abbrev pub asked_over : Kept → Command → Option Slice
-asked_over None command = None
-asked_over (Some warehouse) command = asked_by warehouse.schema command
-
-abbrev pub asked_slice : World → Command → Option Slice
-asked_slice world command = asked_over world.kept command
-
 -- ---- explain
 
 -- the view picked and how its points lie, or the refusal where no view covers the slice
@@ -268,6 +248,53 @@ explain_over (Some warehouse) text = explain_reply warehouse.schema (body_counts
 
 abbrev pub explain : World → List ℕ → Answer
 explain world text = (world, explain_over world.kept text)
+
+-- ---- sql
+
+-- the slice that a query is answered from, where a fact may meet its tests and some view covers it
+abbrev pub queried : Schema → Result Query SqlRefusal → Option Slice
+queried schema (Err refusal) = None
+queried schema (Ok q) = cond (plan_of schema q).empty None (covered schema (Ok (plan_of schema q).slice))
+
+-- the records of the facts, or the refusal where no view has all attributes of the tests and groups
+abbrev pub query_reply : Schema → List Fact → Result Query SqlRefusal → List ℕ
+query_reply schema facts (Err refusal) = query_text refusal
+query_reply schema facts (Ok q) = cond (is_covered schema (plan_of schema q).slice) (sql_reply facts q) (line not_covered)
+
+abbrev pub query_over : Kept → List ℕ → List ℕ
+query_over None text = line no_schema
+query_over (Some warehouse) text = query_reply warehouse.schema warehouse.facts (query_of warehouse.schema text)
+
+abbrev pub query : World → List ℕ → Answer
+query world text = (world, query_over world.kept text)
+
+-- ---- what is answered from pages
+
+-- the slice that a command has answered from pages by this schema, if it has one answered
+abbrev pub asked_by : Schema → Command → Option Slice
+asked_by schema (says.Slice text) = covered schema (slice_of schema text)
+asked_by schema (says.Schema block) = None
+asked_by schema (says.Load block) = None
+asked_by schema (says.LoadNumbered number block) = None
+asked_by schema (says.Generate start rows) = None
+asked_by schema (says.Begin block) = None
+asked_by schema (says.Step n) = None
+asked_by schema says.Finish = None
+asked_by schema says.Abandon = None
+asked_by schema (says.Explain text) = None
+asked_by schema (says.Sql text) = queried schema (query_of schema text)
+asked_by schema says.Status = None
+asked_by schema says.Upgrade = None
+asked_by schema says.LongLine = None
+asked_by schema says.OpenBlock = None
+asked_by schema says.Unknown = None
+
+abbrev pub asked_over : Kept → Command → Option Slice
+asked_over None command = None
+asked_over (Some warehouse) command = asked_by warehouse.schema command
+
+abbrev pub asked_slice : World → Command → Option Slice
+asked_slice world command = asked_over world.kept command
 
 -- ---- status
 
@@ -293,6 +320,7 @@ act world says.Finish = finish world
 act world says.Abandon = abandon world
 act world (says.Slice text) = slice world text
 act world (says.Explain text) = explain world text
+act world (says.Sql text) = query world text
 act world says.Status = (world, status_text world)
 act world says.Upgrade = upgrade world
 act world says.LongLine = replies_with world long_line

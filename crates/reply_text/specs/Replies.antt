@@ -9,6 +9,8 @@ use Rattle.fact_model.specs.declared.slice.Row.{Row}
 use Rattle.replica_route.specs.declared.picking.Choice.{Choice}
 use Rattle.slice_lang.specs.declared.refusal.SliceRefusal.{SliceRefusal}
 use Rattle.slice_lang.specs.declared.refusal.SliceRefusal.TheVariants as slices
+use Rattle.sql_lang.specs.declared.refusal.SqlRefusal.{SqlRefusal}
+use Rattle.sql_lang.specs.declared.refusal.SqlRefusal.TheVariants as queries
 
 -- a text with its line feed
 abbrev pub line : List ℕ → List ℕ
@@ -151,6 +153,15 @@ slice_text (slices.UnknownMeasure byte) = numbered (codes "refused measure ") by
 slice_text (slices.Repeated byte) = numbered (codes "refused repeated ") byte
 slice_text (slices.BadValue byte) = numbered (codes "refused value ") byte
 slice_text slices.Memory = line []
+
+-- the refusal of a query; want of memory is none, and has no text
+abbrev pub query_text : SqlRefusal → List ℕ
+query_text (queries.Syntax byte) = numbered (codes "refused sql syntax ") byte
+query_text (queries.Table byte) = numbered (codes "refused sql table ") byte
+query_text (queries.Name byte) = numbered (codes "refused sql name ") byte
+query_text (queries.Group byte) = numbered (codes "refused sql group ") byte
+query_text (queries.Value byte) = numbered (codes "refused sql value ") byte
+query_text queries.Memory = line []
 
 -- whether the points that meet the conditions are one part of the view's points
 abbrev pub run_text : Bool → List ℕ

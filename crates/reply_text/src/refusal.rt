@@ -1,13 +1,14 @@
-//! Replies that refuse a schema, a batch or a slice.
+//! Replies that refuse a schema, a batch, a slice or a query.
 ghost use Rattle.std.specs.Prelude.{◌≡◌, ◌≢◌, ◌++◌, IfOk, OnOk};
 ghost use Rattle.fact_csv.specs.declared.refusal.RowRefusal.TheVariants as rows;
-ghost use Rattle.reply_text.specs.Replies.{line, schema_text, batch_text, gap_text, full_text, mass_text, slice_text};
+ghost use Rattle.reply_text.specs.Replies.{line, schema_text, batch_text, gap_text, full_text, mass_text, slice_text, query_text};
 
 use crate::line::{numbered, plain};
 use cube_schema::SchemaRefusal;
 use fact_csv::RowRefusal;
 use fact_model::Memory;
 use slice_lang::SliceRefusal;
+use sql_lang::SqlRefusal;
 use std::alloc::Global;
 
 /// The refusal of a schema by the first rule that it breaks. Want of memory has no reply.
@@ -104,5 +105,20 @@ pub fn refused_slice(alloc: Global, refusal: SliceRefusal) -> Result<Vec<u8>, Me
         SliceRefusal::Repeated(byte) => numbered(alloc, "refused repeated ", byte),
         SliceRefusal::BadValue(byte) => numbered(alloc, "refused value ", byte),
         SliceRefusal::Memory => Err(Memory),
+    }
+}
+
+/// The refusal of a query by the first rule that its text breaks. Want of memory has no reply.
+pub fn refused_query(alloc: Global, refusal: SqlRefusal) -> Result<Vec<u8>, Memory>
+    ensures text { IfOk result (λ reply. reply.items ≡ query_text refusal) }
+    ensures refused { OnOk result (refusal ≢ SqlRefusal.Memory) }
+{
+    match refusal {
+        SqlRefusal::Syntax(byte) => numbered(alloc, "refused sql syntax ", byte),
+        SqlRefusal::Table(byte) => numbered(alloc, "refused sql table ", byte),
+        SqlRefusal::Name(byte) => numbered(alloc, "refused sql name ", byte),
+        SqlRefusal::Group(byte) => numbered(alloc, "refused sql group ", byte),
+        SqlRefusal::Value(byte) => numbered(alloc, "refused sql value ", byte),
+        SqlRefusal::Memory => Err(Memory),
     }
 }

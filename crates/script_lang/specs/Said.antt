@@ -42,10 +42,11 @@ said_with line =
     cond (starts_with nat_eq line (codes "load ")) (load_in (count_in (drop 5 line)))
     (cond (starts_with nat_eq line (codes "slice ")) (Says (says.Slice (drop 6 line)))
     (cond (starts_with nat_eq line (codes "explain ")) (Says (says.Explain (drop 8 line)))
+    (cond (starts_with nat_eq line (codes "sql ")) (Says (says.Sql (drop 4 line)))
     (cond (starts_with nat_eq line (codes "step ")) (Says (step_in (count_in (drop 5 line))))
     (cond (starts_with nat_eq line (codes "generate "))
     (Says (generate_in (count_in (before_first is_space (drop 9 line))) (count_in (after_first is_space (drop 9 line)))))
-    (Says says.Unknown)))))
+    (Says says.Unknown))))))
 
 -- what a line says, without the carriage return at its end
 abbrev pub said_in : List ℕ → Said

@@ -91,6 +91,7 @@ KeepsLimit says.Finish = Unit {0}
 KeepsLimit says.Abandon = Unit {0}
 KeepsLimit (says.Slice text) = Unit {0}
 KeepsLimit (says.Explain text) = Unit {0}
+KeepsLimit (says.Sql text) = Unit {0}
 KeepsLimit says.Status = Unit {0}
 KeepsLimit says.Upgrade = Unit {0}
 KeepsLimit (says.Generate start rows) = Unit {0}

@@ -36,6 +36,8 @@ pub enum Command {
     Slice(Text),
     /// Tell which view answers the slice of this text, and how its points lie there.
     Explain(Text),
+    /// Answer the query of this text, which may be empty.
+    Sql(Text),
     /// Tell how many facts there are.
     Status,
     /// Make the pages anew in the greatest format.

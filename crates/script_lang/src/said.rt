@@ -97,6 +97,10 @@ fn said_with(alloc: Global, line: &[u8]) -> Result<Said, Memory>
         let text = Text::from_bytes(alloc, after(line, 8))?;
         return Ok(Said::Says(Command::Explain(text)));
     }
+    if line.starts_with(b"sql ") {
+        let text = Text::from_bytes(alloc, after(line, 4))?;
+        return Ok(Said::Says(Command::Sql(text)));
+    }
     if line.starts_with(b"step ") {
         return Ok(Said::Says(step(after(line, 5))));
     }

@@ -5,7 +5,6 @@ ghost use Rattle.fact_model.specs.declared.fact.Fact as facts;
 ghost use Rattle.fact_model.specs.Rows.{rows};
 ghost use Rattle.forest_store.specs.Stored.{IsStoreOf};
 ghost use Rattle.page_cache.specs.Keeping.{Agrees};
-ghost use Rattle.replica_route.specs.Picked.{IsPicked};
 ghost use Rattle.slice_lang.specs.Agreeing.{SliceAgrees};
 ghost use Rattle.view_route.specs.Routes.{IsCovering, IsRoute};
 ghost use Rattle.view_rows.specs.Grouped.{HasForm};
@@ -18,7 +17,6 @@ use crate::stop::AnswerStop;
 use fact_model::Slice;
 use forest_root::{Forest, Store};
 use page_cache::Pages;
-use replica_route::pick;
 use site_core::{SIDES, Site};
 use std::alloc::Global;
 use view_route::route;
@@ -44,25 +42,6 @@ pub fn answer<'a, T: Site>(
     let forest = &store.forest;
     match route(&forest.schema, &forest.body.counts, slice) {
         Some(view) => answer_from(alloc, site, pages, store, slice, view),
-        None => Err(AnswerStop::NotCovered),
-    }
-}
-
-/// The same, where of the covering views with fewest points the one is picked of which most last attributes are bound by equalities.
-pub fn answer_picked<'a, T: Site>(
-    alloc: Global,
-    site: &mut T,
-    pages: &mut Pages,
-    store: &'a Store,
-    slice: &'a Slice,
-) -> Result<SliceRows<'a>, AnswerStop>
-    requires { SliceAgrees store.now.forest.schema slice.now }
-    ensures answers { AnswersFrom T.Site (λ counts view. IsPicked store.now.forest.schema.views counts slice.now view) store.now slice.now
-        site.old site.new pages.old pages.new result }
-{
-    let forest = &store.forest;
-    match pick(&forest.schema, &forest.body.counts, slice) {
-        Some(choice) => answer_from(alloc, site, pages, store, slice, choice.view),
         None => Err(AnswerStop::NotCovered),
     }
 }

@@ -13,7 +13,8 @@ use Rattle.sql_lang.specs.declared.query.Item.{Item}
 use Rattle.sql_lang.specs.declared.query.Item.TheVariants as item
 use Rattle.sql_lang.specs.declared.query.Query.{Query}
 use Rattle.sql_lang.specs.declared.query.Test.{Test}
-use Rattle.sql_slice.specs.SqlRows.{found_text, value_in}
+use Rattle.sql_slice.specs.SqlRows.{found_text, records_text, value_in}
+use Rattle.sql_slice.specs.declared.planned.Plan.{Plan}
 use Rattle.sql_lang.specs.Tests.{attr_of, is_list, passes}
 
 -- the row has a number for each column
@@ -52,3 +53,7 @@ laid group (item.Column c ∷ items) key (n ∷ numbers) = signed_decimal n ∷ 
 -- a record of an entry
 abbrev pub laid_entry : Query → (Key × List ℤ) → List (List ℕ)
 laid_entry q e = laid q.group q.items e.0 e.1
+
+-- the text of the records that rows join to
+abbrev pub query_text : Query → Plan → List Row → List ℕ
+query_text q p rows = records_text (map (laid_entry q) (joined_rows p.slice.columns (length q.group) p.slice.group q.tests rows))

@@ -1,5 +1,5 @@
 //! The answer to a query as text.
-ghost use Rattle.std.specs.Prelude.{◌≡◌, [], List, IfOk, All, length, map, true, false};
+ghost use Rattle.std.specs.Prelude.{◌≡◌, [], List, IfOk, All, true, false};
 ghost use Rattle.fact_model.specs.declared.fact.Fact as facts;
 ghost use Rattle.fact_model.specs.Adds.{AddUp};
 ghost use Rattle.fact_model.specs.Rows as answers;
@@ -7,8 +7,8 @@ ghost use Rattle.cube_schema.specs.Agreeing.{Agrees};
 ghost use Rattle.cube_schema.specs.declared.schema.Schema as schemas;
 ghost use Rattle.sql_lang.specs.Agreeing.{SqlAgrees};
 ghost use Rattle.sql_slice.specs.Plans.{plan_of};
-ghost use Rattle.sql_slice.specs.RowFold.{IsWide, joined_rows, laid_entry};
-ghost use Rattle.sql_slice.specs.SqlRows.{records_text, sql_reply};
+ghost use Rattle.sql_slice.specs.RowFold.{IsWide, query_text};
+ghost use Rattle.sql_slice.specs.SqlRows.{sql_reply};
 
 use crate::fold::joined_rows;
 use crate::planned::Plan;
@@ -27,6 +27,8 @@ pub fn sql_text(alloc: Global, query: &Query, plan: &Plan, rows: &Rows) -> Resul
         → IfOk result (λ text. text ≡ sql_reply accepted query.now) }
     ensures nothing { (schema : schemas.Schema) (accepted : List facts.Fact) → plan.now ≡ plan_of schema query.now
         → plan.now.empty ≡ true → rows.now ≡ [] → IfOk result (λ text. text ≡ sql_reply accepted query.now) }
+    // Whatever the rows are.
+    ensures exact { IfOk result (λ text. text ≡ query_text query.now plan.now rows.now) }
 {
     text_from(alloc, query, plan, rows)
 }
@@ -35,8 +37,7 @@ pub fn sql_text(alloc: Global, query: &Query, plan: &Plan, rows: &Rows) -> Resul
 fn text_from(alloc: Global, query: &Query, plan: &Plan, rows: &Rows) -> Result<Text, Memory>
     requires wide { All (IsWide plan.now.slice.columns) rows.now }
     requires adds { AddUp rows.now }
-    ensures { IfOk result (λ text. text ≡ records_text (map (laid_entry query.now)
-        (joined_rows plan.now.slice.columns (length query.now.group) plan.now.slice.group query.now.tests rows.now))) }
+    ensures { IfOk result (λ text. text ≡ query_text query.now plan.now rows.now) }
 {
     let groups = joined_rows(alloc, query, plan, rows.as_slice())?;
     text_of(alloc, query, &groups)

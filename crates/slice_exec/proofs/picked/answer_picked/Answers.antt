@@ -1,7 +1,7 @@
 use Rattle.replica_route.specs.Picked.{IsPicked}
 use Rattle.replica_route.proofs.Unique.{one-pick}
 use Rattle.slice_exec.proofs.FromView.{from-none, from-view}
-use Rattle.slice_exec.proofs.answering.answer_picked.Goals as goal
+use Rattle.slice_exec.proofs.picked.answer_picked.Goals as goal
 
 pub returns-in-Some : goal.returns-in-Some
 returns-in-Some g c =

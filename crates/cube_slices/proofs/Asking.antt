@@ -1,4 +1,4 @@
--- A slice is carried out: it is only answered, or it goes to the pages of a view.
+-- A command that is answered from the pages of a slice, or only answers.
 use Rattle.cube_slices.proofs.Names.{RepliesAlone, no_schema, SideStays, Vec, Global, Agrees, LiesIn, GivesFound, StopCause, Option, Result, List, sym, subst, ap, Some, ◌∙◌, None, ◌≡◌, ℕ, length}
 use Rattle.cube_slices.proofs.Names.{inr, refl, arith, Bool, true, false, cond, inl, true≢false, Ok, IsTrue, Err, IfErr, ◌≤◌, ◌+◌, IfOk, OnOk, cases_Bool, IfOk-weaker, ◌↔◌, IsErrOf, HasCauseWhere}
 use Rattle.cube_slices.proofs.Names.{Disk, Files, Looks, Ghosts, rows, Fact, Row, Slice, Schema, IsPicked, covers, Cache, HasRoom, Keeps, Body, Store, side_of, IsStoreOf, Command, same-cost, IsJudged}
@@ -7,16 +7,21 @@ use Rattle.cube_slices.proofs.Names.{slice_over, slice_reply, covered, is_covere
 use Rattle.cube_slices.proofs.Names.{only_replies, attends_belongs, spares_same, AreLive, KeepsUp, Saves, Fits, FitsLive, live_file, live_of, ByWorld, CarriesOut, IsReadyFor, OverAnyFiles, Reply}
 use Rattle.cube_slices.proofs.Names.{Spares, Gives, Cost, Spends, IsQuiet, Belongs, Stands, IsAnswer, GivesRead, TellsSpoilt, SliceGives, SliceTells, IsNoDamage, GoesFrom, GoesOver, GoesTo}
 use Rattle.cube_slices.proofs.Names.{ReadsFor, ReadsFrom, asked_from, asks_pages, is_asked, store_of, State, Empty, Idle, Hollow, Pending, Stop, subst₂, IsUndamaged}
-use Rattle.cube_slices.specs.Told.{Tells, answer_stop}
 use Rattle.cube_state.proofs.SliceCosts.{none-covers, picked-one, some-covers}
 use Rattle.slice_exec.specs.Answering.{AnswersFrom}
 use Rattle.slice_exec.specs.Searching.{SearchesView}
 use Rattle.cube_state.specs.Moves.{format_in, format_of}
+use Rattle.cube_slices.specs.Told.{answer_stop}
+use Rattle.cube_state.proofs.Told.{tells_none}
+use Rattle.cube_state.specs.Slices.{IsSpoiltAt}
+use Rattle.cube_state.specs.Carried.{Does, DoesNot, Effect, IsStep, LeavesLive, MayWrite, TellsNone, asks as asks_effect, effect_of, made_alone}
+use Rattle.cube_state.specs.Commands.{Costs, MakesNoCall, TellsDamage}
+use Rattle.cube_state.specs.Moves.{Reached, moves_made, reached_behind, reached_by}
 
-same_in : {A : Type 0} {x y : A} → Some x ≡ Some y → x ≡ y
+pub same_in : {A : Type 0} {x y : A} → Some x ≡ Some y → x ≡ y
 same_in is = cc
 
-none_some : {A : Type 0} {x : A} → None ≡ Some x → ⊥
+pub none_some : {A : Type 0} {x : A} → None ≡ Some x → ⊥
 none_some is = cc
 
 -- ---- the store that a session has
@@ -49,52 +54,63 @@ kept_as (Pending r) disk world is = kept_by r.store disk world is.0 is.2.kept (a
 pub kept_over : (state : State) (k : Option Store) (disk : Disk) (world : World) → store_of state ≡ k → Stands state disk world → KeptBy k disk world
 kept_over state k disk world has stands = subst (λ (o : Option Store). KeptBy o disk world) has (kept_as state disk world stands)
 
-live_as : (state : State) (store : Store) → store_of state ≡ Some store → live_of state ≡ Some store.forest.body
+pub live_as : (state : State) (store : Store) → store_of state ≡ Some store → live_of state ≡ Some store.forest.body
 live_as Empty store has = absurd (none_some has)
 live_as (Idle own) store has = ap (λ (s : Store). Some s.forest.body) (same_in has)
 live_as (Hollow own) store has = ap (λ (s : Store). Some s.forest.body) (same_in has)
 live_as (Pending r) store has = ap (λ (s : Store). Some s.forest.body) (same_in has)
 
 -- what is the same is spared, however it ends
-spared_all : (result : Reply) (live : Option Body) (files : Files) → IfErr result (Spares live files files)
+pub spared_all : (result : Reply) (live : Option Body) (files : Files) → IfErr result (Spares live files files)
 spared_all (Ok reply) live files = tt
 spared_all (Err stop) live files = spares_same live files stop
 
--- ---- it is only answered
+-- ---- such a command
+
+pub record IsAsking (its : Command) : Type 0 where
+  -- nothing that is known changes, and nothing that is reached
+  pub stays : (world : World) → (act world its).0 ≡ world
+  pub behind : (world : World) (reached : Reached) → reached_behind world reached its ≡ reached
+  -- it costs the pages that its slice goes to, and makes no call where it has none answered
+  pub costs : (world : World) (reached : Reached) (cost : Cost) → Costs world reached its cost → ReadsFor reached.format world its cost
+  pub uncalled : (world : World) (reached : Reached) → MakesNoCall world reached its → asked_slice world its ≡ None
+  pub effect : effect_of its ≡ asks_effect
+
+module _ (its : Command) (asking : IsAsking its) where
+  never_writes : MayWrite its → ⊥
+  never_writes writes = subst (λ (e : Effect). Does e.writes) asking.effect writes
+
+  never_steps : IsStep its → ⊥
+  never_steps steps = subst (λ (e : Effect). Does e.moves) asking.effect steps
+
+  never_silent : TellsNone its → ⊥
+  never_silent none = subst (λ (e : Effect). DoesNot e.tells) asking.effect none
+
+  never_alone : RepliesAlone its → ⊥
+  never_alone alone = subst (λ (e : Effect). DoesNot e.looks) asking.effect alone
+
+  made_same : (made : ℕ) → made_alone its made ≡ made
+  made_same made = ap (λ (e : Effect). cond e.ends 0 made) asking.effect
+
+-- ---- it only answers
 
 goes_nowhere : (format : ℕ) (kept : Kept) (numbers : List ℕ) → GoesFrom format kept None numbers → ⊥
 goes_nowhere format None numbers goes = goes
 goes_nowhere format (Some warehouse) numbers goes = goes
 
-module _ {S : Type 0} (T : Ghosts S) (site : S) (state : State) (text reply : List ℕ) where
-  only_says : (k : Option Store) → store_of state ≡ k
-      → ((world : World) → KeptBy k (T.disk site) world → (slice_over world.kept text ≡ reply) × (asked_slice world (Command.Slice text) ≡ None))
-      → ((files : Files) → SliceGives k files text reply) → OnlySays T (Command.Slice text) state site reply
+module _ {S : Type 0} (T : Ghosts S) (site : S) (state : State) (its : Command) (asking : IsAsking its) (reply : List ℕ) where
+  pub only_says : (k : Option Store) → store_of state ≡ k → ((world : World) → KeptBy k (T.disk site) world → ((act world its).1 ≡ reply) × (asked_slice world its ≡ None))
+      → ((files : Files) → Gives state files its reply) → OnlySays T its state site reply
   only_says k has over gives =
-      let its : (world : World) → Stands state (T.disk site) world → (slice_over world.kept text ≡ reply) × (asked_slice world (Command.Slice text) ≡ None)
+      let known : (world : World) → Stands state (T.disk site) world → ((act world its).1 ≡ reply) × (asked_slice world its ≡ None)
       = λ world stands. over world (kept_over state k (T.disk site) world has stands) in
       record {
-        acts = λ t world stands. act_slice world text ∙ ap (λ (r : List ℕ). (world, r)) (its world stands).0;
-        moves = λ t world stands. refl;
-        goes = λ t world stands numbers goes. goes_nowhere (format_of state) world.kept numbers (subst (λ (a : Option Slice). GoesFrom (format_of state) world.kept a numbers) (its world stands).1 goes);
-        gives = λ files. subst (λ (o : Option Store). SliceGives o files text reply) (sym has) (gives files);
-        alone = λ none. refl;
+        acts = λ t world stands. λ i. (asking.stays world i, (known world stands).0 i);
+        moves = λ t world stands. asking.behind world (reached_by state);
+        goes = λ t world stands numbers goes. goes_nowhere (format_of state) world.kept numbers (subst (λ (a : Option Slice). GoesFrom (format_of state) world.kept a numbers) (known world stands).1 goes);
+        gives = gives;
+        alone = λ none. made_same its asking (moves_made state);
       }
-
-  -- without a schema
-  pub schemaless : store_of state ≡ None → reply ≡ line no_schema → OnlySays T (Command.Slice text) state site reply
-  schemaless none is = only_says None none
-      (λ world kept. (ap (λ (k : Kept). slice_over k text) kept ∙ sym is, ap (λ (k : Kept). asked_over k (Command.Slice text)) kept)) (λ files. is)
-
-  -- and over a store
-  pub unasked : (store : Store) (read : Result Slice SliceRefusal) → store_of state ≡ Some store → slice_of store.forest.schema text ≡ read → covered store.forest.schema read ≡ None
-      → ((facts : List Fact) → slice_reply store.forest.schema facts read ≡ reply) → ((files : Files) → GivesRead store files read reply) → OnlySays T (Command.Slice text) state site reply
-  unasked store read has is none replies gives = only_says (Some store) has
-      (λ world its. (
-        ap (λ (k : Kept). slice_over k text) its.kept ∙ (ap (slice_reply store.forest.schema its.facts) is ∙ replies its.facts),
-        ap (λ (k : Kept). asked_over k (Command.Slice text)) its.kept ∙ (ap (covered store.forest.schema) is ∙ none),
-      ))
-      (λ files. subst (λ (r : Result Slice SliceRefusal). GivesRead store files r reply) (sym is) (gives files))
 
 -- ---- it goes to pages
 
@@ -105,28 +121,29 @@ memory_no_fault : {A : Type 0} → IsErrOf {T = A} (Err AnswerStop.Memory) Answe
 memory_no_fault is = cc
 
 module _ {S : Type 0} (T : Ghosts S) (old new : S) (store : Store) (before after : Cache) (s : Slice) where
-  abbrev Known : Type 0 → Type 0
+  abbrev pub Known : Type 0 → Type 0
   Known P = IsTrue T.tells → Agrees (T.disk old).files before → P
 
-  abbrev Stored : (List Fact → Type 0) → Type 0
+  abbrev pub Stored : (List Fact → Type 0) → Type 0
   Stored P = Known ((facts : List Fact) → IsStoreOf store facts (T.disk old).files → P facts)
 
-  abbrev Visited : (List ℕ → Type 0) → Type 0
+  abbrev pub Visited : (List ℕ → Type 0) → Type 0
   Visited P = Known ((view : ℕ) → IsPicked store.forest.schema.views store.forest.body.counts s view → P (visits_of store s view (T.disk old).files))
 
-  -- what the answer to a slice promises
+  -- what the answer to its slice promises
   abbrev pub Answers : Result (List Row) AnswerStop → Type 0
   Answers answer = AnswersFrom T (λ counts view. IsPicked store.forest.schema.views counts s view) store s old new before after answer
 
   -- what is told of it, where some view covers the slice
-  record Ends (result : Reply) : Type 0 where
-    pub replied : Stored (λ facts. IfOk result (λ reply. reply.items ≡ answer_text (rows facts s)))
+  pub record Ends (state : State) (its : Command) (result : Reply) : Type 0 where
+    pub replied : Known ((world : World) → IsKept store (T.disk old) world → IfOk result (λ reply. reply.items ≡ (act world its).1))
     pub undamaged : Stored (λ facts. IfErr result IsNoDamage)
     pub keeps : Visited (λ numbers. OnOk result (KeepsUp before after (side_of store.forest.body) numbers))
-    pub damage : Known (IfErr result (TellsSpoilt store (T.disk old).files (Some s)))
-    pub answered : Known (IfOk result (λ reply. GivesFound store (T.disk old).files s reply.items))
+    pub damage : Known (IfErr result (TellsDamage state (T.disk old).files its))
+    pub answered : Known (IfOk result (λ reply. Gives state (T.disk old).files its reply.items))
     pub quiet : IsQuiet T old new result
 
+  -- some view does
   module _ (covers : is_covered store.forest.schema s ≡ true) where
     pub picked : (view : ℕ) × IsPicked store.forest.schema.views store.forest.body.counts s view
     picked = let some = some-covers store.forest.schema s covers in picked-one store.forest.schema.views store.forest.body.counts s some.0 some.1
@@ -135,80 +152,79 @@ module _ {S : Type 0} (T : Ghosts S) (old new : S) (store : Store) (before after
     pub searched : (answer : Result (List Row) AnswerStop) → Answers answer → SearchesView T store s picked.0 old new before after answer
     searched answer is = is.search picked.0 picked.1
 
-    stops_by : (answer : Result (List Row) AnswerStop) → Answers answer → (stop : Stop) → StopCause (T.disk_faults old) (T.disk_faults new) (T.told_faults old) (T.told_faults new) stop
-        → Stored (λ facts. IsNoDamage stop) → Known (TellsSpoilt store (T.disk old).files (Some s) stop) → Ends (Err stop)
-    stops_by answer is stop cause undamaged damage =
-        let looks = (searched answer is).tree.looks in
-        let quiet : IsQuiet {A = Vec ℕ Global} T old new (Err stop) = record { told = λ t. (looks.disk t).told; cause = cause; disk_faults = tt; told_faults = looks.told_faults } in
-        assumption (undamaged, damage, quiet)
-
-    not_uncovered : Answers (Err AnswerStop.NotCovered) → ⊥
+    pub not_uncovered : Answers (Err AnswerStop.NotCovered) → ⊥
     not_uncovered is = let some = some-covers store.forest.schema s covers in is.uncovered.0 refl some.0 some.1
 
-    stop_ends : (answer : Result (List Row) AnswerStop) → Answers answer → Ends (Err (answer_stop answer))
-    stop_ends (Ok found) is =
-        let looks = (searched (Ok found) is).tree.looks in
-        stops_by (Ok found) is Stop.Memory (looks.cause.ok, looks.told_faults) (λ t agree facts stored. tt) (λ t agree. tt)
-    stop_ends (Err AnswerStop.NotCovered) is = absurd (not_uncovered is)
-    stop_ends (Err AnswerStop.Disk) is =
-        let looks = (searched (Err AnswerStop.Disk) is).tree.looks in
-        stops_by (Err AnswerStop.Disk) is Stop.Disk ((looks.cause.failed refl, looks.cause.once), looks.told_faults) (λ t agree facts stored. tt) (λ t agree. tt)
-    stop_ends (Err (AnswerStop.Damaged file offset)) is =
-        let looks = (searched (Err (AnswerStop.Damaged file offset)) is).tree.looks in
-        stops_by (Err (AnswerStop.Damaged file offset)) is (Stop.Damaged file offset) (looks.cause.other (damaged_no_fault file offset), looks.told_faults) is.undamaged is.judged
-    stop_ends (Err AnswerStop.Memory) is =
-        let looks = (searched (Err AnswerStop.Memory) is).tree.looks in
-        stops_by (Err AnswerStop.Memory) is Stop.Memory (looks.cause.other memory_no_fault, looks.told_faults) (λ t agree facts stored. tt) (λ t agree. tt)
+    module _ (state : State) (its : Command) where
+      stops_by : (answer : Result (List Row) AnswerStop) → Answers answer → (stop : Stop) → StopCause (T.disk_faults old) (T.disk_faults new) (T.told_faults old) (T.told_faults new) stop
+          → Stored (λ facts. IsNoDamage stop) → Known (TellsDamage state (T.disk old).files its stop) → Ends state its (Err stop)
+      stops_by answer is stop cause undamaged damage =
+          let looks = (searched answer is).tree.looks in
+          record {
+            replied = λ t agree world kept. tt;
+            undamaged = undamaged;
+            keeps = λ t agree view picks. tt;
+            damage = damage;
+            answered = λ t agree. tt;
+            quiet = record { told = λ t. (looks.disk t).told; cause = cause; disk_faults = tt; told_faults = looks.told_faults };
+          }
 
-    ends_by : (answer : Result (List Row) AnswerStop) → Answers answer → (result : Reply) → Tells answer result → Ends result
-    ends_by answer is (Err stop) told = subst (λ (e : Stop). Ends (Err e)) (sym told) (stop_ends answer is)
-    ends_by (Ok found) is (Ok reply) told = let looks = (searched (Ok found) is).tree.looks in record {
-      replied = λ t agree facts stored. sym (same_in told) ∙ ap answer_text (is.rows t agree facts stored);
-      undamaged = λ t agree facts stored. tt;
-      keeps = λ t agree view picks. (is.search view picks).tree.keeps t agree;
-      damage = λ t agree. tt;
-      answered = λ t agree. (Some found, (covers, is.judged t agree), sym (same_in told));
-      quiet = record { told = λ t. (looks.disk t).told; cause = tt; disk_faults = looks.cause.ok; told_faults = looks.told_faults };
-    }
-    ends_by (Err AnswerStop.NotCovered) is (Ok reply) told = absurd (not_uncovered is)
-    ends_by (Err _) is (Ok reply) told = absurd (none_some told)
+      -- a stop that names no damage
+      harmless : (stop : Stop) → IsNoDamage stop → Known (TellsDamage state (T.disk old).files its stop)
+      harmless stop none t agree = tells_none state (T.disk old).files its stop none
 
--- ---- it is carried out
+      -- rows were found, and then it stops
+      pub stops_behind : (found : List Row) → Answers (Ok found) → (stop : Stop) → ((faults output : ℕ) → StopCause faults faults output output stop)
+          → Stored (λ facts. IsNoDamage stop) → Known (TellsDamage state (T.disk old).files its stop) → Ends state its (Err stop)
+      stops_behind found is stop cause undamaged damage =
+          let looks = (searched (Ok found) is).tree.looks in
+          stops_by (Ok found) is stop (subst₂ (λ disk told. StopCause (T.disk_faults old) disk (T.told_faults old) told stop) (sym looks.cause.ok) (sym looks.told_faults) (cause (T.disk_faults old) (T.told_faults old))) undamaged damage
 
-module _ {S : Type 0} (T : Ghosts S) (old new : S) (state : State) (store : Store) (before after : Cache) (text : List ℕ) (s : Slice) (answer : Result (List Row) AnswerStop)
-    (is : Answers T old new store before after s answer) (has : store_of state ≡ Some store) (read : slice_of store.forest.schema text ≡ Ok s)
+      -- no rows were found; `spoils` tells what damage of the slice is for the command
+      pub stop_ends : ((file offset : ℕ) → IsSpoiltAt store (T.disk old).files (Some s) file offset → TellsDamage state (T.disk old).files its (Stop.Damaged file offset))
+          → (answer : Result (List Row) AnswerStop) → Answers answer → Ends state its (Err (answer_stop answer))
+      stop_ends spoils (Ok found) is = stops_behind found is Stop.Memory (λ faults output. (refl, refl)) (λ t agree facts stored. tt) (harmless Stop.Memory tt)
+      stop_ends spoils (Err AnswerStop.NotCovered) is = absurd (not_uncovered is)
+      stop_ends spoils (Err AnswerStop.Disk) is =
+          let looks = (searched (Err AnswerStop.Disk) is).tree.looks in
+          stops_by (Err AnswerStop.Disk) is Stop.Disk ((looks.cause.failed refl, looks.cause.once), looks.told_faults) (λ t agree facts stored. tt) (harmless Stop.Disk tt)
+      stop_ends spoils (Err (AnswerStop.Damaged file offset)) is =
+          let looks = (searched (Err (AnswerStop.Damaged file offset)) is).tree.looks in
+          stops_by (Err (AnswerStop.Damaged file offset)) is (Stop.Damaged file offset) (looks.cause.other (damaged_no_fault file offset), looks.told_faults) is.undamaged
+          (λ t agree. spoils file offset (is.judged t agree))
+      stop_ends spoils (Err AnswerStop.Memory) is =
+          let looks = (searched (Err AnswerStop.Memory) is).tree.looks in
+          stops_by (Err AnswerStop.Memory) is Stop.Memory (looks.cause.other memory_no_fault, looks.told_faults) (λ t agree facts stored. tt) (harmless Stop.Memory tt)
+
+      -- rows were found, and a reply is made of them
+      pub replies_behind : (found : List Row) → Answers (Ok found) → (reply : Vec ℕ Global) → Known ((world : World) → IsKept store (T.disk old) world → reply.items ≡ (act world its).1)
+          → Known (Gives state (T.disk old).files its reply.items) → Ends state its (Ok reply)
+      replies_behind found is reply replied answered =
+          let looks = (searched (Ok found) is).tree.looks in
+          record {
+            replied = replied;
+            undamaged = λ t agree facts stored. tt;
+            keeps = λ t agree view picks. (is.search view picks).tree.keeps t agree;
+            damage = λ t agree. tt;
+            answered = answered;
+            quiet = record { told = λ t. (looks.disk t).told; cause = tt; disk_faults = looks.cause.ok; told_faults = looks.told_faults };
+          }
+
+module _ {S : Type 0} (T : Ghosts S) (old new : S) (state : State) (store : Store) (before after : Cache) (s : Slice) (answer : Result (List Row) AnswerStop)
+    (is : Answers T old new store before after s answer) (has : store_of state ≡ Some store) (its : Command) (asking : IsAsking its)
     (ready : IsReadyFor T old before state) (only : IsTrue T.tells → OnlyNow (T.disk old)) (result : Reply) where
-  abbrev its : Command
-  its = Command.Slice text
-
   live : live_of state ≡ Some store.forest.body
   live = live_as state store has
 
   fitting : IsTrue T.tells → AreLive store.forest.body (T.disk old).files before
   fitting t = subst (λ (b : Option Body). FitsLive b (T.disk old).files before) live (ready.fits t)
 
-  -- no view covers it
-  refuses : is_covered store.forest.schema s ≡ false → Tells answer result → CarriesOut T its state state old new before after result
-  refuses not told =
-      let none = is.uncovered.1 (none-covers store.forest.schema s not) in
-      subst₂ (λ (n : S) (c : Cache). CarriesOut T its state state old n before c result) (sym (is.untouched none)) (sym (is.unasked none))
-      (by result (subst (λ (a : Result (List Row) AnswerStop). Tells a result) none told))
-    where
-      by : (result : Reply) → Tells (Err AnswerStop.NotCovered) result → CarriesOut T its state state old old before before result
-      by (Ok reply) told = only_replies T its state old before only (line not_covered) reply ready
-          (unasked T old state text (line not_covered) store (Ok s) has read (ap (λ (b : Bool). cond b (Some s) None) not)
-          (λ facts. ap (λ (b : Bool). cond b (answer_text (rows facts s)) (line not_covered)) not) (λ files. (None, not, refl))) (sym (same_in told))
-      by (Err stop) told = runs_out_as T its state old before only ready state (Err stop) told
-
-  module _ (covers : is_covered store.forest.schema s ≡ true) (ends : Ends T old new store before after s result) where
+  module _ (covers : is_covered store.forest.schema s ≡ true) (asked : asked_by store.forest.schema its ≡ Some s) (ends : Ends T old new store before after s state its result) where
     found : SearchesView T store s (picked T old new store before after s covers).0 old new before after answer
     found = searched T old new store before after s covers answer is
 
     fits : IsTrue T.tells → Fits state (T.disk new).files after
     fits t = subst (λ (b : Option Body). FitsLive b (T.disk new).files after) (sym live) (record { lie = found.tree.lies (fitting t).lie; agree = found.tree.agrees t (fitting t).agree })
-
-    asked : asked_by store.forest.schema its ≡ Some s
-    asked = ap (covered store.forest.schema) read ∙ ap (λ (b : Bool). cond b (Some s) None) covers
 
     asks : asks_pages state its ≡ false → after ≡ before
     asks none = absurd (true≢false (sym (ap (λ (k : Option Store). is_asked (asked_from k its)) has ∙ ap is_asked asked) ∙ none))
@@ -241,51 +257,40 @@ module _ {S : Type 0} (T : Ghosts S) (old new : S) (state : State) (store : Stor
           let its = subst (λ (a : Option Slice). ReadsFrom (format_of state) world.kept a cost) asks_slice costs in
           record { reads = omega (arith, (pages its.0 its.1).0, ap (λ (c : Cost). c.reads) its.2); writes = omega (arith, found.tree.looks.writes) }
 
-      reply_is : (act world its).1 ≡ answer_text (rows kept.facts s)
-      reply_is =
-          ap (λ (a : Answer). a.1) (act_slice world text) ∙ (ap (λ (k : Kept). slice_over k text) kept.kept
-          ∙ (ap (slice_reply store.forest.schema kept.facts) read ∙ ap (λ (b : Bool). cond b (answer_text (rows kept.facts s)) (line not_covered)) covers))
-
       answers_so : Stands state (T.disk old) world → IfOk result (λ reply. IsAnswer (T.disk new) (act world its) state reply.items)
       answers_so stands = IfOk-weaker result _ _
           (λ reply said. record {
-            stands = subst (λ (a : Answer). Stands state (T.disk new) a.0) (sym (act_slice world text)) (stands_rests state (T.disk old) (T.disk new) world (found.tree.looks.disk t) stands);
-            said = said ∙ sym reply_is;
+            stands = subst (λ (w : World). Stands state (T.disk new) w) (sym (asking.stays world)) (stands_rests state (T.disk old) (T.disk new) world (found.tree.looks.disk t) stands);
+            said = said;
           })
-          (ends.replied t (fitting t).agree kept.facts kept.stored)
+          (ends.replied t (fitting t).agree world kept)
 
       by_world : Stands state (T.disk old) world → ByWorld T its world state state old new before after result
       by_world stands = record {
         answer = answers_so stands;
         any_moment = resting state (T.disk old) (T.disk new) world (act world its).0 stands (only t) (found.tree.looks.disk t);
         undamaged = ends.undamaged t (fitting t).agree kept.facts kept.stored;
-        moved = holds result refl;
-        cost = spends;
-        uncalled = λ none. absurd (none_some (sym none ∙ asks_slice));
+        moved = holds result (sym (asking.behind world (reached_by state)));
+        cost = λ cost costs. spends cost (asking.costs world (reached_by state) cost costs);
+        uncalled = λ none. absurd (none_some (sym (asking.uncalled world (reached_by state) none) ∙ asks_slice));
         saves = λ numbers goes. (goes_to numbers goes).1;
         keeps = λ numbers goes. (goes_to numbers goes).2;
       }
 
     any_files : IsTrue T.tells → OverAnyFiles T its state state old new after result
     any_files t = record {
-      damage = subst (λ (k : Option Store). IfErr result (SliceTells k (T.disk old).files its)) (sym has)
-          (subst (λ (a : Option Slice). IfErr result (TellsSpoilt store (T.disk old).files a)) (sym asked) (ends.damage t (fitting t).agree));
-      answered = subst (λ (k : Option Store). IfOk result (λ reply. SliceGives k (T.disk old).files text reply.items)) (sym has)
-          (subst (λ (r : Result Slice SliceRefusal). IfOk result (λ reply. GivesRead store (T.disk old).files r reply.items)) (sym read) (ends.answered t (fitting t).agree));
+      damage = ends.damage t (fitting t).agree;
+      answered = ends.answered t (fitting t).agree;
       spared = subst (λ (f : Files). IfErr result (Spares (live_of state) (T.disk old).files f)) (sym (found.tree.looks.disk t).files) (spared_all result (live_of state) (T.disk old).files);
       looks = λ none. found.tree.looks.disk t;
       fits = holds result (fits t);
     }
 
-    said_never : RepliesAlone its → (files : Files) → IfOk result (λ (reply : Vec ℕ Global). Gives state files its reply.items)
-    said_never alone files = absurd alone
-
     side_stays : IsTrue T.tells → SideStays (live_of state) (T.disk old).files (T.disk new).files
     side_stays t = ap (λ (f : Files). f (live_file (live_of state))) (found.tree.looks.disk t).files
 
-    -- some view does
-    replies : CarriesOut T its state state old new before after result
-    replies = record {
+    pub carried : CarriesOut T its state state old new before after result
+    carried = record {
       by_world = λ t world stands. by_world t world (kept_over state (Some store) (T.disk old) world has stands) stands;
       any_files = any_files;
       goes_on = record {
@@ -295,12 +300,14 @@ module _ {S : Type 0} (T : Ghosts S) (old new : S) (state : State) (store : Stor
         unwritten = λ none. found.tree.looks.writes;
         quiet = ends.quiet;
       };
-      leaves = search (holds, fits, asks, said_never, side_stays, absurd);
+      leaves = record {
+        made = λ no. holds result (sym (made_same its asking (moves_made state)));
+        live = λ same. holds result refl;
+        harmless = λ none. absurd (never_silent its asking none);
+        said = λ alone files. absurd (never_alone its asking alone);
+        unasked = λ none nothing. asks nothing;
+        fits = λ t none. fits t;
+        side = λ t same. holds result (side_stays t);
+        step_side = λ t step. absurd (never_steps its asking step);
+      };
     }
-
-  -- the answer is told
-  pub tells : Tells answer result → CarriesOut T its state state old new before after result
-  tells told = elim (cases_Bool (is_covered store.forest.schema s)) [
-    | inl covers ↦ replies covers (ends_by T old new store before after s covers answer is result told)
-    | inr not ↦ refuses not told
-  ]
