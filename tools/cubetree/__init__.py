@@ -11,9 +11,16 @@ A row has a str or an int for each attribute and measure of the schema, in order
 names of its columns, which pandas takes as it is: pandas.DataFrame(answer, columns=answer.columns). Texts may be any bytes: those that are no UTF-8 are
 surrogates, as in names of files (os.fsencode has the bytes).
 
+The same rows come of a query in SQL, by warehouse.sql("SELECT part, SUM(qty) FROM facts GROUP BY part"), or by cubetree.connect("folder"), which is the interface
+of databases to Python (PEP 249).
+
 What goes wrong is a Fault: Refused has the reply of the program and the place that it names, Busy is another run in the way of one that is not to wait,
 Ended has the status of a program that ended early, and Damaged the file and the offset as well.
 """
+from .dbapi import (
+    NUMBER, STRING, Connection, Cursor, DatabaseError, DataError, Error, IntegrityError, InterfaceError, InternalError, NotSupportedError, OperationalError,
+    ProgrammingError, Warning, apilevel, connect, paramstyle, threadsafety,
+)
 from .errors import Busy, Damaged, Ended, Fault, Refused
 from .pages import Visits
 from .rows import Answer
@@ -21,4 +28,8 @@ from .schema import Schema
 from .views import Choice
 from .warehouse import Status, Warehouse, open
 
-__all__ = ["Answer", "Busy", "Choice", "Damaged", "Ended", "Fault", "Refused", "Schema", "Status", "Visits", "Warehouse", "open"]
+__all__ = [
+    "Answer", "Busy", "Choice", "Damaged", "Ended", "Fault", "Refused", "Schema", "Status", "Visits", "Warehouse", "open",
+    "NUMBER", "STRING", "Connection", "Cursor", "DatabaseError", "DataError", "Error", "IntegrityError", "InterfaceError", "InternalError",
+    "NotSupportedError", "OperationalError", "ProgrammingError", "Warning", "apilevel", "connect", "paramstyle", "threadsafety",
+]

@@ -3,8 +3,8 @@ import re
 from typing import Optional, Union
 
 PLACE = re.compile(
-    r"refused (?:row (?P<row>\d+) (?:fields|end|(?:number|long) (?P<field>\d+))|schema \w+ (?P<line>\d+)|gap (?P<due>\d+)"
-    r"|(?:syntax|measure|attribute|repeated|value) (?P<byte>\d+)|(?:names|mass) (?P<name>\w+))"
+    r"refused (?:row (?P<row>\d+) (?:fields|end|repeated|(?:number|long) (?P<field>\d+))|schema \w+ (?P<line>\d+)|gap (?P<due>\d+)"
+    r"|(?:syntax|measure|attribute|repeated|value|sql \w+) (?P<byte>\d+)|(?:names|mass) (?P<name>\w+))"
 )
 DAMAGE = re.compile(r"damaged file ([0-3]) at (\d+)")
 FILES = ("root", "names", "side0", "side1")  # as the program numbers them

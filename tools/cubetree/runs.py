@@ -56,9 +56,9 @@ class Run:
         self.send(command)
         return self.reply()
 
-    def answer(self, text: bytes) -> "tuple[list[list[str]], str]":
-        """The records of the reply to a slice, and its last line: how many there are, or a refusal."""
-        self.send(b"slice " + text + b"\n")
+    def answer(self, command: bytes) -> "tuple[list[list[str]], str]":
+        """The records of the reply to a command that asks for rows, and its last line: how many there are, or a refusal."""
+        self.send(command + b"\n")
         records: list[list[str]] = []
         # A field of a row may have line feeds; that of a line with one field is no text.
         for record in csv.reader(iter(lambda: self.reply() + "\n", ""), strict=True):

@@ -42,10 +42,10 @@ class Session:
         self.make_room(len(command))
         return self.run.ask(command)
 
-    def answer(self, text: bytes) -> "tuple[list[list[str]], str]":
-        """The records of the reply to a slice, and its last line."""
-        self.make_room(len(text) + 7)
-        return self.run.answer(text)
+    def answer(self, command: bytes) -> "tuple[list[list[str]], str]":
+        """The records of the reply to a command that asks for rows, and its last line."""
+        self.make_room(len(command) + 1)
+        return self.run.answer(command)
 
     def end(self) -> None:
         """Ends the run, and lets others into the folder."""

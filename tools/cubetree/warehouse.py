@@ -8,6 +8,7 @@ from typing import Iterable, Iterator, NamedTuple, Optional, Union, overload
 
 from .errors import Fault, Refused
 from .pages import Visits, visits
+from .queries import Query
 from .questions import question_of
 from .rows import Answer, GivenRow, answer_of, block, encoded, has_end
 from .schema import Schema, declared_lines
@@ -89,12 +90,18 @@ class Warehouse:
 
     def slice(self, text: str) -> Answer:
         """The answer to a slice, in the words of the program without `slice` before them."""
-        question = _line(text)
+        schema, records = self._rows(b"slice " + _line(text))
+        return answer_of(question_of(text), schema, records)
+
+    def sql(self, text: str) -> Answer:
+        """The answer to a query in SQL of the table `facts`. The columns are called as they are written."""
+        query = Query(text)
+        line = _line(query.sent())
         with self._question() as session:
-            records, last = session.answer(question)
+            records, last = session.answer(b"sql " + line)
         if session.schema is None or last.startswith("refused "):
-            raise Refused(last)
-        return answer_of(question_of(text), session.schema, records)
+            raise query.refused(last)
+        return query.answer(session.schema, records)
 
     def explain(self, text: str) -> Choice:
         """The view that answers a slice; what `slice` refuses is refused."""
@@ -152,6 +159,14 @@ class Warehouse:
             raise Refused(reply)
         return reply
 
+    def _rows(self, command: bytes) -> "tuple[Schema, list[list[str]]]":
+        """The records of the reply to a command that asks for rows, with the schema; a fault where it is a refusal."""
+        with self._question() as session:
+            records, last = session.answer(command)
+        if session.schema is None or last.startswith("refused "):
+            raise Refused(last)
+        return session.schema, records
+
     @contextmanager
     def _question(self) -> Iterator[Session]:
         """A session that asks: that of the writer, where this is one."""
@@ -186,10 +201,10 @@ class Warehouse:
 
 
 def _line(text: str) -> bytes:
-    """The bytes of a slice."""
+    """The bytes of a slice or a query."""
     line = text.encode("utf-8", "surrogateescape")
     if b"\n" in line or len(line) > LONGEST_SLICE:
-        raise Fault(f"a slice is one line of at most {LONGEST_SLICE:,} bytes")
+        raise Fault(f"a slice is one line of at most {LONGEST_SLICE:,} bytes, and so is a query")
     return line
 
 
