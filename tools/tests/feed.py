@@ -204,6 +204,9 @@ class Feeding(Case):
                 self.put("log", "")
         self.assertGreater(len(set(ends)), 3, ends)
         bad = [line for line in lines if line.startswith("bad")]
+        # A row that no feed has sent yet: once it counts, the last feed has begun, and ends by SIGTERM as it says.
+        lines.append("last,2000,1")
+        self.append("log", lines[-1])
         feed = self.start(*words)
         until(lambda: self.rows("count") == [[str(len(lines) - len(bad))]])
         feed.terminate()
