@@ -7,6 +7,7 @@ use Rattle.cube_batches.proofs.Names.{Ghosts, Gives, Global, HasCauseWhere, Hold
 use Rattle.cube_batches.proofs.Names.{KeepsEither, KeepsTo, LeavesOnly, List, Ok, RefreshStop, Reply, Result, RunsFor, SaysOnly, Schema, Some, SparesOthers, State, StopCause, Store}
 use Rattle.cube_batches.proofs.Names.{TellsFirstDamage, TellsRefreshDamage, Vec, Warehouse, World, [], act, ap, arith, both, committed, emptied, fact_count, forest_moves, inl, inr}
 use Rattle.cube_batches.proofs.Names.{length, length-append, onward, page_total, quiet_out, refl, refresh_stop, replied, stable_holds, stopped, subst, sym, unharmed, wider, ℕ}
+use Rattle.cube_batches.proofs.Names.{Level}
 use Rattle.cube_batches.proofs.{Calls.answered_by, Calls.says_either, Takings.all_fine}
 use Rattle.cube_state.proofs.BatchCosts.{commit_spends, pages_read}
 use Rattle.forest_moves.specs.Forest.{forest_moves}
@@ -145,7 +146,7 @@ module _ {S : Type 0} (T : Ghosts S) (told : Told) (r : Begun) (mid new : S) (be
     commits_not next = λ command state old to. stopped T command to.none_asked state next old new to.writes before before refl (refresh_stop why) (runs_for is command state old to)
         (record {
           undamaged = λ t world stands. (let for = to.by_world t world stands in same_damage why (undamaged t for.warehouse.facts for.batch for.attends.adds.read));
-          damage = λ t. to.damage t (refresh_stop why) (refresh_tells r (T.disk mid).files why (damaged t));
+          damage = λ t levels. to.damage t levels (refresh_stop why) (refresh_tells r (T.disk mid).files why (damaged t));
           spared = λ t. to.spares t new (refresh_stop why) (spares t why (spared t));
           harmless = λ none. absurd (to.harms none);
           step_side = λ t step. absurd (to.no_step step);
@@ -159,7 +160,7 @@ module _ {S : Type 0} (T : Ghosts S) (told : Told) (r : Begun) (mid new : S) (be
       (stable : IsTrue T.tells → IsStable (T.disk new)) (next : IsNextStore r store) (after : Cache) (forgets : after ≡ emptied before) where
     acknowledges : (reply : Vec ℕ Global) → reply.items ≡ text_of told store.forest.body.facts → Commits T told r (Idle store) mid new before after (Ok reply)
     acknowledges reply said = λ command state old to.
-        let gives : IsTrue T.tells → Gives state (T.disk old).files command reply.items = λ t. to.gives t reply.items (record { whole = joined t; said = said ∙ ap (text_of told) next.facts }) in
+        let gives : IsTrue T.tells → (levels : List Level) → Gives levels state (T.disk old).files command reply.items = λ t levels. to.gives t levels reply.items (record { whole = joined t; said = said ∙ ap (text_of told) next.facts }) in
         replied T command to.none_asked state (Idle store) old new before after reply (runs_for is command state old to) (record {
           answer = λ t world stands. (let for = to.by_world t world stands in let kept = finished t for.warehouse.facts for.batch for.attends.adds in
               answered_by (T.disk new) (act world command) (ended_with told world for.warehouse for.batch for.last) (Idle store) reply.items for.acts (
@@ -171,8 +172,9 @@ module _ {S : Type 0} (T : Ghosts S) (told : Told) (r : Begun) (mid new : S) (be
           uncalled = λ t world stands none. absurd ((to.by_world t world stands).calls none);
           answered = gives;
           runs = record { running = next.whole; fit = opened };
+          schema = λ declared has. ap Some next.schema ∙ (sym to.schema ∙ has);
           made = λ no. sym to.alone;
-          said = λ alone files. absurd (to.reads alone);
+          said = λ alone files levels. absurd (to.reads alone);
         })
         (onward T command to.none_asked state (Idle store) old new to.writes to.no_live to.no_step before after (next.generation ∙ ap (λ (b : Option Body). generation b + 1) (sym to.live)) forgets)
         (to.quiet new (Ok reply) (refresh_quiet_on T mid new pages is.told store reply is.calls))

@@ -55,7 +55,7 @@ module _ {S : Type 0} (T : Ghosts S) (source : BatchSource) (site : S) (only : I
       (sym (load_answer world source stands.0 [] stands.0.last (empty_fitting source store (T.disk site) given world stands))) (empty_answer world stands.0 store (T.disk site) stands.2 reply.items said))
       (λ world stands. still_reached (Idle store) (Idle store) refl ((load_sends source).moves world (reached_by (Idle store)) (empty_keeps world stands.0 stands.1.kept
       (load_answer world source stands.0 [] stands.0.last (empty_fitting source store (T.disk site) given world stands)))))
-      (λ files. load_gives source (Idle store) files reply.items (subst (λ (g : Given). GivesGiven store files g reply.items) (sym given) said)) (λ runs. runs) (sym ((load_sends source).alone 0)) refl
+      (λ files levels. load_gives source levels (Idle store) files reply.items (subst (λ (g : Given). GivesGiven store files g reply.items) (sym given) said)) (λ runs. runs) (sym ((load_sends source).alone 0)) refl refl
 
 pub loads_none : {S : Type 0} (T : Ghosts S) (source : BatchSource) (state next : State) (old new : S) → (IsTrue T.tells → OnlyNow (T.disk old)) → HasNone source state next old new
     → (result : Reply) → SaysOnly (committed_text (fact_count next)) result → CarriesOutAlone T (load_of source) state next old new result
@@ -105,10 +105,10 @@ module _ {S : Type 0} (T : Ghosts S) (source : BatchSource) (store : Store) (old
               start.none_made ends pages);
         });
     quiet = λ new result then. quiet_then T old mid new start.quiet result then;
-    damage = λ t stop told. each_load (λ s c. LoadTells (Idle store) (T.disk old).files s stop → TellsDamage (Idle store) (T.disk old).files c stop) (λ b is. is) (λ n b is. is) (λ s r is. is) source
+    damage = λ t levels stop told. each_load (λ s c. LoadTells (Idle store) (T.disk old).files s stop → TellsDamage levels (Idle store) (T.disk old).files c stop) (λ b is. is) (λ n b is. is) (λ s r is. is) source
         (subst (λ (g : Given). TellsGivenDamage store (T.disk old).files g stop) (sym is.given)
         (batch_told r store is.batch (T.disk old).files (T.disk mid).files (start.closes t).range.others start.forest start.points stop told));
-    gives = λ t reply ends. load_gives source (Idle store) (T.disk old).files reply (subst (λ (g : Given). GivesGiven store (T.disk old).files g reply) (sym is.given)
+    gives = λ t levels reply ends. load_gives source levels (Idle store) (T.disk old).files reply (subst (λ (g : Given). GivesGiven store (T.disk old).files g reply) (sym is.given)
         (given_some store (T.disk old).files is.batch reply is.some (inr (record {
           whole = batch_whole r store is.batch (T.disk old).files (T.disk mid).files (start.closes t).range.others start.forest start.points ends.whole;
           count = r.next.facts;
@@ -116,6 +116,7 @@ module _ {S : Type 0} (T : Ghosts S) (source : BatchSource) (store : Store) (old
         }))));
     spares = started_spares T store old mid start;
     live = ap (λ (f : Forest). Some f.body) (sym start.forest);
+    schema = ap (λ (f : Forest). Some f.schema) (sym start.forest);
   }
 
 pub loads : {S : Type 0} (T : Ghosts S) (source : BatchSource) (state : State) (old mid : S) (r : Begun) → (store : Store) × (state ≡ Idle store) × HasBegun T source store old mid r
@@ -126,10 +127,10 @@ loads T source state old mid r is = subst (λ (s : State). Ends T Committed (loa
 
 module _ {S : Type 0} (T : Ghosts S) (block : Block) (site : S) (only : IsTrue T.tells → OnlyNow (T.disk site)) (store : Store) (given : given_to store (Rows block) ≡ Ok ([], store.forest.body.last)) where
   hollows : (reply : Vec ℕ Global) → reply.items ≡ line (codes "begun") → CarriesOutAlone T (says.Begin block) (Idle store) (Hollow store) site site (Ok reply)
-  hollows reply said = rests T (says.Begin block) (λ schema. refl) (Idle store) (Hollow store) site only reply
+  hollows reply said = rests T (says.Begin block) (λ schema levels. refl) (Idle store) (Hollow store) site only reply
       (λ t world stands. answered_by (T.disk site) (act world (says.Begin block)) (begun world []) (Hollow store) reply.items
       (begin_answer world block stands.0 [] stands.0.last (empty_fitting (Rows block) store (T.disk site) given world stands)) (stands.0, record { kept = stands.1.kept; pending = refl }, stands.2) said)
-      (λ world stands. record { format = refl; made = refl }) (λ files. subst (λ (g : Given). GivesBegun store g reply.items) (sym given) (inr said)) (λ runs. record { running = runs.running; fit = runs.fit }) refl refl
+      (λ world stands. record { format = refl; made = refl }) (λ files levels. subst (λ (g : Given). GivesBegun store g reply.items) (sym given) (inr said)) (λ runs. record { running = runs.running; fit = runs.fit }) refl refl refl
 
 pub begins_none : {S : Type 0} (T : Ghosts S) (block : Block) (state next final : State) (old new : S) → (IsTrue T.tells → OnlyNow (T.disk old)) → HasNone (Rows block) state next old new
     → final ≡ hollow_of next → (result : Reply) → SaysOnly (line (codes "begun")) result → CarriesOutAlone T (says.Begin block) state final old new result
@@ -150,11 +151,11 @@ module _ {S : Type 0} (T : Ghosts S) (block : Block) (store : Store) (old new : 
   begins_some : CarriesOutAlone T (says.Begin block) (Idle store) (Pending r) old new (Err stops.Memory)
       × ((reply : Vec ℕ Global) → reply.items ≡ line (codes "begun") → CarriesOutAlone T (says.Begin block) (Idle store) (Pending r) old new (Ok reply))
   begins_some = (
-    λ cache ready. stopped T (says.Begin block) (λ schema. refl) (Idle store) (Pending r) old new tt cache cache refl stops.Memory begin_runs
-        (unharmed T (says.Begin block) (λ schema. refl) (Idle store) (Pending r) old new stops.Memory tt (λ t step. absurd step)) (quiet_out is.started.quiet),
+    λ cache ready. stopped T (says.Begin block) (λ schema levels. refl) (Idle store) (Pending r) old new tt cache cache refl stops.Memory begin_runs
+        (unharmed T (says.Begin block) (λ schema levels. refl) (Idle store) (Pending r) old new stops.Memory tt (λ t step. absurd step)) (quiet_out is.started.quiet),
     λ reply said cache ready.
         let gives : BeginGives (Idle store) block reply.items = subst (λ (g : Given). GivesBegun store g reply.items) (sym is.given) (inr said) in
-        replied T (says.Begin block) (λ schema. refl) (Idle store) (Pending r) old new cache cache reply begin_runs (record {
+        replied T (says.Begin block) (λ schema levels. refl) (Idle store) (Pending r) old new cache cache reply begin_runs (record {
           answer = λ t world stands. (let fits = begun_fits T (Rows block) store old new r is t world stands in
               answered_by (T.disk new) (act world (says.Begin block)) (begun world is.batch) (Pending r) reply.items (begin_answer world block stands.0 is.batch is.last fits) (
                 stands.0,
@@ -168,12 +169,13 @@ module _ {S : Type 0} (T : Ghosts S) (block : Block) (store : Store) (old new : 
               ) said);
           moved = λ t world stands. reached_next world (says.Begin block) (Idle store) (Pending r) refl (ap (λ (f : Forest). Some f.body) is.started.forest) is.started.none_made;
           uncalled = λ t world stands none. absurd (omega (arith, none, begins_is world block stands.0 is.batch is.last (begun_fits T (Rows block) store old new r is t world stands) is.some));
-          answered = λ t. gives;
+          answered = λ t levels. gives;
           runs = record { running = is.started.goes; fit = is.started.ready };
+          schema = λ declared has. ap (λ (f : Forest). Some f.schema) is.started.forest ∙ has;
           made = λ no. is.started.none_made;
-          said = λ alone files. gives;
+          said = λ alone files levels. gives;
         })
-        (beside T (says.Begin block) (λ schema. refl) (Idle store) (Pending r) old new cache ready (ap (λ (f : Forest). Some f.body) is.started.forest)
+        (beside T (says.Begin block) (λ schema levels. refl) (Idle store) (Pending r) old new cache ready (ap (λ (f : Forest). Some f.body) is.started.forest)
         (λ t. (is.started.closes t).range.others (live_file (live_of (Idle store))) (live_no_root (live_of (Idle store)))) (λ no. absurd (no tt)))
         (quiet_on is.started.quiet),
   )

@@ -10,7 +10,7 @@ pub use Rattle.cube_state.specs.Carried.{CarriesOut, CarriesOutAlone, IsStep, Le
 pub use Rattle.cube_state.specs.Commands.{Costs, Gives, HasNoFact, MakesNoCall, TellsDamage, load_of}
 pub use Rattle.cube_state.specs.Session.{Attends, AttendsAs, Belongs, Between, IsAnswer, KeepsEither, Stands}
 pub use Rattle.cube_state.{proofs.Answering.OnlyNow, proofs.Answering.quiet, proofs.Cached.live_no_root, proofs.Cached.spared_stays, proofs.Carried.runs_out, proofs.Carried.runs_out_as}
-pub use Rattle.cube_state.{proofs.Carried.says, proofs.Costs.spends_more, proofs.Looking.quiet_on, proofs.Looking.quiet_out, proofs.Standing.attends_belongs, specs.BatchCosts.begins}
+pub use Rattle.cube_state.{proofs.Carried.says, proofs.Carried.says_just, specs.Visits.schema_of, proofs.Costs.spends_more, proofs.Looking.quiet_on, proofs.Looking.quiet_out, proofs.Standing.attends_belongs, specs.BatchCosts.begins}
 pub use Rattle.cube_state.{specs.BatchCosts.begins_over, specs.BatchCosts.load_cost, specs.BatchCosts.load_cost_of, specs.BatchCosts.moves_of, specs.BatchDamage.LoadTells}
 pub use Rattle.cube_state.{specs.BatchDamage.TellsBatchDamage, specs.BatchDamage.TellsGivenDamage, specs.BatchDamage.TellsRefreshDamage, specs.Cached.SideStays, specs.Cached.emptied}
 pub use Rattle.cube_state.{specs.Cached.live_file, specs.Cached.live_of, specs.Costs.Cost, specs.Costs.Spends, specs.Costs.both, specs.Costs.free, specs.Frames.IsQuiet, specs.Frames.RunsOn}
@@ -41,3 +41,4 @@ pub use Rattle.{forest_moves.specs.Forest.bytes_after, forest_moves.specs.Forest
 pub use Rattle.{forest_root.specs.declared.forest.Forest.Forest, forest_root.specs.declared.forest.Store.Store, merge_pack.specs.Standing.moves_tried, packing.specs.Moves.KeepsTo}
 pub use Rattle.{packing.specs.Moves.written, page_cache.specs.Giving.Cache, reply_text.specs.Replies.committed_text, reply_text.specs.Replies.line, script_lang.specs.declared.command.Block.Block}
 pub use Rattle.{script_lang.specs.declared.command.Command.Command}
+pub use Rattle.roll_up.specs.declared.level.Level.{Level}

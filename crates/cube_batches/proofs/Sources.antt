@@ -6,6 +6,7 @@ use Rattle.cube_batches.proofs.Names.{Pending, RefusesBy, RefusesGiven, Result, 
 use Rattle.cube_batches.proofs.Names.{act_load_numbered, answer_by, ap, arith, asked_by, batch_by, batch_from, batch_given, batch_sent, batch_with, begins, begins_over, begun, block_read, committed}
 use Rattle.cube_batches.proofs.Names.{cond, free, given_to, inl, length, length-append, load, load_cost, load_cost_of, load_of, made_alone, makes_stage, moves_of, nat_lt, number_of}
 use Rattle.cube_batches.proofs.Names.{read_by, refl, refusal_of, size, sym, take_over, true, unless, with_last, ℕ}
+use Rattle.cube_batches.proofs.Names.{Level}
 use Rattle.cube_state.proofs.{BatchCosts.grows, BatchCosts.pending_format, Moves.format_stays}
 use Rattle.cube_state.specs.Moves.{Reached, batch_moves, format_behind, format_with, reached_behind}
 use Rattle.forest_store.specs.Held.{format_for}
@@ -22,8 +23,8 @@ each_load P read numbered made (Generator start rows) = made start rows
 act_load_of : (world : World) (source : BatchSource) → act world (load_of source) ≡ load world source
 act_load_of world source = each_load (λ s c. act world c ≡ load world s) (act_load world) (act_load_numbered world) (act_generate world) source
 
-pub load_gives : (source : BatchSource) (state : State) (files : Files) (reply : List ℕ) → LoadGives state files source reply → Gives state files (load_of source) reply
-load_gives source state files reply = each_load (λ s c. LoadGives state files s reply → Gives state files c reply) (λ b is. is) (λ n b is. is) (λ s r is. is) source
+pub load_gives : (source : BatchSource) (levels : List Level) (state : State) (files : Files) (reply : List ℕ) → LoadGives state files source reply → Gives levels state files (load_of source) reply
+load_gives source levels state files reply = each_load (λ s c. LoadGives state files s reply → Gives levels state files c reply) (λ b is. is) (λ n b is. is) (λ s r is. is) source
 
 reached_load : (world : World) (reached : Reached) (source : BatchSource) → reached_behind world reached (load_of source) ≡ record reached { format = format_behind world reached.format (load_of source) }
 reached_load world reached source = each_load (λ s c. reached_behind world reached c ≡ record reached { format = format_behind world reached.format c }) (λ b. refl) (λ n b. refl) (λ s r. refl) source
@@ -129,14 +130,14 @@ begin_refused (Pending r) files block reply is = is
 
 pub load_sends : (source : BatchSource) → Sends (load_of source) source
 load_sends source = record {
-  none_asked = each_load (λ s c. (schema : Schema) → asked_by schema c ≡ None) (λ b schema. refl) (λ n b schema. refl) (λ s r schema. refl) source;
+  none_asked = each_load (λ s c. (schema : Schema) (levels : List Level) → asked_by schema levels c ≡ None) (λ b schema levels. refl) (λ n b schema levels. refl) (λ s r schema levels. refl) source;
   writes = each_load (λ s c. MayWrite c) (λ b. tt) (λ n b. tt) (λ s r. tt) source;
   no_step = each_load (λ s c. IsStep c → ⊥) (λ b is. is) (λ n b is. is) (λ s r is. is) source;
   after = committed;
   acts = λ world. act_load_of world source;
   moves = λ world reached same. reached_load world reached source ∙ (λ i. record reached { format = format_stays world reached.format (load_of source) same i });
   alone = λ made. each_load (λ s c. made_alone c made ≡ made) (λ b. refl) (λ n b. refl) (λ s r. refl) source;
-  refuses = λ state files reply is. load_gives source state files reply (source_refused state files source reply is);
+  refuses = λ levels state files reply is. load_gives source levels state files reply (source_refused state files source reply is);
   costs = λ world reached cost costs warehouse batch last is some.
       let exact = load_is world source warehouse batch last is some reached cost costs in
       (omega (arith, ap (λ (c : Cost). c.reads) exact), omega (arith, ap (λ (c : Cost). c.writes) exact));
@@ -144,14 +145,14 @@ load_sends source = record {
 
 pub begin_sends : (block : Block) → Sends (says.Begin block) (Rows block)
 begin_sends block = record {
-  none_asked = λ schema. refl;
+  none_asked = λ schema levels. refl;
   writes = tt;
   no_step = λ step. step;
   after = λ world warehouse batch last. begun world batch;
   acts = λ world. act_begin world block;
   moves = λ world made same. refl;
   alone = λ made. refl;
-  refuses = λ state files reply is. begin_refused state files block reply is;
+  refuses = λ levels state files reply is. begin_refused state files block reply is;
   costs = λ world made cost costs warehouse batch last is some.
       let exact : cost ≡ record { reads = 1; writes = 1 } = costs ∙ ap (λ (n : ℕ). record { reads = n; writes = n }) (begins_is world block warehouse batch last is some) in
       (omega (arith, ap (λ (c : Cost). c.reads) exact), omega (arith, ap (λ (c : Cost). c.writes) exact));

@@ -8,6 +8,7 @@ use Rattle.cube_batches.proofs.Names.{List, None, NotRead, Nothing, Ok, OnlyNow,
 use Rattle.cube_batches.proofs.Names.{Command, Sends, State, Stop, Store, Taken, TakesIn, TellsLimit, Vec, Warehouse, World, [], act, answer_by, ap, arith, batch_from, begin_stop, bytes_after, codes, given_to}
 use Rattle.cube_batches.proofs.Names.{goes_nowhere, holds_to, inl, inr, last_behind, length, line, moves_made, next_side, nothing_added, refl, refusal_of, refusal_text, runs_out, says, slice_index}
 use Rattle.cube_batches.proofs.Names.{spends_more, stable_holds, stopped, subst, sym, take, take_over, unharmed, unless, wider, written, ℕ}
+use Rattle.cube_batches.proofs.Names.{says_just}
 use Rattle.cube_state.proofs.{Limits.none_refused, Limits.one_refused, Standing.keeps_from}
 use Rattle.forest_store.proofs.{Formats.format-later, Standing.in_some}
 use Rattle.forest_store.specs.Held.{KeepsAs, format_for}
@@ -109,11 +110,11 @@ module _ {S : Type 0} (T : Ghosts S) (source : BatchSource) (state : State) (sit
   -- it is refused
   refuses : (text : List ℕ) → ((world : World) → Stands state (T.disk site) world → (after : Warehouse → List Fact → ℕ → Answer) → answer_by world after source ≡ (world, text))
       → RefusesBy state source text → (reply : Vec ℕ Global) → reply.items ≡ text → Answers T source state state site site (Ok reply)
-  refuses text answers by reply said = λ command sends cache ready. says T command state site cache only text reply ready (record {
-    acts = λ t world stands. sends.acts world ∙ answers world stands (sends.after world);
+  refuses text answers by reply said = λ command sends cache ready. says T command state site cache only text reply ready (λ levels. record {
+    acts = λ t world known stands. says_just world _ _ (sends.acts world ∙ answers world stands (sends.after world));
     moves = λ t world stands. sends.moves world (reached_by state) (ap (λ (a : Answer). a.0.kept) (sends.acts world ∙ answers world stands (sends.after world)));
-    goes = λ t world stands numbers goes. goes_nowhere command sends.none_asked (format_of state) world numbers goes;
-    gives = λ files. sends.refuses state files text by;
+    goes = λ t world known stands numbers goes. goes_nowhere command sends.none_asked (format_of state) world numbers goes;
+    gives = λ files. sends.refuses levels state files text by;
     alone = λ no. sends.alone (moves_made state);
   }) said
 
@@ -247,8 +248,8 @@ module _ {S : Type 0} (T : Ghosts S) (source : BatchSource) (store : Store) (bat
       (rests T command sends.none_asked (Idle store) (Idle fault.store) old only reply
       (λ t world stands. answered_by (T.disk old) (act world command) (world, reply.items) (Idle fault.store) reply.items (refused command sends agree reply.items here world stands)
       (stands.0, stands.1, back_belongs store fault.store back (T.disk old) stands.0 stands.2) refl)
-      (λ world stands. still_reached (Idle store) (Idle fault.store) refl (sends.moves world (reached_by (Idle store)) (ap (λ (a : Answer). a.0.kept) (refused command sends agree reply.items here world stands)))) (λ files. sends.refuses (Idle store) files reply.items by) (back_runs store fault.store back T old) (sym (sends.alone 0))
-      (ap (λ (f : Forest). Some f.body) back.forest) cache ready)
+      (λ world stands. still_reached (Idle store) (Idle fault.store) refl (sends.moves world (reached_by (Idle store)) (ap (λ (a : Answer). a.0.kept) (refused command sends agree reply.items here world stands)))) (λ files levels. sends.refuses levels (Idle store) files reply.items by) (back_runs store fault.store back T old) (sym (sends.alone 0))
+      (ap (λ (f : Forest). Some f.body) back.forest) (ap (λ (f : Forest). Some f.schema) back.forest) cache ready)
 
   -- none is
   pub starts_not : Begins T store old new (Err fault) → (next : State) (stop : Stop) → stop ≡ begin_stop fault.why → Answers T source (Idle store) next old new (Err stop)

@@ -6,6 +6,7 @@ use Rattle.cube_batches.proofs.Names.{◌++◌, ◌<◌, ◌∙◌, ◌≡◌, �
 use Rattle.cube_batches.proofs.Names.{Forest, Ghosts, Hollow, Idle, IsReady, IsRefreshOf, IsStable, IsTrue, Kept, Knows, List, None, OnlyNow, Option, Pending, Reply}
 use Rattle.cube_batches.proofs.Names.{SaysOnly, Some, Spends, Stands, State, Stop, Store, Warehouse, World, [], act, ap, arith, codes, cond, free, goes_nowhere, inl, inr}
 use Rattle.cube_batches.proofs.Names.{line, load_cost_of, nat_tests, refl, runs_out, says, stable_holds, stopped, subst, sym, true, unharmed, ℕ}
+use Rattle.cube_batches.proofs.Names.{says_just}
 use Rattle.forest_moves.specs.Forest.{forest_moves}
 use Rattle.forest_refresh.specs.Next.{body_as}
 use Rattle.page_fmt.specs.Formats.{wide_format}
@@ -36,12 +37,12 @@ module _ {S : Type 0} (T : Ghosts S) (site : S) (only : IsTrue T.tells → OnlyN
   answers_with : (state : State) (text : List ℕ) → ((world : World) → Stands state (T.disk site) world → (kept : Kept) × (pending : Option (List Fact)) × Knows kept pending world
       × (upgrade_over kept pending ≡ line text) × (format_upgraded kept pending (format_of state) ≡ format_of state)) → ((files : _) → UpgradeGives state files (line text))
       → (result : Reply) → SaysOnly (line text) result → CarriesOutAlone T says.Upgrade state state site site result
-  answers_with state text by gives = or_out T says.Upgrade state state site only (line text) (λ reply said cache ready. says T says.Upgrade state site cache only (line text) reply ready (record {
-    acts = λ t world stands. (let is = by world stands in upgrade_answer world is.0 is.1 is.2 ∙ ap (λ (l : List ℕ). (world, l)) is.3);
+  answers_with state text by gives = or_out T says.Upgrade state state site only (line text) (λ reply said cache ready. says T says.Upgrade state site cache only (line text) reply ready (λ levels. record {
+    acts = λ t world known stands. (let is = by world stands in says_just world _ _ (upgrade_answer world is.0 is.1 is.2 ∙ ap (λ (l : List ℕ). (world, l)) is.3));
     moves = λ t world stands. (let is = by world stands in λ i. record (reached_by state) {
       format = ((λ j. format_upgraded (is.2.kept j) (is.2.pending j) (format_of state)) ∙ is.4) i;
     });
-    goes = λ t world stands. goes_nowhere says.Upgrade (λ schema. refl) (format_of state) world;
+    goes = λ t world known stands. goes_nowhere says.Upgrade (λ schema levels. refl) (format_of state) world;
     gives = gives;
     alone = λ no. refl;
   }) said)
@@ -107,7 +108,7 @@ module _ {S : Type 0} (T : Ghosts S) (store : Store) (narrow : store.forest.body
   module _ (r : Begun) (start : HasStarted T store [] store.forest.body.last old mid r) (wide : r.next.format ≡ wide_format) where
     pub upgrade_ends : Ends T Upgraded says.Upgrade (Idle store) r old mid
     upgrade_ends = record {
-      none_asked = λ schema. refl;
+      none_asked = λ schema levels. refl;
       writes = tt;
       no_step = λ is. is;
       no_live = λ is. is;
@@ -131,13 +132,14 @@ module _ {S : Type 0} (T : Ghosts S) (store : Store) (narrow : store.forest.body
             (committed_spends T old mid new store.forest.body.format it.0 (forest_moves store.forest.body.format r.next.format it.0.schema it.0.facts []) start.spent r.progress.taken start.none_made ends pages);
       };
       quiet = λ new result then. quiet_then T old mid new start.quiet result then;
-      damage = λ t stop told. batch_told r store [] (T.disk old).files (T.disk mid).files (start.closes t).range.others start.forest start.points stop told;
-      gives = λ t reply ends. record {
+      damage = λ t levels stop told. batch_told r store [] (T.disk old).files (T.disk mid).files (start.closes t).range.others start.forest start.points stop told;
+      gives = λ t levels reply ends. record {
         whole = λ old_format. batch_whole r store [] (T.disk old).files (T.disk mid).files (start.closes t).range.others start.forest start.points ends.whole;
         said = ends.said;
       };
       spares = started_spares T store old mid start;
       live = ap (λ (f : Forest). Some f.body) (sym start.forest);
+      schema = ap (λ (f : Forest). Some f.schema) (sym start.forest);
     }
 
   -- they have not begun to be
@@ -145,12 +147,12 @@ module _ {S : Type 0} (T : Ghosts S) (store : Store) (narrow : store.forest.body
       (only : IsTrue T.tells → OnlyNow (T.disk old)) (next : State) (cache : Cache) (ready : IsReadyFor T old cache (Idle store)) where
     -- a file failed
     upgrade_failed : fault.why ≡ begins.Disk → CarriesOut T says.Upgrade (Idle store) next old mid cache cache (Err stops.Disk)
-    upgrade_failed disk = stopped T says.Upgrade (λ schema. refl) (Idle store) next old mid tt cache cache refl stops.Disk (λ t world it. record {
+    upgrade_failed disk = stopped T says.Upgrade (λ schema levels. refl) (Idle store) next old mid tt cache cache refl stops.Disk (λ t world it. record {
       any_moment = begin_between T store old mid is t it.0 it.2 world (act world says.Upgrade).0 it.1.kept;
       cost = λ cost costs. (let exact = cost_is world it cost costs in spends_more T (record { reads = 1; writes = 1 }) cost old mid (omega (arith, ap (λ (c : Cost). c.reads) exact))
           (omega (arith, ap (λ (c : Cost). c.writes) exact)) (record { reads = is.calls.reads; writes = is.calls.writes }));
     })
-        (unharmed T says.Upgrade (λ schema. refl) (Idle store) next old mid stops.Disk tt (λ t step. absurd step))
+        (unharmed T says.Upgrade (λ schema levels. refl) (Idle store) next old mid stops.Disk tt (λ t step. absurd step))
         (record { told = is.told; cause = ((is.calls.cause.failed disk, is.calls.cause.once), is.calls.told_faults); disk_faults = tt; told_faults = is.calls.told_faults })
 
     -- memory ran out

@@ -10,6 +10,7 @@ use Rattle.forest_root.specs.declared.body.Body.{Body}
 use Rattle.forest_store.specs.Sides.{page_count}
 use Rattle.page_cache.specs.Giving.{Cache}
 use Rattle.reply_text.specs.Replies.{committed_text, line, upgraded_text}
+use Rattle.roll_up.specs.declared.level.Level.{Level}
 use Rattle.script_lang.specs.declared.command.Command.{Command}
 use Rattle.plain_machine.specs.Machine.{Answer, act, asked_by, committed}
 use Rattle.plain_machine.specs.World.{Warehouse, World}
@@ -27,6 +28,7 @@ use Rattle.cube_state.specs.Costs.{Cost, Spends}
 use Rattle.cube_state.specs.Frames.{IsQuiet}
 use Rattle.cube_state.specs.Moves.{format_of, moves_made, reached_behind, reached_by, unmoved}
 use Rattle.cube_state.specs.Session.{AttendsAs, Between, Stands}
+use Rattle.cube_state.specs.Visits.{schema_of}
 use Rattle.cube_batches.specs.declared.committing.Told.{Told}
 use Rattle.cube_batches.specs.declared.committing.Told.TheVariants.{Committed, Upgraded}
 
@@ -81,7 +83,7 @@ pub record EndsFor {S : Type 0} (T : Ghosts S) (told : Told) (command : Command)
 
 -- the command ends with the commit of a refresh, which stands from mid on
 pub record Ends {S : Type 0} (T : Ghosts S) (told : Told) (command : Command) (state : State) (refresh : Begun) (old mid : S) : Type 0 where
-  pub none_asked : (schema : Schema) → asked_by schema command ≡ None
+  pub none_asked : (schema : Schema) (levels : List Level) → asked_by schema levels command ≡ None
   pub writes : MayWrite command
   pub no_step : IsStep command → ⊥
   pub no_live : LeavesLive command → ⊥
@@ -90,11 +92,12 @@ pub record Ends {S : Type 0} (T : Ghosts S) (told : Told) (command : Command) (s
   pub alone : made_alone command (moves_made state) ≡ 0
   pub by_world : IsTrue T.tells → (world : World) → Stands state (T.disk old) world → EndsFor T told command state refresh old mid world
   pub quiet : (new : S) (result : Reply) → IsQuiet T mid new result → IsQuiet T old new result
-  pub damage : IsTrue T.tells → (stop : Stop) → TellsRefreshDamage refresh (T.disk mid).files stop → TellsDamage state (T.disk old).files command stop
-  pub gives : IsTrue T.tells → (reply : List ℕ) → IsEnded (text_of told) refresh (T.disk mid).files reply → Gives state (T.disk old).files command reply
+  pub damage : IsTrue T.tells → (levels : List Level) (stop : Stop) → TellsRefreshDamage refresh (T.disk mid).files stop → TellsDamage levels state (T.disk old).files command stop
+  pub gives : IsTrue T.tells → (levels : List Level) (reply : List ℕ) → IsEnded (text_of told) refresh (T.disk mid).files reply → Gives levels state (T.disk old).files command reply
   pub spares : IsTrue T.tells → (new : S) (stop : Stop) → SparesOthers refresh.store.forest.body (T.disk mid).files (T.disk new).files stop
       → Spares (live_of state) (T.disk old).files (T.disk new).files stop
   pub live : live_of state ≡ Some refresh.store.forest.body
+  pub schema : schema_of state ≡ Some refresh.store.forest.schema
 
 -- each command that ends so is carried out
 abbrev pub Commits : {S : Type 0} (T : Ghosts S) (told : Told) (refresh : Begun) (next : State) (mid new : S) (before after : Cache) (result : Reply) → Type 0

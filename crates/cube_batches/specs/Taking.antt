@@ -13,6 +13,7 @@ use Rattle.forest_root.specs.Root.{ClosesGate}
 use Rattle.forest_root.specs.declared.forest.Store.{Store}
 use Rattle.forest_store.specs.Held.{format_for}
 use Rattle.reply_text.specs.Replies.{line}
+use Rattle.roll_up.specs.declared.level.Level.{Level}
 use Rattle.script_lang.specs.declared.command.Command.{Command}
 use Rattle.plain_machine.specs.declared.batch_source.BatchSource.{BatchSource}
 use Rattle.plain_machine.specs.Machine.{Answer, Given, act, asked_by, batch_from, refusal_of, take_over, unless}
@@ -78,7 +79,7 @@ RefusesBy (Hollow store) source reply = IsLine (codes "refused pending") reply
 RefusesBy (Pending refresh) source reply = IsLine (codes "refused pending") reply
 
 pub record Sends (command : Command) (source : BatchSource) : Type 0 where
-  pub none_asked : (schema : Schema) → asked_by schema command ≡ None
+  pub none_asked : (schema : Schema) (levels : List Level) → asked_by schema levels command ≡ None
   pub writes : MayWrite command
   pub no_step : IsStep command → ⊥
   -- what follows on a batch that keeps the limits
@@ -87,7 +88,7 @@ pub record Sends (command : Command) (source : BatchSource) : Type 0 where
   -- where nothing is accepted
   pub moves : (world : World) (reached : Reached) → (act world command).0.kept ≡ world.kept → reached_behind world reached command ≡ reached
   pub alone : (made : ℕ) → made_alone command made ≡ made
-  pub refuses : (state : State) (files : Files) (reply : List ℕ) → RefusesBy state source reply → Gives state files command reply
+  pub refuses : (levels : List Level) (state : State) (files : Files) (reply : List ℕ) → RefusesBy state source reply → Gives levels state files command reply
   -- it asks for a read and a write at least
   pub costs : (world : World) (reached : Reached) (cost : Cost) → Costs world reached command cost → (warehouse : Warehouse) (batch : List Fact) (last : ℕ)
       → IsFitting world source warehouse batch last → 0 < length batch → (1 ≤ cost.reads) × (1 ≤ cost.writes)

@@ -2,7 +2,7 @@
 use Rattle.std.proofs.Common.{◌≡◌, ◌∙◌, ◌++◌, length, ℕ, IsTrue, false, Option, Some, None, option_to_list, List, [], ◌∷◌, Result, Ok, Err, IfSome, ap, refl, sym, subst, append-nil, append_assoc}
 use Rattle.std.proofs.Common.{length-append, arith}
 use Rattle.cube_run.proofs.Names.{Answers, AnswersByWorld, Cache, CarriesOn, Command, Cost, CostTogether, Costs, Disk, Files, Finished, Ghosts, Gives, HasGone, HasMovedTo, HasReplied, HasStopped}
-use Rattle.cube_run.proofs.Names.{IsErrAnd, IsFirstWhole, IsLeft, IsWithin, Keeps, OnlyNow, Onward, Reading, Reads, Replied, RepliesTo, Runs, Spends, StandsFor, State, Stop, World, act, at_rest}
+use Rattle.cube_run.proofs.Names.{IsErrAnd, IsFirstWhole, IsLeft, IsWithin, Keeps, OnlyNow, Onward, Reading, Reads, Replied, RepliesTo, Runs, Spends, StandsFor, Held, Stop, World, act, at_rest}
 use Rattle.cube_run.proofs.Names.{carried_command, carried_start, carried_then, during, joined, one_costs, ready, stands_left, stands_moved, stands_read, started, to_come, whole_with, wider}
 use Rattle.cube_state.proofs.Giving.{gives_some}
 use Rattle.cube_state.specs.declared.stop.Stop.TheVariants as stops
@@ -13,11 +13,11 @@ use Rattle.plain_machine.specs.Keeps.{HasFormat, IsFrom}
 use Rattle.cube_session.specs.Session.{reached_for}
 
 -- what a session that stands tells of the files: what they keep, also after a stop, the moves made and the format
-stood : (session : Option State) (d : Disk) (w : World) → StandsFor session d w
+stood : (session : Option Held) (d : Disk) (w : World) → StandsFor session d w
     → Keeps d.files w.kept × ((files : Files) → d.may_leave files → Keeps files w.kept) × HasMovedTo d.files w (reached_for session).made × HasFormat d.files w.kept (reached_for session).format
     × ((files : Files) → d.may_leave files → IsFrom (reached_for session).format files)
 stood None d w is = absurd is
-stood (Some state) d w is = (stands_read state d w is, stands_left state d w is, stands_moved state d w is, stands_format state d w is, stands_from state d w is)
+stood (Some held) d w is = (stands_read held.state d w is.stands, stands_left held.state d w is.stands, stands_moved held.state d w is.stands, stands_format held.state d w is.stands, stands_from held.state d w is.stands)
 
 -- ---- replies
 
@@ -33,17 +33,17 @@ then_replied first second before mid now one two = record {
   each = both_replied first second one.replies two.replies one.each two.each;
 }
 
-one_replied : (c : Command) (state : State) (files : Files) (before now : List ℕ) → RepliesTo state files c before now → HasReplied (c ∷ []) before now
-one_replied c state files before now is = record {
+one_replied : (c : Command) (held : Held) (files : Files) (before now : List ℕ) → RepliesTo held files c before now → HasReplied (c ∷ []) before now
+one_replied c held files before now is = record {
   replies = is.reply;
   told = is.told;
-  each = (is.reply, [], sym (append-nil is.reply), gives_some state files c is.reply is.right, (state, files, is.right), refl);
+  each = (is.reply, [], sym (append-nil is.reply), gives_some held.levels held.state files c is.reply is.right, (held, files, is.right), refl);
 }
 
 module _ {S : Type 0} (T : Ghosts S) where
   -- ---- by the world that the session stands for
 
-  onward_none : (site : S) (had : Option State) (w : World) (cs : List Command) → StandsFor had (T.disk site) w → OnlyNow (T.disk site) → Onward T had had w cs cs site site
+  onward_none : (site : S) (had : Option Held) (w : World) (cs : List Command) → StandsFor had (T.disk site) w → OnlyNow (T.disk site) → Onward T had had w cs cs site site
   onward_none site had w cs stands only = record {
     now = w;
     stands = stands;
@@ -68,36 +68,36 @@ module _ {S : Type 0} (T : Ghosts S) where
   left_one old new w reached c rest all call (one_costs one others own more) =
       let spent = call one own in record { left = others; costs = more; reads = omega (arith, spent.reads); writes = omega (arith, spent.writes) }
 
-  module _ (c : Command) (w : World) (state : State) (then : Option State) (old new : S) (before after : Cache) (rest : List Command) where
-    within_one : (result : Result (Unit {0}) Stop) → AnswersByWorld T c w state then old new before after result → IsWithin T (Some state) w (c ∷ rest) old new
+  module _ (c : Command) (w : World) (held : Held) (then : Option Held) (old new : S) (before after : Cache) (rest : List Command) where
+    within_one : (result : Result (Unit {0}) Stop) → AnswersByWorld T c w held.state then old new before after result → IsWithin T (Some held) w (c ∷ rest) old new
     within_one result is = record {
       any_moment = wider _ _ _ _ (during w c rest _) is.any_moment;
       formats = is.formats rest;
-      cost = λ all costs. spends_left (left_one old new w (reached_by state) c rest all is.cost costs);
+      cost = λ all costs. spends_left (left_one old new w (reached_by held.state) c rest all is.cost costs);
     }
 
-    onward_one : (x : Unit {0}) → AnswersByWorld T c w state then old new before after (Ok x) → Onward T (Some state) then w (c ∷ rest) rest old new
+    onward_one : (x : Unit {0}) → AnswersByWorld T c w held.state then old new before after (Ok x) → Onward T (Some held) then w (c ∷ rest) rest old new
     onward_one x is = record {
       now = (act w c).0;
       stands = is.stands;
       carried = carried_command w (c ∷ rest) _ w c rest (c ∷ rest) _ _ (carried_start w (c ∷ rest) _ _ refl) refl is.told;
       moved = ap (λ (m : Reached). reached_from (act w c).0 m rest) (sym is.moved);
-      spent = λ all costs. subst (λ (m : Reached). IsLeft T old new (act w c).0 m rest all) (sym is.moved) (left_one old new w (reached_by state) c rest all is.cost costs);
+      spent = λ all costs. subst (λ (m : Reached). IsLeft T old new (act w c).0 m rest all) (sym is.moved) (left_one old new w (reached_by held.state) c rest all is.cost costs);
       any_moment = (within_one (Ok x) is).any_moment;
       formats = is.formats rest;
       formats_onto = λ told files more. record {
         front = (act w c).1 ++ more.front;
         tells = more.tells ∙ ap (λ (l : List ℕ). l ++ more.front) is.told ∙ append_assoc (T.disk old).told (act w c).1 more.front;
-        from = subst (λ (f : ℕ). IsFrom f files) (sym (ap (format_told w (reached_by state) (c ∷ rest)) (length-append (act w c).1 more.front) ∙ format_past w (reached_by state) c rest (length more.front)
+        from = subst (λ (f : ℕ). IsFrom f files) (sym (ap (format_told w (reached_by held.state) (c ∷ rest)) (length-append (act w c).1 more.front) ∙ format_past w (reached_by held.state) c rest (length more.front)
             ∙ ap (λ (r : Reached). format_told (act w c).0 r rest (length more.front)) (sym is.moved))) more.from;
       };
     }
 
-  within_now : {had has : Option State} {w : World} {cs rest : List Command} {old new : S} → Onward T had has w cs rest old new → IsWithin T had w cs old new
+  within_now : {had has : Option Held} {w : World} {cs rest : List Command} {old new : S} → Onward T had has w cs rest old new → IsWithin T had w cs old new
   within_now is = record { any_moment = is.any_moment; formats = is.formats; cost = λ cost costs. spends_left (is.spent cost costs) }
 
   -- and then others
-  module _ (had has : Option State) (w : World) (cs all : List Command) (old mid new : S) (so_far : Onward T had has w cs all old mid) where
+  module _ (had has : Option Held) (w : World) (cs all : List Command) (old mid new : S) (so_far : Onward T had has w cs all old mid) where
     within_then : IsWithin T has so_far.now all mid new → IsWithin T had w cs old new
     within_then next = record {
       any_moment = joined _ _ _ _ so_far.any_moment (wider _ _ _ _ so_far.carried.onto next.any_moment);
@@ -108,7 +108,7 @@ module _ {S : Type 0} (T : Ghosts S) where
           record { reads = omega (arith, left.reads, spent.reads); writes = omega (arith, left.writes, spent.writes) };
     }
 
-    onward_then : (then : Option State) (rest : List Command) → Onward T has then so_far.now all rest mid new → Onward T had then w cs rest old new
+    onward_then : (then : Option Held) (rest : List Command) → Onward T has then so_far.now all rest mid new → Onward T had then w cs rest old new
     onward_then then rest next = record {
       now = next.now;
       stands = next.stands;
@@ -124,7 +124,7 @@ module _ {S : Type 0} (T : Ghosts S) where
     }
 
   -- nothing is left
-  pub onward_done : (had has : Option State) (w : World) (cs : List Command) (old new : S) → Onward T had has w cs [] old new → Finished (T.disk new) w (reached_for had) cs (T.disk old).told
+  pub onward_done : (had has : Option Held) (w : World) (cs : List Command) (old new : S) → Onward T had has w cs [] old new → Finished (T.disk new) w (reached_for had) cs (T.disk old).told
   onward_done had has w cs old new is =
       let stands = stood has (T.disk new) is.now is.stands in
       record {
@@ -136,7 +136,7 @@ module _ {S : Type 0} (T : Ghosts S) where
 
   -- ---- whatever the files hold
 
-  pub gone_none : (site : S) (had : Option State) (cache : Cache) → (IsTrue T.tells → OnlyNow (T.disk site)) → Runs T site had cache → HasGone T had had [] site site cache
+  pub gone_none : (site : S) (had : Option Held) (cache : Cache) → (IsTrue T.tells → OnlyNow (T.disk site)) → Runs T site had cache → HasGone T had had [] site site cache
   gone_none site had cache only runs = record {
     onward = λ t world stands rest. onward_none site had world rest stands (only t);
     replied = λ t. record { replies = []; told = sym (append-nil _); each = refl };
@@ -144,27 +144,27 @@ module _ {S : Type 0} (T : Ghosts S) where
     quiet = (refl, refl);
   }
 
-  module _ (c : Command) (old new : S) (before after : Cache) (then : Option State) where
-    pub gone_one : (has : Option State) (x : Unit {0}) → Runs T old has before → IfSome has (λ (s : State). Answers T c s then old new before after (Ok x)) → HasGone T has then (c ∷ []) old new after
+  module _ (c : Command) (old new : S) (before after : Cache) (then : Option Held) where
+    pub gone_one : (has : Option Held) (x : Unit {0}) → Runs T old has before → IfSome has (λ (s : Held). Answers T c s then old new before after (Ok x)) → HasGone T has then (c ∷ []) old new after
     gone_one None x runs is = absurd runs
-    gone_one (Some state) x runs is = record {
-      onward = λ t world stands rest. onward_one c world state then old new before after rest x (is.by_world t world stands);
-      replied = λ t. one_replied c state _ _ _ (is.any_files t).answered;
+    gone_one (Some held) x runs is = record {
+      onward = λ t world stands rest. onward_one c world held then old new before after rest x (is.by_world t world stands);
+      replied = λ t. one_replied c held _ _ _ (is.any_files t).answered;
       runs = is.goes_on.runs;
       quiet = (is.goes_on.stops.disk_faults, is.goes_on.stops.told_faults);
     }
 
-    pub stopped_one : (has : Option State) (stop : Stop) → Runs T old has before → IfSome has (λ (s : State). Answers T c s then old new before after (Err stop))
+    pub stopped_one : (has : Option Held) (stop : Stop) → Runs T old has before → IfSome has (λ (s : Held). Answers T c s then old new before after (Err stop))
         → HasStopped T has (c ∷ []) old new stop
     stopped_one None stop runs is = absurd runs
-    stopped_one (Some state) stop runs is = record {
-      within = λ t world stands rest. within_one c world state then old new before after rest (Err stop) (is.by_world t world stands);
+    stopped_one (Some held) stop runs is = record {
+      within = λ t world stands rest. within_one c world held then old new before after rest (Err stop) (is.by_world t world stands);
       undamaged = λ t world stands. (is.by_world t world stands).undamaged;
       unbegun = λ none. absurd (omega (arith, none));
       cause = is.goes_on.stops.cause;
     }
 
-module _ {S : Type 0} {T : Ghosts S} {had has : Option State} {one : List Command} {old mid : S} {cache : Cache} (first : HasGone T had has one old mid cache) where
+module _ {S : Type 0} {T : Ghosts S} {had has : Option Held} {one : List Command} {old mid : S} {cache : Cache} (first : HasGone T had has one old mid cache) where
   -- memory runs out behind them
   pub stopped_out : HasStopped T had one old mid stops.Memory
   stopped_out = record {
@@ -175,7 +175,7 @@ module _ {S : Type 0} {T : Ghosts S} {had has : Option State} {one : List Comman
   }
 
   -- and then others
-  pub gone_then : {then : Option State} {two : List Command} {new : S} {after : Cache} → HasGone T has then two mid new after → HasGone T had then (one ++ two) old new after
+  pub gone_then : {then : Option Held} {two : List Command} {new : S} {after : Cache} → HasGone T has then two mid new after → HasGone T had then (one ++ two) old new after
   gone_then {then} {two} {new} next = record {
     onward = λ t world stands rest.
         let so_far = first.onward t world stands (two ++ rest) in
@@ -198,7 +198,7 @@ module _ {S : Type 0} {T : Ghosts S} {had has : Option State} {one : List Comman
 -- ---- up to a stop, or to where no command is whole
 
 -- where nothing has stopped a session so far
-pub record HasCarried {S : Type 0} (T : Ghosts S) (had has : Option State) (before lines : Reading) (old new : S) (cache : Cache) : Type 0 where
+pub record HasCarried {S : Type 0} (T : Ghosts S) (had has : Option Held) (before lines : Reading) (old new : S) (cache : Cache) : Type 0 where
   pub given : List Command
   pub reads : Reads given [] before lines
   pub gone : HasGone T had has given old new cache
@@ -221,13 +221,13 @@ pub handed : {A E : Type 0} (r : Result A E) (x : E) → IsErrAnd r (λ (e : E).
 handed (Ok y) x from = absurd from
 handed (Err e) x from = ap Err from
 
-pub carried_none : {S : Type 0} (T : Ghosts S) (site : S) (had : Option State) (lines : Reading) (cache : Cache) → (IsTrue T.tells → OnlyNow (T.disk site)) → Runs T site had cache
+pub carried_none : {S : Type 0} (T : Ghosts S) (site : S) (had : Option Held) (lines : Reading) (cache : Cache) → (IsTrue T.tells → OnlyNow (T.disk site)) → Runs T site had cache
     → HasCarried T had had lines lines site site cache
 carried_none T site had lines cache only runs = record { given = []; reads = record { all = λ more. refl; whole = λ going more. refl; over = refl }; gone = gone_none T site had cache only runs }
 
-module _ {S : Type 0} {T : Ghosts S} {had has : Option State} {before lines : Reading} {old mid : S} {cache : Cache} (so_far : HasCarried T had has before lines old mid cache) (next : Reading) where
-  module _ (c : Command) (reads : Reads (c ∷ []) [] lines next) (new : S) (then : Option State) (after : Cache) where
-    pub carried_more : (x : Unit {0}) → IfSome has (λ (s : State). Answers T c s then mid new cache after (Ok x)) → HasCarried T had then before next old new after
+module _ {S : Type 0} {T : Ghosts S} {had has : Option Held} {before lines : Reading} {old mid : S} {cache : Cache} (so_far : HasCarried T had has before lines old mid cache) (next : Reading) where
+  module _ (c : Command) (reads : Reads (c ∷ []) [] lines next) (new : S) (then : Option Held) (after : Cache) where
+    pub carried_more : (x : Unit {0}) → IfSome has (λ (s : Held). Answers T c s then mid new cache after (Ok x)) → HasCarried T had then before next old new after
     carried_more x answers = record {
       given = so_far.given ++ (c ∷ []);
       reads = reads_then so_far.reads reads;
@@ -235,7 +235,7 @@ module _ {S : Type 0} {T : Ghosts S} {had has : Option State} {before lines : Re
     }
 
     -- it stops the session
-    pub carried_stop : (stop : Stop) → IfSome has (λ (s : State). Answers T c s then mid new cache after (Err stop)) → CarriesOn T had then before next old new after (Err stop)
+    pub carried_stop : (stop : Stop) → IfSome has (λ (s : Held). Answers T c s then mid new cache after (Err stop)) → CarriesOn T had then before next old new after (Err stop)
     carried_stop stop answers = record {
       given = so_far.given ++ (c ∷ []);
       reads = reads_then so_far.reads reads;

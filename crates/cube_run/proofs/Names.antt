@@ -5,9 +5,9 @@ pub use Rattle.cube_run.{specs.Damage.EndsForBreak, specs.Headline.AfterRun, spe
 pub use Rattle.cube_run.{specs.Onward.IsLeft, specs.Onward.IsWithin, specs.Onward.Onward, specs.Pulls.Gave, specs.Pulls.GaveAtMost, specs.Pulls.KeepsLimit, specs.Pulls.PullsInto}
 pub use Rattle.cube_run.{specs.Replied.HasReplied, specs.Replied.Replied, specs.Runs.RunsScript, specs.Serving.ByEnd, specs.Serving.Outcome, specs.Serving.Serves, specs.declared.exit.Status.Status}
 pub use Rattle.cube_session.specs.Session.{Answers, AnswersByWorld, RepliesTo, Runs, StandsFor, Starts}
-pub use Rattle.cube_state.{proofs.Answering.OnlyNow, proofs.Moves.stands_moved, proofs.SliceCosts.query_costs, proofs.SliceCosts.slice_costs, proofs.Standing.stands_left, proofs.Standing.stands_read, specs.Commands.CostTogether}
+pub use Rattle.cube_state.{proofs.Answering.OnlyNow, proofs.Moves.stands_moved, proofs.SliceCosts.query_costs, proofs.SliceCosts.rollup_costs, proofs.SliceCosts.slice_costs, proofs.Standing.stands_left, proofs.Standing.stands_read, specs.Commands.CostTogether}
 pub use Rattle.cube_state.{specs.Commands.Costs, specs.Commands.none_cost, specs.Commands.one_costs, specs.Costs.Cost, specs.Costs.Spends, specs.Costs.both, specs.Moves.HasMovedTo}
-pub use Rattle.cube_state.{specs.Stops.IsNoDamage, specs.Stops.StopCause, specs.declared.state.State.State, specs.declared.stop.Stop.Stop}
+pub use Rattle.cube_state.{specs.Stops.IsNoDamage, specs.Stops.StopCause, specs.declared.stop.Stop.Stop}
 pub use Rattle.plain_machine.{proofs.Histories.goes_on_once, proofs.Stages.at_rest, proofs.Stages.carried_more as carried_command, proofs.Stages.carried_none as carried_start}
 pub use Rattle.plain_machine.{proofs.Stages.carried_then, proofs.Stages.during, specs.Keeps.Keeps, specs.Machine.act, specs.Stages.AfterStop, specs.Stages.replies_from, specs.World.Kept}
 pub use Rattle.plain_machine.{specs.World.World, specs.World.bare}
@@ -20,3 +20,4 @@ pub use Rattle.site_core.{specs.declared.site.Site.Ghosts, specs.declared.site.S
 pub use Rattle.{cube_session.specs.Costs.open_cost, cube_session.specs.Damage.StopsAt, cube_session.specs.Damage.TellsBreak, cube_session.specs.declared.session.Session.Session}
 pub use Rattle.{cube_words.specs.Words.AreValid, cube_words.specs.declared.words.WordsStop.WordsStop, forest_open.specs.Breaks.BreaksAt, forest_open.specs.Opening.Place}
 pub use Rattle.{page_cache.specs.Giving.Cache, std.specs.Option.IsSomeAnd, std.specs.Result.IsErrAnd}
+pub use Rattle.cube_session.specs.declared.held.Held.{Held}

@@ -3,7 +3,7 @@ use Rattle.std.proofs.Common.{◌≡◌, ◌≤◌, ◌+◌, ◌∷◌, ℕ, IsT
 use Rattle.cube_run.proofs.Names.{AreValid, BreaksAt, ByEnd, Changes-refl, Command, Cost, CostTogether, Costs, CostsRun, Elapses, EndsAt, EndsForBreak, EndsUnpulled, EndsUntouched, Faults, Files}
 use Rattle.cube_run.proofs.Names.{Gave, Ghosts, HasReplied, Headline, IsNoDamage, IsPastOpening, IsSomeAnd, IsUndamaged, IsUsageOrMemory, Keeps, KeepsLimit, Kept, OnlyNow, Outcome, Place}
 use Rattle.cube_run.proofs.Names.{RunsScript, Serves, Session, Sites, Sources, Spends, Starts, Status, StatusCause, Stays, Stop, StopsAt, TellsBreak, TellsNothing, WordsStop, World, act, bare, both}
-use Rattle.cube_run.proofs.Names.{commands, faults, none_cost, one_costs, open_cost, opening_and, query_costs, slice_costs, status_of, stop_of, words_status}
+use Rattle.cube_run.proofs.Names.{commands, faults, none_cost, one_costs, open_cost, opening_and, query_costs, rollup_costs, slice_costs, status_of, stop_of, words_status}
 use Rattle.cube_run.proofs.Moments.{histories_go_on, moments_then, opened_behind, opened_moments, opening_moments, told_front}
 use Rattle.cube_run.proofs.Statuses.{complete, never, none_told, of_stop, still_closed, stop_cause}
 use Rattle.script_lang.specs.declared.command.Command.TheVariants as says
@@ -23,6 +23,7 @@ use Rattle.cube_session.specs.Session.{reached_for}
 command_costs : (world : World) (reached : Reached) (command : Command) → (cost : Cost) × Costs world reached command cost
 command_costs world reached (says.Slice text) = slice_costs reached.format world text
 command_costs world reached (says.Sql text) = query_costs reached.format world text
+command_costs world reached (says.Rollup text) = rollup_costs reached.format world text
 command_costs world reached _ = (_, refl)
 
 -- and so have all commands together
@@ -124,14 +125,14 @@ unopened S {T} laws given most source valid {cache} {site} {now} {stop} is =
 -- ---- the script is served
 
 module _ {A B : Type 0} {S : Sources A} {T : Sites B} (laws : Laws T) (given : List (List ℕ)) (valid : AreValid given) {most cache : ℕ} {source next : A} {site mid now : B}
-    {session : Session} {status : Status} (is : Starts T cache site mid (Ok session)) (serves : Serves S T session.state most source next mid now status) where
+    {session : Session} {status : Status} (is : Starts T cache site mid (Ok session)) (serves : Serves S T session.held most source next mid now status) where
   -- which commands were carried out at such an end
-  outcome : IsTrue S.tells → IsTrue T.tells → (kept : Kept) → Keeps (T.disk site).files kept → (reached : Reached) → reached_for session.state ≡ reached → (end : Status) → status ≡ end
+  outcome : IsTrue S.tells → IsTrue T.tells → (kept : Kept) → Keeps (T.disk site).files kept → (reached : Reached) → reached_for session.held ≡ reached → (end : Status) → status ≡ end
       → Outcome (T.disk now) (bare kept) reached (S.left source) (S.left next) most (T.disk site).told end
   outcome s t kept keeps reached has end same =
       subst (λ (m : Reached). Outcome (T.disk now) (bare kept) m (S.left source) (S.left next) most (T.disk site).told end) has
-      (subst (λ (told : List ℕ). Outcome (T.disk now) (bare kept) (reached_for session.state) (S.left source) (S.left next) most told end) (is.disk t).told
-      (subst (Outcome (T.disk now) (bare kept) (reached_for session.state) (S.left source) (S.left next) most (T.disk mid).told) same (serves.outcome s t (bare kept) (is.opened t kept keeps))))
+      (subst (λ (told : List ℕ). Outcome (T.disk now) (bare kept) (reached_for session.held) (S.left source) (S.left next) most told end) (is.disk t).told
+      (subst (Outcome (T.disk now) (bare kept) (reached_for session.held) (S.left source) (S.left next) most (T.disk mid).told) same (serves.outcome s t (bare kept) (is.opened t kept keeps))))
 
   done : IsTrue S.tells → status ≡ Done → (S.left next ≡ []) × (IsTrue T.tells → HasReplied (commands (S.left source)) (T.disk mid).told (T.disk now).told)
   done s same = subst (ByEnd _ _ (Unit {0})) same serves.pulled s

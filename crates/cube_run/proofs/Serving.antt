@@ -3,7 +3,7 @@ use Rattle.std.proofs.Common.{◌≡◌, ◌≤◌, ◌<◌, ◌+◌, ◌∙◌,
 use Rattle.std.proofs.Common.{length-append, length-take, arith}
 use Rattle.std.proofs.Math.Seq.{take-append_seam}
 use Rattle.cube_run.proofs.Names.{Cache, CarriesOn, Command, Finished, Gave, GaveAtMost, HasGone, HasReplied, HasStopped, IsNoDamage, IsWithin, OnlyNow, PullsInto, Reading, Reads, RoseOnce, Runs}
-use Rattle.cube_run.proofs.Names.{Serves, Sites, Sources, StandsFor, State, Status, Stop, World, commands, fed, fed_whole, feeding_ended, none_to_come, none_whole, nothing_read, ready, status_of}
+use Rattle.cube_run.proofs.Names.{Serves, Sites, Sources, StandsFor, Held, Status, Stop, World, commands, fed, fed_whole, feeding_ended, none_to_come, none_whole, nothing_read, ready, status_of}
 use Rattle.cube_run.proofs.Names.{to_come, whole, with_more}
 use Rattle.cube_run.proofs.Going.{gone_none, gone_then, onward_done, reads_then, stopped_out, stopped_then}
 use Rattle.cube_run.proofs.Statuses.{by_stop, of_stop, stop_cause}
@@ -12,7 +12,7 @@ use Rattle.cube_run.specs.declared.exit.Status.TheVariants.{Done, Memory, TooLon
 use Rattle.cube_session.specs.Session.{reached_for}
 
 -- some bytes were taken, and their commands carried out: with those that are left in the source the others are still to come
-pub record HasServed {A B : Type 0} (S : Sources A) (T : Sites B) (had has : Option State) (cache : Cache) (lines : Reading) (taken most : ℕ) (source source_now : A) (site site_now : B) : Type 0 where
+pub record HasServed {A B : Type 0} (S : Sources A) (T : Sites B) (had has : Option Held) (cache : Cache) (lines : Reading) (taken most : ℕ) (source source_now : A) (site site_now : B) : Type 0 where
   pub given : List Command
   pub seen : List ℕ
   pub gone : HasGone T had has given site site_now cache
@@ -36,7 +36,7 @@ none_of (b ∷ bs) given rest is none = absurd (omega (arith, none))
 
 module _ {A B : Type 0} (S : Sources A) (T : Sites B) where
   -- before the first pull
-  pub served_none : (had : Option State) (cache : Cache) (lines : Reading) (most : ℕ) (source : A) (site : B) → (IsTrue T.tells → OnlyNow (T.disk site))
+  pub served_none : (had : Option Held) (cache : Cache) (lines : Reading) (most : ℕ) (source : A) (site : B) → (IsTrue T.tells → OnlyNow (T.disk site))
       → Runs T site had cache → lines ≡ nothing_read → HasServed S T had had cache lines 0 most source source site site
   served_none had cache lines most source site only runs is = rw is (record {
     given = [];
@@ -51,7 +51,7 @@ module _ {A B : Type 0} (S : Sources A) (T : Sites B) where
     quiet = (refl, refl);
   })
 
-module _ {A B : Type 0} {S : Sources A} {T : Sites B} {had has : Option State} {cache : Cache} {lines : Reading} {taken most : ℕ} {source mid : A} {site now : B}
+module _ {A B : Type 0} {S : Sources A} {T : Sites B} {had has : Option Held} {cache : Cache} {lines : Reading} {taken most : ℕ} {source mid : A} {site now : B}
     (so_far : HasServed S T had has cache lines taken most source mid site now) where
   all_is : IsTrue S.tells → commands (S.left source) ≡ so_far.given ++ to_come lines (S.left mid)
   all_is s = ap commands (so_far.script s) ∙ so_far.reads.all (S.left mid)
@@ -153,7 +153,7 @@ module _ {A B : Type 0} {S : Sources A} {T : Sites B} {had has : Option State} {
         → commands (S.left source) ≡ (so_far.given ++ given) ++ to_come after (S.left next)
     all_now fed_lines after given come reads s = all_is s ∙ ap (λ (l : List Command). so_far.given ++ l) (come s ∙ reads.all (S.left next)) ∙ sym (append_assoc so_far.given given _)
 
-    module _ {fed_lines after : Reading} {then : Option State} {new : B} {cache_now : Cache}
+    module _ {fed_lines after : Reading} {then : Option Held} {new : B} {cache_now : Cache}
         (come : IsTrue S.tells → to_come lines (S.left mid) ≡ to_come fed_lines (S.left next)) where
       -- a command stops the session
       pub served_stop : {stop : Stop} → CarriesOn T has then fed_lines after now new cache_now (Err stop) → taken + count ≤ most → Serves S T had most source next site new (status_of stop)
@@ -181,7 +181,7 @@ module _ {A B : Type 0} {S : Sources A} {T : Sites B} {had has : Option State} {
           }
 
     -- the commands of a piece are carried out
-    pub served_more : {fed_lines after : Reading} {then : Option State} {new : B} {cache_now : Cache} {x : Unit {0}} → Reads [] (take count into) lines fed_lines
+    pub served_more : {fed_lines after : Reading} {then : Option Held} {new : B} {cache_now : Cache} {x : Unit {0}} → Reads [] (take count into) lines fed_lines
         → CarriesOn T has then fed_lines after now new cache_now (Ok x) → taken + count ≤ most → 0 < count → HasServed S T had then cache_now after (taken + count) most source next site new
     served_more {fed_lines} {after} reads is few some = record {
       given = so_far.given ++ is.given;

@@ -9,11 +9,11 @@ use Rattle.plain_machine.specs.Stages.{AfterStop, Carried}
 use Rattle.cube_state.specs.Commands.{CostTogether}
 use Rattle.cube_state.specs.Costs.{Cost, Spends}
 use Rattle.cube_state.specs.Moves.{KeepsFormat, Reached, reached_from}
-use Rattle.cube_state.specs.declared.state.State.{State}
+use Rattle.cube_session.specs.declared.held.Held.{Held}
 use Rattle.cube_session.specs.Session.{StandsFor, reached_for}
 
 -- whatever the end, what a stop may leave and what was spent is of these commands
-pub record IsWithin {S : Type 0} (T : Ghosts S) (had : Option State) (world : World) (commands : List Command) (old new : S) : Type 0 where
+pub record IsWithin {S : Type 0} (T : Ghosts S) (had : Option Held) (world : World) (commands : List Command) (old new : S) : Type 0 where
   pub any_moment : LeavesOnly (T.disk old) (T.disk new) (AfterStop world commands (T.disk old).told)
   pub formats : LeavesOnly (T.disk old) (T.disk new) (KeepsFormat world (reached_for had) commands (T.disk old).told)
   pub cost : (cost : Cost) → CostTogether world (reached_for had) commands cost → Spends T cost old new
@@ -26,7 +26,7 @@ pub record IsLeft {S : Type 0} (T : Ghosts S) (old new : S) (now : World) (reach
   pub writes : T.writes new + left.writes ≤ T.writes old + all.writes
 
 -- a session that had this has that now, and stands for a world from which the commands that are left are to be carried out
-pub record Onward {S : Type 0} (T : Ghosts S) (had has : Option State) (world : World) (commands rest : List Command) (old new : S) : Type 0 where
+pub record Onward {S : Type 0} (T : Ghosts S) (had has : Option Held) (world : World) (commands rest : List Command) (old new : S) : Type 0 where
   pub now : World
   pub stands : StandsFor has (T.disk new) now
   pub carried : Carried world commands (T.disk old).told now rest (T.disk new).told

@@ -3,11 +3,11 @@ use Rattle.std.specs.Prelude.{◌≡◌, ℕ, ◌<◌, List, [], ◌∷◌, ◌+
 use Rattle.site_core.specs.Disk.{Files}
 use Rattle.script_lang.specs.declared.command.Command.{Command}
 use Rattle.cube_state.specs.Commands.{Gives}
-use Rattle.cube_state.specs.declared.state.State.{State}
+use Rattle.cube_session.specs.declared.held.Held.{Held}
 
--- a reply that the command gives, by what a session may have and over some files
+-- a reply that the command gives, by what a session may have, its levels among it, and over some files
 abbrev pub IsReplyTo : Command → List ℕ → Type 0
-IsReplyTo command reply = (state : State) × (files : Files) × Gives state files command reply
+IsReplyTo command reply = (held : Held) × (files : Files) × Gives held.levels held.state files command reply
 
 -- each command has a reply of its own among these bytes, of at least one byte, in order, with nothing between them or behind
 abbrev pub Replied : List Command → List ℕ → Type 0

@@ -6,7 +6,7 @@ use Rattle.site_core.specs.declared.source.Source.{Ghosts as Sources}
 use Rattle.script_lang.specs.Script.{commands}
 use Rattle.plain_machine.specs.World.{World}
 use Rattle.cube_state.specs.Moves.{Reached}
-use Rattle.cube_state.specs.declared.state.State.{State}
+use Rattle.cube_session.specs.declared.held.Held.{Held}
 use Rattle.cube_session.specs.Session.{StandsFor, reached_for}
 use Rattle.cube_run.specs.Ends.{IsUndamaged, StatusCause, faults}
 use Rattle.cube_run.specs.Headline.{CutOff, Finished, LeftOff}
@@ -30,7 +30,7 @@ Outcome now world reached script left most before status =
     ByEnd (Finished now world reached (commands script) before) (LeftOff now world reached script most before) (CutOff now world reached script left before) status
 
 -- a session that had this served a script of at most so many bytes, or something ended it
-pub record Serves {A B : Type 0} (S : Sources A) (T : Sites B) (had : Option State) (most : ℕ) (source source_now : A) (site site_now : B) (status : Status) : Type 0 where
+pub record Serves {A B : Type 0} (S : Sources A) (T : Sites B) (had : Option Held) (most : ℕ) (source source_now : A) (site site_now : B) (status : Status) : Type 0 where
   pub within : IsTrue S.tells → IsTrue T.tells → (world : World) → StandsFor had (T.disk site) world → IsWithin T had world (commands (S.left source)) site site_now
   pub outcome : IsTrue S.tells → IsTrue T.tells → (world : World) → StandsFor had (T.disk site) world
       → Outcome (T.disk site_now) world (reached_for had) (S.left source) (S.left source_now) most (T.disk site).told status

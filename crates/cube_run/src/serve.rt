@@ -23,8 +23,8 @@ pub fn serve<S: Source, T: Site>(
     limit: u64,
 ) -> Result<(), Status>
     requires limit { limit ≤ 2 ^ 30 }
-    requires runs { Runs T.Site site.old session.old.state session.old.pages }
-    ensures { Serves S.Source T.Site session.old.state limit source.old source.new site.old site.new (ended result) }
+    requires runs { Runs T.Site site.old session.old.held session.old.pages }
+    ensures { Serves S.Source T.Site session.old.held limit source.old source.new site.old site.new (ended result) }
 {
     let mut lines = Lines::new(alloc);
     let mut taken = 0;
@@ -46,8 +46,8 @@ pub fn serve<S: Source, T: Site>(
 
 /// Carries out the commands that are whole by now, and emits the reply to each.
 fn carry_out<T: Site>(session: &mut Session, lines: &mut Lines, site: &mut T) -> Result<(), Stop>
-    requires { Runs T.Site site.old session.old.state session.old.pages }
-    ensures { CarriesOn T.Site session.old.state session.new.state lines.old lines.new site.old site.new session.new.pages result }
+    requires { Runs T.Site site.old session.old.held session.old.pages }
+    ensures { CarriesOn T.Site session.old.held session.new.held lines.old lines.new site.old site.new session.new.pages result }
 {
     while let Some(command) = lines.next_command()? {
         session.command(site, command)?;

@@ -8,6 +8,7 @@ use Rattle.cube_session.proofs.Names.{kept_over, CarriesOut, IsReadyFor, Reply, 
 use Rattle.cube_session.proofs.Names.{State, Empty, Idle, Stop, ⊎_elim, subst₂}
 use Rattle.cube_state.proofs.{Known.some_none, Writing.goes_nowhere}
 use Rattle.cube_state.specs.Moves.{reached_by, unmoved}
+use Rattle.cube_state.specs.Visits.{schema_of as schema_of_state}
 
 -- ---- what the call promises
 
@@ -16,6 +17,10 @@ memory_no_disk same = absurd (cc)
 
 vain : {P : Type 0} → (Unit {0} → ⊥) → P
 vain none = absurd (none tt)
+
+-- there is no schema before it
+undeclared : {P : Type 0} (schema : Schema) → schema_of_state Empty ≡ Some schema → P
+undeclared schema is = absurd (cc)
 
 module _ {S : Type 0} (T : Ghosts S) (schema : Schema) (old new : S) where
   pub record Inits (answer : Result Store InitStop) : Type 0 where
@@ -75,7 +80,7 @@ module _ {S : Type 0} (T : Ghosts S) (schema : Schema) (lawful : IsSchema schema
 
   -- it goes to no page
   no_pages : (P : List ℕ → Type 0) (world : World) (numbers : List ℕ) → GoesTo 1 world its numbers → P numbers
-  no_pages P world numbers goes = absurd (goes_nowhere its (λ schema. refl) 1 world numbers goes)
+  no_pages P world numbers goes = absurd (goes_nowhere its (λ schema levels. refl) 1 world numbers goes)
 
   -- and makes a call
   called : (P : Type 0) (world : World) → world.kept ≡ None → (act world its).0.kept ≡ world.kept → P
@@ -83,8 +88,8 @@ module _ {S : Type 0} (T : Ghosts S) (schema : Schema) (lawful : IsSchema schema
 
   -- it stops
   fails : (next : State) (stop : Stop) → IsNoDamage stop → IsQuiet {A = Vec ℕ Global} T old new (Err stop) → CarriesOut T its Empty next old new cache cache (Err stop)
-  fails next stop no_damage quiet = record {
-    by_world = λ t world stands. assumption (no_damage, moment t world stands, spends t world stands, no_pages (λ numbers. Saves cache 2 numbers (T.reads old) (T.reads new)) world);
+  fails next stop no_damage quiet levels = record {
+    by_world = λ t world known stands. assumption (no_damage, moment t world stands, spends t world stands, no_pages (λ numbers. Saves cache 2 numbers (T.reads old) (T.reads new)) world);
     any_files = λ t. search (no_damage, spares_none None (T.disk old).files (T.disk new).files stop no_damage, vain);
     goes_on = search (quiet, vain);
     leaves = search (no_damage, vain, absurd);
@@ -117,12 +122,12 @@ module _ {S : Type 0} (T : Ghosts S) (schema : Schema) (lawful : IsSchema schema
 
     -- it is declared
     declares : (reply : Vec ℕ Global) → reply.items ≡ line declared_text → CarriesOut T its Empty (Idle store) old new cache cache (Ok reply)
-    declares reply text =
+    declares reply text levels =
         let gives : reply.items ≡ (declare (bare None) (Whole bytes)).1 = text ∙ ap (λ (r : Result Schema SchemaRefusal). (declared (bare None) r).1) (sym read) in
         let runs : RunsOn T new (Idle store) = record { running = at.whole; fit = at.opened } in
         let cached : cache ≡ kept_over None (Some store.forest.body) cache = sym (kept_same None (Some store.forest.body) cache at.first) in
         record {
-          by_world = λ t world stands.
+          by_world = λ t world known stands.
               let is : IsAnswer (T.disk new) (act world its) (Idle store) reply.items = record {
                 stands = subst (λ (a : Answer). Stands (Idle store) (T.disk new) a.0) (sym (acts world stands.0.kept)) (empty schema, record { kept = refl; pending = stands.0.pending }, belongs t);
                 said = text ∙ ap (λ (a : Answer). a.1) (sym (acts world stands.0.kept));
@@ -138,7 +143,7 @@ module _ {S : Type 0} (T : Ghosts S) (schema : Schema) (lawful : IsSchema schema
                 no_pages (KeepsUp cache cache 2) world,
               );
           any_files = λ t. search (gives, none_fit (Some store.forest.body) (T.disk new).files cache ((subst (IsReadyFor T old cache) was ready).fits t), vain);
-          goes_on = search (runs, cached, quiet reply, vain);
+          goes_on = search (runs, cached, quiet reply, vain, undeclared);
           leaves = search (gives, vain, absurd);
         }
 

@@ -2,9 +2,13 @@
 use Rattle.cube_session.proofs.Names.{Option, Result, List, sym, subst, ap, Some, ◌∙◌, None, ◌≡◌, ℕ, [], length, refl, Ok, IsTrue, Err, IfErr, ◌≤◌, ◌+◌, ◌^◌, IfSome, IfOk, OnOk, ◌≢◌, IsErrOf}
 use Rattle.cube_session.proofs.Names.{stable_holds, Settles, Stays, HasCauseWhere, Files, CallsOnly, IsStable, Ghosts, Fact, IsSchema, Schema, Keeps, BreaksAt, IsWarehouse, MayBeOpened, NamesPlace}
 use Rattle.cube_session.proofs.Names.{Place, names_pages, OpenStop, NoneRaised, Store, AreAccepted, KeepsFacts, names_text, IsStoreOf, IsWhole, Kept, bare, none_fit, live_of, RunsOn, moves_made}
-use Rattle.cube_session.proofs.Names.{Stands, open_stop, State, Stop, IsOpenUndamaged, TellsOpenBreak}
+use Rattle.cube_session.proofs.Names.{Stands, open_stop, Stop, IsOpenUndamaged, TellsOpenBreak}
 use Rattle.cube_session.specs.Costs.{open_cost}
-use Rattle.cube_session.specs.Session.{Runs, StandsFor, Starts, moves_for, opened_state}
+use Rattle.cube_session.specs.Session.{Runs, StandsFor, Starts, moves_for, opened_held, opened_state}
+use Rattle.cube_session.specs.declared.held.Held.{Held}
+use Rattle.cube_state.specs.Levels.{FitSchema}
+use Rattle.cube_state.specs.Visits.{schema_of}
+use Rattle.roll_up.proofs.Lawful.{fits-none}
 use Rattle.cube_session.specs.declared.session.Session.{Session}
 use Rattle.cube_state.proofs.Known.{some_none}
 use Rattle.forest_root.specs.Live.{IsLiveBody}
@@ -88,18 +92,24 @@ module _ {S : Type 0} (T : Ghosts S) (old new : S) where
       let live = live_root store.forest.schema store.forest.body warehouse.facts (T.disk new).files its.stored.live in
       record { format = store.forest.body.format; has = (store.forest.body, subst (λ (f : Files). IsLiveBody store.forest.body (f 0)) (is.disk t).files live, refl); holds = refl }
 
-  pub starts : (most : ℕ) (found : Option Store) (session : Session) → Opens (Ok found) → session.state ≡ Some (opened_state found) → session.pages.capacity ≡ most → session.pages.kept ≡ []
+  opened_fits : (found : Option Store) → FitSchema (schema_of (opened_state found)) []
+  opened_fits None = refl
+  opened_fits (Some store) = fits-none store.forest.schema [] refl store.forest.lawful
+
+  pub starts : (most : ℕ) (found : Option Store) (session : Session) → Opens (Ok found) → session.held ≡ Some (opened_held found) → session.pages.capacity ≡ most → session.pages.kept ≡ []
       → Starts T most old new (Ok session)
   starts most found session is state capacity empty = record {
-    opened = λ t kept keeps. subst (λ (s : Option State). StandsFor s (T.disk new) (bare kept)) (sym state) (opened_stands found is t kept keeps);
+    opened = λ t kept keeps. subst (λ (h : Option Held). StandsFor h (T.disk new) (bare kept)) (sym state) (record { stands = opened_stands found is t kept keeps; levels = refl });
     undamaged = λ t kept keeps. tt;
     broken = λ t place breaks. absurd (is.broken t place breaks).1;
     damaged = λ t. tt;
     cost = costs (Ok found) is;
-    runs = subst (λ (s : Option State). Runs T new s session.pages) (sym state)
-        (record { runs = opened_runs found is; fits = λ t. none_fit (live_of (opened_state found)) (T.disk new).files session.pages empty });
+    runs = subst (λ (h : Option Held). Runs T new h session.pages) (sym state) (record {
+      ready = record { runs = opened_runs found is; fits = λ t. none_fit (live_of (opened_state found)) (T.disk new).files session.pages empty };
+      fit = opened_fits found;
+    });
     moved = ap moves_for state ∙ opened_moves found;
-    reached = λ t kept keeps. subst (λ (s : Option State). FromFormat (T.disk old).files kept (λ reached. reached_for s ≡ reached)) (sym state) (opened_reached found is t kept keeps);
+    reached = λ t kept keeps. subst (λ (h : Option Held). FromFormat (T.disk old).files kept (λ reached. reached_for h ≡ reached)) (sym state) (opened_reached found is t kept keeps);
     cache = capacity;
     empty = empty;
     disk = λ t. assumption (is.disk t);

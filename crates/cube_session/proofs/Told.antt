@@ -1,9 +1,17 @@
 -- A command that was carried out and its reply told.
 use Rattle.cube_session.proofs.Names.{Vec, Global, List, sym, subst, ap, Some, ◌∙◌, None, ◌≡◌, ℕ, [], ◌++◌, length, take, drop, inr, refl, append-nil, arith, Ok, IsTrue, Err, take-append-drop}
 use Rattle.cube_session.proofs.Names.{goes_on, wider, Emits, RoseOnce, Disk, Files, LeavesOnly, Ghosts, Cache, Keeps, Command, reply_some, act, Meanwhile, World, emits_left, fit_on, stands_on}
-use Rattle.cube_session.proofs.Names.{stands_left, tells_none, Saves, Fits, live_file, live_of, ByWorld, CarriesOut, MayWrite, Costs, Cost, Spends, RunsOn, Between, KeepsEither, Stands, GoesTo}
+use Rattle.cube_session.proofs.Names.{stands_left, tells_none, Saves, Fits, live_file, live_of, ByWorld, MayWrite, Costs, Cost, Spends, RunsOn, Between, KeepsEither, Stands, GoesTo}
 use Rattle.cube_session.proofs.Names.{State, Stop}
-use Rattle.cube_session.specs.Session.{Answers}
+use Rattle.cube_session.specs.Session.{Answers, IsGoing, StandsAs}
+use Rattle.cube_session.specs.declared.held.Held.{Held}
+use Rattle.cube_state.specs.Carried.{CarriesOutWith}
+use Rattle.cube_state.specs.Levels.{FitSchema}
+use Rattle.cube_state.specs.Visits.{schema_of}
+use Rattle.cube_state.proofs.Levels.{fit_behind, schema_stands}
+use Rattle.plain_machine.proofs.Levels.{act_levels}
+use Rattle.plain_machine.specs.Machine.{levels_behind}
+use Rattle.roll_up.specs.declared.level.Level.{Level}
 use Rattle.cube_state.specs.Moves.{KeepsFormat, Reached, format_of, format_told, reached_behind, reached_by}
 use Rattle.cube_state.proofs.Moves.{format_past, format_untold, format_within, reached_more, stands_known}
 use Rattle.cube_state.proofs.Standing.{stands_from}
@@ -83,19 +91,28 @@ module _ (world : World) (command : Command) (state : State) (old mid : Disk) (r
 
 -- ---- the command
 
-module _ {S : Type 0} (T : Ghosts S) (command : Command) (state next : State) (old mid : S) (before after : Cache) where
+module _ {S : Type 0} (T : Ghosts S) (command : Command) (held then : Held) (old mid : S) (before after : Cache) where
+  abbrev state : State
+  state = held.state
+
+  abbrev next : State
+  next = then.state
+
+  abbrev levels : List Level
+  levels = held.levels
+
   -- a stop is handed on
-  pub stopped : (stop : Stop) → CarriesOut T command state next old mid before after (Err stop) → Answers T command state None old mid before after (Err stop)
+  pub stopped : (stop : Stop) → CarriesOutWith T levels command state next old mid before after (Err stop) → Answers T command held None old mid before after (Err stop)
   stopped stop is = record {
     by_world = λ t world stands.
-        let known = is.by_world t world stands in
+        let known = is.by_world t world stands.levels stands.stands in
         assumption (known, untold world command state (T.disk old) (T.disk mid) known.any_moment, untold_formats world command state (T.disk old) (T.disk mid) known.any_moment);
     any_files = λ t. assumption (is.any_files t, λ (none : MayWrite command → ⊥). ((is.any_files t).looks none).files);
     goes_on = assumption is.goes_on;
   }
 
   -- a reply is told, or a part of it
-  module _ (new : S) (reply : Vec ℕ Global) (bytes : List ℕ) (same : bytes ≡ reply.items) (is : CarriesOut T command state next old mid before after (Ok reply))
+  module _ (new : S) (reply : Vec ℕ Global) (bytes : List ℕ) (same : bytes ≡ reply.items) (is : CarriesOutWith T levels command state next old mid before after (Ok reply))
       (emits : IsTrue T.tells → Emits bytes (T.disk mid) (T.disk new)) (disk_faults : T.disk_faults new ≡ T.disk_faults mid)
       (reads : T.reads new ≡ T.reads mid) (writes : T.writes new ≡ T.writes mid) where
     spends_on : (cost : Cost) → Spends T cost old mid → Spends T cost old new
@@ -107,16 +124,16 @@ module _ {S : Type 0} (T : Ghosts S) (command : Command) (state next : State) (o
     looks_on : IsTrue T.tells → (MayWrite command → ⊥) → (T.disk new).files ≡ (T.disk old).files
     looks_on t none = (emits t).files ∙ ((is.any_files t).looks none).files
 
-    module _ (t : IsTrue T.tells) (world : World) (stands : Stands state (T.disk old) world) where
+    module _ (t : IsTrue T.tells) (world : World) (stands : StandsAs held (T.disk old) world) where
       known : ByWorld T command world state next old mid before after (Ok reply)
-      known = is.by_world t world stands
+      known = is.by_world t world stands.levels stands.stands
 
       moment : LeavesOnly (T.disk old) (T.disk new) (Meanwhile world command (T.disk old).told)
       moment = telling world command state (T.disk old) (T.disk mid) known.any_moment (T.disk new) next bytes (is.goes_on.quiet.told t) known.answer.stands (same ∙ known.answer.said) (emits t)
 
       formats : (rest : List Command) → LeavesOnly (T.disk old) (T.disk new) (KeepsFormat world (reached_by state) (command ∷ rest) (T.disk old).told)
       formats = telling_formats world command state (T.disk old) (T.disk mid) known.any_moment (T.disk new) next bytes (is.goes_on.quiet.told t) known.answer.stands (same ∙ known.answer.said) (emits t)
-          (stands_known state (T.disk old) world stands) known.moved
+          (stands_known state (T.disk old) world stands.stands) known.moved
 
       costs : (cost : Cost) → Costs world (reached_by state) command cost → Spends T cost old new
       costs cost its = spends_on cost (known.cost cost its)
@@ -127,14 +144,17 @@ module _ {S : Type 0} (T : Ghosts S) (command : Command) (state next : State) (o
     told_on : IsTrue T.tells → (T.disk new).told ≡ (T.disk mid).told ++ bytes → (T.disk new).told ≡ (T.disk old).told ++ reply.items
     told_on t told = told ∙ ap (λ (l : List ℕ). l ++ bytes) (is.goes_on.quiet.told t) ∙ ap (λ (l : List ℕ). (T.disk old).told ++ l) same
 
-    pub answered : (told : IsTrue T.tells → (T.disk new).told ≡ (T.disk mid).told ++ bytes) (told_faults : T.told_faults new ≡ T.told_faults mid)
-        → Answers T command state (Some next) old new before after (Ok tt)
-    answered told told_faults = record {
+    pub answered : (told : IsTrue T.tells → (T.disk new).told ≡ (T.disk mid).told ++ bytes) (told_faults : T.told_faults new ≡ T.told_faults mid) (fit : FitSchema (schema_of state) levels)
+        (leveled : then.levels ≡ levels_behind (schema_of state) levels command) → Answers T command held (Some then) old new before after (Ok tt)
+    answered told told_faults fit leveled = record {
       by_world = λ t world stands.
           let its = known t world stands in
+          let stand = stands_on (T.disk mid) (T.disk new) (emits t).files (emits_left bytes (T.disk mid) (T.disk new) (emits t)) next (act world command).0 its.answer.stands in
+          let same = act_levels world command ∙ ((λ i. levels_behind (schema_stands state (T.disk old) world stands.stands i) (stands.levels i) command) ∙ sym leveled) in
+          let stood : StandsAs then (T.disk new) (act world command).0 = record { stands = stand; levels = same } in
           assumption (
             its,
-            stands_on (T.disk mid) (T.disk new) (emits t).files (emits_left bytes (T.disk mid) (T.disk new) (emits t)) next (act world command).0 its.answer.stands,
+            stood,
             told_on t (told t) ∙ ap (λ (l : List ℕ). (T.disk old).told ++ l) its.answer.said,
             moment t world stands,
             formats t world stands,
@@ -143,19 +163,23 @@ module _ {S : Type 0} (T : Ghosts S) (command : Command) (state next : State) (o
           );
       any_files = λ t. record { damage = tt; answered = record { reply = reply.items; told = told_on t (told t); right = (is.any_files t).answered }; spared = tt; looks = looks_on t };
       goes_on =
-          let runs : RunsOn T new next = record {
+          let running : RunsOn T new next = record {
             running = is.goes_on.runs.running;
             fit = λ t. fit_on (T.disk mid) (T.disk new) (emits t).files (emits_left bytes (T.disk mid) (T.disk new) (emits t)) next (is.goes_on.runs.fit t);
           } in
           let fits : IsTrue T.tells → Fits next (T.disk new).files after = λ t. subst (λ (files : Files). Fits next files after) (sym (emits t).files) (is.any_files t).fits in
-          assumption (is.goes_on, runs, fits, unwritten_on, disk_faults ∙ is.goes_on.quiet.disk_faults, told_faults ∙ is.goes_on.quiet.told_faults);
+          let going : IsGoing T new after then = record {
+            ready = record { runs = running; fits = fits };
+            fit = subst (FitSchema (schema_of next)) (sym leveled) (fit_behind state next levels command is.goes_on.schema fit);
+          } in
+          assumption (is.goes_on, going, leveled, unwritten_on, disk_faults ∙ is.goes_on.quiet.disk_faults, told_faults ∙ is.goes_on.quiet.told_faults);
     }
 
     -- the output failed
-    pub unheard : RoseOnce (T.told_faults mid) (T.told_faults new) → Answers T command state None old new before after (Err Stop.Output)
+    pub unheard : RoseOnce (T.told_faults mid) (T.told_faults new) → Answers T command held None old new before after (Err Stop.Output)
     unheard rose = record {
       by_world = λ t world stands. assumption (moment t world stands, formats t world stands, costs t world stands, saves t world stands);
-      any_files = λ t. assumption (tells_none state (T.disk old).files command Stop.Output tt, looks_on t);
+      any_files = λ t. assumption (tells_none levels state (T.disk old).files command Stop.Output tt, looks_on t);
       goes_on = assumption (
         is.goes_on,
         unwritten_on,

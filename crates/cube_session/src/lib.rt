@@ -3,7 +3,9 @@
 
 mod answering;
 mod declaring;
+mod held;
 mod machine;
 mod session;
 
+pub use held::Held;
 pub use session::Session;

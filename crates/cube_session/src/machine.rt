@@ -1,11 +1,16 @@
 //! Commands are carried out over the files, up to their replies, which are not told yet.
-ghost use Rattle.cube_state.specs.Carried.{CarriesOut, IsReadyFor};
+ghost use Rattle.std.specs.Prelude.{◌≡◌, OnOk};
+ghost use Rattle.plain_machine.specs.Machine.{levels_behind};
+ghost use Rattle.cube_state.specs.Carried.{CarriesOutWith, IsReadyFor};
+ghost use Rattle.cube_state.specs.Levels.{FitSchema};
+ghost use Rattle.cube_state.specs.Visits.{schema_of};
 
 use crate::answering::{plain, status};
 use crate::declaring::declare;
+use crate::held::Held;
 use cube_batches::{abandon, begin, finish, load, step, upgrade};
-use cube_slices::{explain, slice, sql};
-use cube_state::{State, Stop};
+use cube_slices::{explain, level, rollup, slice, sql};
+use cube_state::Stop;
 use page_cache::Pages;
 use plain_machine::BatchSource;
 use script_lang::Command;
@@ -17,13 +22,16 @@ use std::alloc::Global;
 pub fn act<T: Site>(
     alloc: Global,
     pages: &mut Pages,
-    state: &mut State,
+    held: &mut Held,
     command: Command,
     site: &mut T,
 ) -> Result<Vec<u8>, Stop>
-    requires ready { IsReadyFor T.Site site.old pages.old state.old }
-    ensures carried { CarriesOut T.Site command state.old state.new site.old site.new pages.old pages.new result }
+    requires ready { IsReadyFor T.Site site.old pages.old held.old.state }
+    requires fit { FitSchema (schema_of held.old.state) held.old.levels }
+    ensures carried { CarriesOutWith T.Site held.old.levels command held.old.state held.new.state site.old site.new pages.old pages.new result }
+    ensures leveled { OnOk result (held.new.levels ≡ levels_behind (schema_of held.old.state) held.old.levels command) }
 {
+    let state = &mut held.state;
     match command {
         Command::Schema(block) => declare(alloc, state, block, site),
         Command::Load(block) => load(alloc, pages, state, BatchSource::Rows(block), site),
@@ -38,6 +46,10 @@ pub fn act<T: Site>(
         Command::Slice(text) => slice(alloc, pages, state, text.as_bytes(), site),
         Command::Explain(text) => explain(alloc, state, text.as_bytes()),
         Command::Sql(text) => sql(alloc, pages, state, text.as_bytes(), site),
+        Command::Level { name, attr, block } => {
+            level(alloc, state, &mut held.levels, &name, &attr, &block)
+        }
+        Command::Rollup(text) => rollup(alloc, pages, state, &held.levels, text.as_bytes(), site),
         Command::Status => status(alloc, state),
         Command::Begin(block) => begin(alloc, state, block, site),
         Command::Step(moves) => step(alloc, state, moves, site),

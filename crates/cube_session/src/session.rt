@@ -1,12 +1,14 @@
 //! A session: the files are opened, and each command is carried out and its reply emitted.
 ghost use Rattle.std.specs.Prelude.{◌≡◌, ◌↔◌, IsTrue, IfSome, None};
-ghost use Rattle.cube_state.specs.Carried.{IsReadyFor};
-ghost use Rattle.cube_session.specs.Session.{Answers, Runs, Starts, moves_for, opened_state, unless_stopped};
+ghost use Rattle.cube_state.specs.Moves.{moves_made};
+ghost use Rattle.cube_session.specs.Session.{Answers, IsGoing, Runs, Starts, moves_for, opened_held, unless_stopped};
 
+use crate::held::Held;
 use crate::machine::act;
 use cube_state::{State, Stop};
 use forest_root::Store;
 use page_cache::Pages;
+use roll_up::LevelList;
 use script_lang::Command;
 use site_core::{Fault, Site};
 use std::alloc::Global;
@@ -18,7 +20,7 @@ pub struct Session {
     /// The pages that are kept between slices.
     pub pages: Pages,
     /// What it has, and nothing once it has stopped.
-    pub state: Option<State>,
+    pub held: Option<Held>,
 }
 
 impl Session {
@@ -34,7 +36,7 @@ impl Session {
             Ok(found) => Ok(Session {
                 alloc,
                 pages,
-                state: Some(opened(found)),
+                held: Some(opened(alloc, found)),
             }),
             Err(stop) => Err(Stop::from(stop)),
         }
@@ -42,18 +44,18 @@ impl Session {
 
     /// Whether a command has answered a `Stop`.
     pub fn stopped(&self) -> bool
-        ensures { IsTrue result ↔ (self.now.state ≡ None) }
+        ensures { IsTrue result ↔ (self.now.held ≡ None) }
     {
-        self.state.is_none()
+        self.held.is_none()
     }
 
     /// How many moves of the pending batch were made: 0 where none is pending, behind its `begin`, and once the session has stopped.
     pub fn moves(&self) -> u64
-        ensures { result ≡ moves_for self.now.state }
+        ensures { result ≡ moves_for self.now.held }
     {
-        match &self.state {
-            Some(State::Pending(refresh)) => refresh.taken(),
-            _ => 0,
+        match &self.held {
+            Some(held) => moves_of(&held.state),
+            None => 0,
         }
     }
 
@@ -61,27 +63,41 @@ impl Session {
     /// is. Pages that slices read are kept, up to the capacity, until a batch is committed. After an error the session has stopped; the
     /// files keep what was known before the command or what is known behind it, and damage leaves the names and the live side as they were.
     pub fn command<T: Site>(&mut self, site: &mut T, command: Command) -> Result<(), Stop>
-        requires { Runs T.Site site.old self.old.state self.old.pages }
-        ensures answers { IfSome self.old.state (λ state. Answers T.Site command state self.new.state site.old site.new self.old.pages self.new.pages result) }
+        requires { Runs T.Site site.old self.old.held self.old.pages }
+        ensures answers { IfSome self.old.held (λ held. Answers T.Site command held self.new.held site.old site.new self.old.pages self.new.pages result) }
     {
-        let Some(state) = &mut self.state else {
+        let Some(held) = &mut self.held else {
             unreachable!()
         };
-        let answered = answer(self.alloc, &mut self.pages, state, command, site);
+        let answered = answer(self.alloc, &mut self.pages, held, command, site);
         if answered.is_err() {
-            self.state = None;
+            self.held = None;
         }
         answered
     }
 }
 
 /// What a session has of files that were opened.
-fn opened(found: Option<Store>) -> State
-    ensures { result ≡ opened_state found }
+fn opened(alloc: Global, found: Option<Store>) -> Held
+    ensures { result ≡ opened_held found }
 {
-    match found {
+    let state = match found {
         Some(store) => State::Idle(store),
         None => State::Empty,
+    };
+    Held {
+        state,
+        levels: LevelList::new(alloc),
+    }
+}
+
+/// How many moves of the pending batch were made.
+fn moves_of(state: &State) -> u64
+    ensures { result ≡ moves_made state.now }
+{
+    match state {
+        State::Pending(refresh) => refresh.taken(),
+        _ => 0,
     }
 }
 
@@ -89,14 +105,14 @@ fn opened(found: Option<Store>) -> State
 fn answer<T: Site>(
     alloc: Global,
     pages: &mut Pages,
-    state: &mut State,
+    held: &mut Held,
     command: Command,
     site: &mut T,
 ) -> Result<(), Stop>
-    requires ready { IsReadyFor T.Site site.old pages.old state.old }
-    ensures answers { Answers T.Site command state.old (unless_stopped state.new result) site.old site.new pages.old pages.new result }
+    requires { IsGoing T.Site site.old pages.old held.old }
+    ensures answers { Answers T.Site command held.old (unless_stopped held.new result) site.old site.new pages.old pages.new result }
 {
-    match act(alloc, pages, state, command, site) {
+    match act(alloc, pages, held, command, site) {
         Ok(reply) => match site.emit(&reply) {
             Ok(()) => Ok(()),
             Err(Fault) => Err(Stop::Output),

@@ -1,6 +1,5 @@
 -- The rows of accepted facts add up.
-use Rattle.std.proofs.Common.{◌≡◌, ◌<◌, ℕ, true, List, arith}
-use Rattle.std.specs.List.{All}
+use Rattle.std.proofs.Common.{◌≡◌, ◌<◌, true, List, arith}
 use Rattle.std.proofs.lemmas.Bool.Decides.{nat_tests}
 use Rattle.cube_schema.specs.Kinds.{measure_count}
 use Rattle.cube_schema.specs.Lawful.{IsSchema}

@@ -1,20 +1,20 @@
 -- A command that is answered from the pages of a slice, or only answers.
-use Rattle.cube_slices.proofs.Names.{RepliesAlone, no_schema, SideStays, Vec, Global, Agrees, LiesIn, GivesFound, StopCause, Option, Result, List, sym, subst, ap, Some, ◌∙◌, None, ◌≡◌, ℕ, length}
-use Rattle.cube_slices.proofs.Names.{inr, refl, arith, Bool, true, false, cond, inl, true≢false, Ok, IsTrue, Err, IfErr, ◌≤◌, ◌+◌, IfOk, OnOk, cases_Bool, IfOk-weaker, ◌↔◌, IsErrOf, HasCauseWhere}
-use Rattle.cube_slices.proofs.Names.{Disk, Files, Looks, Ghosts, rows, Fact, Row, Slice, Schema, IsPicked, covers, Cache, HasRoom, Keeps, Body, Store, side_of, IsStoreOf, Command, same-cost, IsJudged}
-use Rattle.cube_slices.proofs.Names.{IsUncovered, visits_of, AnswerStop, slice_of, SliceRefusal, answer_text, line, not_covered, act_slice, Answer, act, asked_by, asked_over, asked_slice}
-use Rattle.cube_slices.proofs.Names.{slice_over, slice_reply, covered, is_covered, Kept, Warehouse, World, OnlyNow, fit_rests, resting, stands_rests, holds, kept_same, OnlySays, runs_out_as}
-use Rattle.cube_slices.proofs.Names.{only_replies, attends_belongs, spares_same, AreLive, KeepsUp, Saves, Fits, FitsLive, live_file, live_of, ByWorld, CarriesOut, IsReadyFor, OverAnyFiles, Reply}
-use Rattle.cube_slices.proofs.Names.{Spares, Gives, Cost, Spends, IsQuiet, Belongs, Stands, IsAnswer, GivesRead, TellsSpoilt, SliceGives, SliceTells, IsNoDamage, GoesFrom, GoesOver, GoesTo}
-use Rattle.cube_slices.proofs.Names.{ReadsFor, ReadsFrom, asked_from, asks_pages, is_asked, store_of, State, Empty, Idle, Hollow, Pending, Stop, subst₂, IsUndamaged}
-use Rattle.cube_state.proofs.SliceCosts.{none-covers, picked-one, some-covers}
+use Rattle.cube_slices.proofs.Names.{RepliesAlone, SideStays, Vec, Global, Agrees, StopCause, Option, Result, List, sym, subst, ap, Some, ◌∙◌, None, ◌≡◌, ℕ, length}
+use Rattle.cube_slices.proofs.Names.{refl, arith, true, false, cond, true≢false, Ok, IsTrue, Err, IfErr, ◌≤◌, ◌+◌, IfOk, OnOk, IfOk-weaker, IsErrOf}
+use Rattle.cube_slices.proofs.Names.{Disk, Files, Ghosts, Fact, Row, Slice, Schema, IsPicked, Cache, Body, Store, side_of, IsStoreOf, Command, same-cost}
+use Rattle.cube_slices.proofs.Names.{visits_of, AnswerStop, act, asked_by, asked_over, asked_slice}
+use Rattle.cube_slices.proofs.Names.{is_covered, Kept, Warehouse, World, OnlyNow, fit_rests, resting, stands_rests, holds, kept_same}
+use Rattle.cube_slices.proofs.Names.{attends_belongs, spares_same, AreLive, KeepsUp, Saves, Fits, FitsLive, live_file, live_of, ByWorld, CarriesOutWith, Level, OnlySaysWith, says_just, IsReadyFor, OverAnyFiles, Reply}
+use Rattle.cube_slices.proofs.Names.{Spares, Gives, Cost, Spends, IsQuiet, Belongs, Stands, IsAnswer, IsNoDamage, GoesFrom, GoesOver, GoesTo}
+use Rattle.cube_slices.proofs.Names.{ReadsFor, ReadsFrom, asked_from, asks_pages, is_asked, store_of, State, Empty, Idle, Hollow, Pending, Stop, subst₂}
+use Rattle.cube_state.proofs.SliceCosts.{picked-one, some-covers}
 use Rattle.slice_exec.specs.Answering.{AnswersFrom}
 use Rattle.slice_exec.specs.Searching.{SearchesView}
 use Rattle.cube_state.specs.Moves.{format_in, format_of}
 use Rattle.cube_slices.specs.Told.{answer_stop}
 use Rattle.cube_state.proofs.Told.{tells_none}
 use Rattle.cube_state.specs.Slices.{IsSpoiltAt}
-use Rattle.cube_state.specs.Carried.{Does, DoesNot, Effect, IsStep, LeavesLive, MayWrite, TellsNone, asks as asks_effect, effect_of, made_alone}
+use Rattle.cube_state.specs.Carried.{Does, DoesNot, Effect, IsStep, MayWrite, TellsNone, asks as asks_effect, effect_of, made_alone}
 use Rattle.cube_state.specs.Commands.{Costs, MakesNoCall, TellsDamage}
 use Rattle.cube_state.specs.Moves.{Reached, moves_made, reached_behind, reached_by}
 
@@ -26,33 +26,35 @@ none_some is = cc
 
 -- ---- the store that a session has
 
--- the store is that of the facts which the world keeps
-pub record IsKept (store : Store) (disk : Disk) (world : World) : Type 0 where
+-- the store is that of the facts which the world keeps, and these are its levels
+pub record IsKept (levels : List Level) (store : Store) (disk : Disk) (world : World) : Type 0 where
   pub facts : List Fact
   pub last : ℕ
   pub kept : world.kept ≡ Some (record { schema = store.forest.schema; facts = facts; last = last })
   pub stored : IsStoreOf store facts disk.files
+  pub leveled : world.levels ≡ levels
 
-abbrev pub KeptBy : Option Store → Disk → World → Type 0
-KeptBy None disk world = world.kept ≡ None
-KeptBy (Some store) disk world = IsKept store disk world
+abbrev pub KeptBy : List Level → Option Store → Disk → World → Type 0
+KeptBy levels None disk world = world.kept ≡ None
+KeptBy levels (Some store) disk world = IsKept levels store disk world
 
-kept_by : (store : Store) (disk : Disk) (world : World) (warehouse : Warehouse) → world.kept ≡ Some warehouse → Belongs store disk warehouse → IsKept store disk world
+kept_by : (store : Store) (disk : Disk) (world : World) (warehouse : Warehouse) → world.kept ≡ Some warehouse → Belongs store disk warehouse → IsKept world.levels store disk world
 kept_by store disk world warehouse kept is = record {
   facts = warehouse.facts;
   last = warehouse.last;
   kept = kept ∙ ap (λ (schema : Schema). Some (record warehouse { schema = schema })) (sym is.schema);
   stored = is.stored.read;
+  leveled = refl;
 }
 
-kept_as : (state : State) (disk : Disk) (world : World) → Stands state disk world → KeptBy (store_of state) disk world
+kept_as : (state : State) (disk : Disk) (world : World) → Stands state disk world → KeptBy world.levels (store_of state) disk world
 kept_as Empty disk world is = is.0.kept
 kept_as (Idle store) disk world is = kept_by store disk world is.0 is.1.kept is.2
 kept_as (Hollow store) disk world is = kept_by store disk world is.0 is.1.kept is.2
 kept_as (Pending r) disk world is = kept_by r.store disk world is.0 is.2.kept (attends_belongs r disk is.0 is.1 is.3.attends)
 
-pub kept_over : (state : State) (k : Option Store) (disk : Disk) (world : World) → store_of state ≡ k → Stands state disk world → KeptBy k disk world
-kept_over state k disk world has stands = subst (λ (o : Option Store). KeptBy o disk world) has (kept_as state disk world stands)
+pub kept_over : (levels : List Level) (state : State) (k : Option Store) (disk : Disk) (world : World) → world.levels ≡ levels → store_of state ≡ k → Stands state disk world → KeptBy levels k disk world
+kept_over levels state k disk world known has stands = subst₂ (λ (ls : List Level) (o : Option Store). KeptBy ls o disk world) known has (kept_as state disk world stands)
 
 pub live_as : (state : State) (store : Store) → store_of state ≡ Some store → live_of state ≡ Some store.forest.body
 live_as Empty store has = absurd (none_some has)
@@ -98,16 +100,16 @@ goes_nowhere : (format : ℕ) (kept : Kept) (numbers : List ℕ) → GoesFrom fo
 goes_nowhere format None numbers goes = goes
 goes_nowhere format (Some warehouse) numbers goes = goes
 
-module _ {S : Type 0} (T : Ghosts S) (site : S) (state : State) (its : Command) (asking : IsAsking its) (reply : List ℕ) where
-  pub only_says : (k : Option Store) → store_of state ≡ k → ((world : World) → KeptBy k (T.disk site) world → ((act world its).1 ≡ reply) × (asked_slice world its ≡ None))
-      → ((files : Files) → Gives state files its reply) → OnlySays T its state site reply
+module _ {S : Type 0} (T : Ghosts S) (levels : List Level) (site : S) (state : State) (its : Command) (asking : IsAsking its) (reply : List ℕ) where
+  pub only_says : (k : Option Store) → store_of state ≡ k → ((world : World) → KeptBy levels k (T.disk site) world → ((act world its).1 ≡ reply) × (asked_slice world its ≡ None))
+      → ((files : Files) → Gives levels state files its reply) → OnlySaysWith T levels its state site reply
   only_says k has over gives =
-      let known : (world : World) → Stands state (T.disk site) world → ((act world its).1 ≡ reply) × (asked_slice world its ≡ None)
-      = λ world stands. over world (kept_over state k (T.disk site) world has stands) in
+      let its_world : (world : World) → world.levels ≡ levels → Stands state (T.disk site) world → ((act world its).1 ≡ reply) × (asked_slice world its ≡ None)
+      = λ world known stands. over world (kept_over levels state k (T.disk site) world known has stands) in
       record {
-        acts = λ t world stands. λ i. (asking.stays world i, (known world stands).0 i);
+        acts = λ t world known stands. says_just world reply (act world its) (λ i. (asking.stays world i, (its_world world known stands).0 i));
         moves = λ t world stands. asking.behind world (reached_by state);
-        goes = λ t world stands numbers goes. goes_nowhere (format_of state) world.kept numbers (subst (λ (a : Option Slice). GoesFrom (format_of state) world.kept a numbers) (known world stands).1 goes);
+        goes = λ t world known stands numbers goes. goes_nowhere (format_of state) world.kept numbers (subst (λ (a : Option Slice). GoesFrom (format_of state) world.kept a numbers) (its_world world known stands).1 goes);
         gives = gives;
         alone = λ none. made_same its asking (moves_made state);
       }
@@ -135,12 +137,12 @@ module _ {S : Type 0} (T : Ghosts S) (old new : S) (store : Store) (before after
   Answers answer = AnswersFrom T (λ counts view. IsPicked store.forest.schema.views counts s view) store s old new before after answer
 
   -- what is told of it, where some view covers the slice
-  pub record Ends (state : State) (its : Command) (result : Reply) : Type 0 where
-    pub replied : Known ((world : World) → IsKept store (T.disk old) world → IfOk result (λ reply. reply.items ≡ (act world its).1))
+  pub record Ends (levels : List Level) (state : State) (its : Command) (result : Reply) : Type 0 where
+    pub replied : Known ((world : World) → IsKept levels store (T.disk old) world → IfOk result (λ reply. reply.items ≡ (act world its).1))
     pub undamaged : Stored (λ facts. IfErr result IsNoDamage)
     pub keeps : Visited (λ numbers. OnOk result (KeepsUp before after (side_of store.forest.body) numbers))
-    pub damage : Known (IfErr result (TellsDamage state (T.disk old).files its))
-    pub answered : Known (IfOk result (λ reply. Gives state (T.disk old).files its reply.items))
+    pub damage : Known (IfErr result (TellsDamage levels state (T.disk old).files its))
+    pub answered : Known (IfOk result (λ reply. Gives levels state (T.disk old).files its reply.items))
     pub quiet : IsQuiet T old new result
 
   -- some view does
@@ -155,9 +157,9 @@ module _ {S : Type 0} (T : Ghosts S) (old new : S) (store : Store) (before after
     pub not_uncovered : Answers (Err AnswerStop.NotCovered) → ⊥
     not_uncovered is = let some = some-covers store.forest.schema s covers in is.uncovered.0 refl some.0 some.1
 
-    module _ (state : State) (its : Command) where
+    module _ (levels : List Level) (state : State) (its : Command) where
       stops_by : (answer : Result (List Row) AnswerStop) → Answers answer → (stop : Stop) → StopCause (T.disk_faults old) (T.disk_faults new) (T.told_faults old) (T.told_faults new) stop
-          → Stored (λ facts. IsNoDamage stop) → Known (TellsDamage state (T.disk old).files its stop) → Ends state its (Err stop)
+          → Stored (λ facts. IsNoDamage stop) → Known (TellsDamage levels state (T.disk old).files its stop) → Ends levels state its (Err stop)
       stops_by answer is stop cause undamaged damage =
           let looks = (searched answer is).tree.looks in
           record {
@@ -170,19 +172,19 @@ module _ {S : Type 0} (T : Ghosts S) (old new : S) (store : Store) (before after
           }
 
       -- a stop that names no damage
-      harmless : (stop : Stop) → IsNoDamage stop → Known (TellsDamage state (T.disk old).files its stop)
-      harmless stop none t agree = tells_none state (T.disk old).files its stop none
+      harmless : (stop : Stop) → IsNoDamage stop → Known (TellsDamage levels state (T.disk old).files its stop)
+      harmless stop none t agree = tells_none levels state (T.disk old).files its stop none
 
       -- rows were found, and then it stops
       pub stops_behind : (found : List Row) → Answers (Ok found) → (stop : Stop) → ((faults output : ℕ) → StopCause faults faults output output stop)
-          → Stored (λ facts. IsNoDamage stop) → Known (TellsDamage state (T.disk old).files its stop) → Ends state its (Err stop)
+          → Stored (λ facts. IsNoDamage stop) → Known (TellsDamage levels state (T.disk old).files its stop) → Ends levels state its (Err stop)
       stops_behind found is stop cause undamaged damage =
           let looks = (searched (Ok found) is).tree.looks in
           stops_by (Ok found) is stop (subst₂ (λ disk told. StopCause (T.disk_faults old) disk (T.told_faults old) told stop) (sym looks.cause.ok) (sym looks.told_faults) (cause (T.disk_faults old) (T.told_faults old))) undamaged damage
 
       -- no rows were found; `spoils` tells what damage of the slice is for the command
-      pub stop_ends : ((file offset : ℕ) → IsSpoiltAt store (T.disk old).files (Some s) file offset → TellsDamage state (T.disk old).files its (Stop.Damaged file offset))
-          → (answer : Result (List Row) AnswerStop) → Answers answer → Ends state its (Err (answer_stop answer))
+      pub stop_ends : ((file offset : ℕ) → IsSpoiltAt store (T.disk old).files (Some s) file offset → TellsDamage levels state (T.disk old).files its (Stop.Damaged file offset))
+          → (answer : Result (List Row) AnswerStop) → Answers answer → Ends levels state its (Err (answer_stop answer))
       stop_ends spoils (Ok found) is = stops_behind found is Stop.Memory (λ faults output. (refl, refl)) (λ t agree facts stored. tt) (harmless Stop.Memory tt)
       stop_ends spoils (Err AnswerStop.NotCovered) is = absurd (not_uncovered is)
       stop_ends spoils (Err AnswerStop.Disk) is =
@@ -197,8 +199,8 @@ module _ {S : Type 0} (T : Ghosts S) (old new : S) (store : Store) (before after
           stops_by (Err AnswerStop.Memory) is Stop.Memory (looks.cause.other memory_no_fault, looks.told_faults) (λ t agree facts stored. tt) (harmless Stop.Memory tt)
 
       -- rows were found, and a reply is made of them
-      pub replies_behind : (found : List Row) → Answers (Ok found) → (reply : Vec ℕ Global) → Known ((world : World) → IsKept store (T.disk old) world → reply.items ≡ (act world its).1)
-          → Known (Gives state (T.disk old).files its reply.items) → Ends state its (Ok reply)
+      pub replies_behind : (found : List Row) → Answers (Ok found) → (reply : Vec ℕ Global) → Known ((world : World) → IsKept levels store (T.disk old) world → reply.items ≡ (act world its).1)
+          → Known (Gives levels state (T.disk old).files its reply.items) → Ends levels state its (Ok reply)
       replies_behind found is reply replied answered =
           let looks = (searched (Ok found) is).tree.looks in
           record {
@@ -219,23 +221,23 @@ module _ {S : Type 0} (T : Ghosts S) (old new : S) (state : State) (store : Stor
   fitting : IsTrue T.tells → AreLive store.forest.body (T.disk old).files before
   fitting t = subst (λ (b : Option Body). FitsLive b (T.disk old).files before) live (ready.fits t)
 
-  module _ (covers : is_covered store.forest.schema s ≡ true) (asked : asked_by store.forest.schema its ≡ Some s) (ends : Ends T old new store before after s state its result) where
+  module _ (covers : is_covered store.forest.schema s ≡ true) (levels : List Level) (asked : asked_by store.forest.schema levels its ≡ Some s) (ends : Ends T old new store before after s levels state its result) where
     found : SearchesView T store s (picked T old new store before after s covers).0 old new before after answer
     found = searched T old new store before after s covers answer is
 
     fits : IsTrue T.tells → Fits state (T.disk new).files after
     fits t = subst (λ (b : Option Body). FitsLive b (T.disk new).files after) (sym live) (record { lie = found.tree.lies (fitting t).lie; agree = found.tree.agrees t (fitting t).agree })
 
-    asks : asks_pages state its ≡ false → after ≡ before
-    asks none = absurd (true≢false (sym (ap (λ (k : Option Store). is_asked (asked_from k its)) has ∙ ap is_asked asked) ∙ none))
+    asks : asks_pages levels state its ≡ false → after ≡ before
+    asks none = absurd (true≢false (sym (ap (λ (k : Option Store). is_asked (asked_from levels k its)) has ∙ ap is_asked asked) ∙ none))
 
     -- what is spent, saved and kept over the pages that it goes to
     abbrev Pages : Option Body → List ℕ → Type 0
     Pages body numbers = (T.reads new ≤ T.reads old + length numbers) × Saves before (live_file body) numbers (T.reads old) (T.reads new) × OnOk result (KeepsUp before after (live_file body) numbers)
 
-    module _ (t : IsTrue T.tells) (world : World) (kept : IsKept store (T.disk old) world) where
+    module _ (t : IsTrue T.tells) (world : World) (kept : IsKept levels store (T.disk old) world) where
       asks_slice : asked_slice world its ≡ Some s
-      asks_slice = ap (λ (k : Kept). asked_over k its) kept.kept ∙ asked
+      asks_slice = (λ i. asked_over (kept.kept i) (kept.leveled i) its) ∙ asked
 
       pages_over : (numbers : List ℕ) → GoesOver store.forest.body.format store.forest.schema kept.facts (Some s) numbers → Pages (live_of state) numbers
       pages_over numbers goes =
@@ -277,7 +279,7 @@ module _ {S : Type 0} (T : Ghosts S) (old new : S) (state : State) (store : Stor
         keeps = λ numbers goes. (goes_to numbers goes).2;
       }
 
-    any_files : IsTrue T.tells → OverAnyFiles T its state state old new after result
+    any_files : IsTrue T.tells → OverAnyFiles T levels its state state old new after result
     any_files t = record {
       damage = ends.damage t (fitting t).agree;
       answered = ends.answered t (fitting t).agree;
@@ -289,12 +291,13 @@ module _ {S : Type 0} (T : Ghosts S) (old new : S) (state : State) (store : Stor
     side_stays : IsTrue T.tells → SideStays (live_of state) (T.disk old).files (T.disk new).files
     side_stays t = ap (λ (f : Files). f (live_file (live_of state))) (found.tree.looks.disk t).files
 
-    pub carried : CarriesOut T its state state old new before after result
+    pub carried : CarriesOutWith T levels its state state old new before after result
     carried = record {
-      by_world = λ t world stands. by_world t world (kept_over state (Some store) (T.disk old) world has stands) stands;
+      by_world = λ t world known stands. by_world t world (kept_over levels state (Some store) (T.disk old) world known has stands) stands;
       any_files = any_files;
       goes_on = record {
         runs = holds result (record { running = ready.runs.running; fit = λ t. fit_rests state (T.disk old) (T.disk new) (found.tree.looks.disk t) (ready.runs.fit t) });
+        schema = λ declared same. holds result same;
         cache = λ none. holds result (asks none ∙ sym (kept_same (live_of state) (live_of state) before refl));
         capacity = found.tree.capacity;
         unwritten = λ none. found.tree.looks.writes;

@@ -1,9 +1,9 @@
 -- The names of other rooms that the proofs of this one use, in one place.
 pub use Rattle.cube_state.specs.Cached.{AreLive, Fits, FitsLive, KeepsUp, Saves, SideStays, live_file, live_of}
-pub use Rattle.cube_state.specs.Carried.{ByWorld, CarriesOut, IsReadyFor, OverAnyFiles, RepliesAlone, Reply, Spares}
+pub use Rattle.cube_state.specs.Carried.{ByWorld, CarriesOut, CarriesOutWith, IsReadyFor, OverAnyFiles, RepliesAlone, Reply, Spares}
 pub use Rattle.cube_state.specs.Visits.{GoesFrom, GoesOver, GoesTo, ReadsFor, ReadsFrom, asked_from, asks_pages, is_asked, store_of}
 pub use Rattle.cube_state.{proofs.Answering.OnlyNow, proofs.Answering.fit_rests, proofs.Answering.resting, proofs.Answering.stands_rests, proofs.Cached.holds, proofs.Cached.kept_same}
-pub use Rattle.cube_state.{proofs.Carried.OnlySays, proofs.Carried.runs_out_as, proofs.Carried.says as only_replies, proofs.Standing.attends_belongs, proofs.Told.spares_same, specs.Commands.Gives}
+pub use Rattle.cube_state.{proofs.Carried.OnlySays, proofs.Carried.OnlySaysWith, proofs.Carried.says_just, proofs.Carried.runs_out_as, proofs.Carried.says as only_replies, proofs.Standing.attends_belongs, proofs.Told.spares_same, specs.Commands.Gives}
 pub use Rattle.cube_state.{specs.Costs.Cost, specs.Costs.Spends, specs.Costs.free, specs.Frames.IsQuiet, specs.Session.Belongs, specs.Session.IsAnswer, specs.Session.Stands, specs.Slices.GivesFound}
 pub use Rattle.cube_state.{specs.Slices.GivesRead, specs.Slices.SliceGives, specs.Slices.SliceTells, specs.Slices.TellsSpoilt, specs.Stops.IsNoDamage, specs.Stops.StopCause}
 pub use Rattle.cube_state.{specs.declared.state.State.State, specs.declared.state.State.TheVariants.Empty, specs.declared.state.State.TheVariants.Hollow, specs.declared.state.State.TheVariants.Idle}
@@ -22,3 +22,4 @@ pub use Rattle.{reply_text.specs.Replies.answer_text, reply_text.specs.Replies.l
 pub use Rattle.{script_lang.specs.declared.command.Command.Command, site_core.specs.Causes.HasCauseWhere, site_core.specs.Disk.Disk, site_core.specs.Disk.Files, site_core.specs.Frames.Looks}
 pub use Rattle.{site_core.specs.declared.site.Site.Ghosts, slice_lang.specs.Reading.slice_of, slice_lang.specs.declared.refusal.SliceRefusal.SliceRefusal, replica_route.specs.Picked.IsPicked}
 pub use Rattle.{view_route.specs.Routes.covers}
+pub use Rattle.roll_up.specs.declared.level.Level.{Level}

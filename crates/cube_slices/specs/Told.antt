@@ -1,21 +1,23 @@
 -- What the parts of the command promise.
 use Rattle.std.specs.Prelude.{◌≡◌, ◌⊎◌, ◌+◌, ◌%◌, ℕ, cond, List, Option, Some, None, Result, Ok, Err, IfOk, MatchResult}
 use Rattle.std.specs.List.{All}
+use Rattle.cube_schema.specs.Kinds.{arity}
 use Rattle.fact_model.specs.Adds.{AddUp}
 use Rattle.fact_model.specs.declared.slice.Row.{Row}
 use Rattle.fact_model.specs.declared.slice.Slice.{Slice}
 use Rattle.forest_root.specs.declared.forest.Store.{Store}
 use Rattle.page_cache.specs.Giving.{Cache}
 use Rattle.reply_text.specs.Replies.{line, answer_text, not_covered}
+use Rattle.roll_up.specs.Lifted.{HasForm, rolled_up}
+use Rattle.roll_up.specs.declared.level.Level.{Level}
 use Rattle.script_lang.specs.declared.command.Command.{Command}
 use Rattle.site_core.specs.declared.site.Site.{Ghosts}
 use Rattle.slice_exec.specs.declared.stop.AnswerStop.{AnswerStop}
 use Rattle.slice_exec.specs.declared.stop.AnswerStop.TheVariants as answers
-use Rattle.sql_lang.specs.declared.query.Query.{Query}
-use Rattle.sql_slice.specs.RowFold.{IsWide, query_text}
+use Rattle.sql_slice.specs.RowFold.{IsWide}
 use Rattle.sql_slice.specs.declared.planned.Plan.{Plan}
 use Rattle.plain_machine.specs.Machine.{is_covered}
-use Rattle.cube_state.specs.Carried.{CarriesOut, IsReadyFor, Reply}
+use Rattle.cube_state.specs.Carried.{CarriesOut, CarriesOutWith, IsReadyFor, Reply}
 use Rattle.cube_state.specs.Visits.{store_of}
 use Rattle.cube_state.specs.declared.state.State.{State}
 use Rattle.cube_state.specs.declared.stop.Stop.{Stop}
@@ -48,6 +50,33 @@ answer_stop (Err answers.Memory) = stops.Memory
 abbrev pub Tells : Result (List Row) AnswerStop → Reply → Type 0
 Tells answer result = MatchResult result (λ reply. answer_reply answer ≡ Some reply.items) (λ stop. stop ≡ answer_stop answer)
 
+-- ---- what folds the rows of its slice
+
+-- rows that add up are told as this text; other rows are no rows of facts, for which the front of the live side is named
+abbrev pub RowsTell : Store → List Row → List ℕ → Reply → Type 0
+RowsTell store rows text (Ok reply) = AddUp rows × (reply.items ≡ text)
+RowsTell store rows text (Err stop) = (stop ≡ stops.Memory) ⊎ ((AddUp rows → ⊥) × (stop ≡ stops.Damaged (2 + store.forest.body.generation % 2) 0))
+
+-- the rows are told as the text that is made of them, or that no view covers the slice, or why the command stops
+abbrev pub FoldTold : Store → (List Row → List ℕ) → Result (List Row) AnswerStop → Reply → Type 0
+FoldTold store text (Ok rows) result = RowsTell store rows (text rows) result
+FoldTold store text (Err stop) result = Tells (Err stop) result
+
+-- ---- rollup
+
+-- with these levels the command is carried out by a session that has this store
+abbrev pub CarriesOutOver : {S : Type 0} (T : Ghosts S) (levels : List Level) (command : Command) (store : Store) (old new : S) (before after : Cache) (result : Reply) → Type 0
+CarriesOutOver T levels command store old new before after result =
+    (state : State) → store_of state ≡ Some store → IsReadyFor T old before state → CarriesOutWith T levels command state state old new before after result
+
+-- each row has a value for each grouped attribute of the base slice, and a number for each column
+abbrev pub AreBase : Slice → Result (List Row) AnswerStop → Type 0
+AreBase b answer = IfOk answer (All (HasForm b))
+
+-- base rows, rolled up, as text
+abbrev pub rolled_text : Store → List Level → Slice → List Row → List ℕ
+rolled_text store levels s rows = answer_text (rolled_up (arity store.forest.schema) levels s rows)
+
 -- ---- sql
 
 -- each row has a number for each column of the plan
@@ -57,13 +86,3 @@ AreWide p answer = IfOk answer (All (IsWide p.slice.columns))
 -- this text, where some view covers the slice
 abbrev pub where_covered : Store → Slice → List ℕ → List ℕ
 where_covered store s text = cond (is_covered store.forest.schema s) text (line not_covered)
-
--- the records of rows that add up; other rows are no rows of facts, for which the front of the live side is named
-abbrev pub RowsTell : Store → Query → Plan → List Row → Reply → Type 0
-RowsTell store q p rows (Ok reply) = AddUp rows × (reply.items ≡ query_text q p rows)
-RowsTell store q p rows (Err stop) = (stop ≡ stops.Memory) ⊎ ((AddUp rows → ⊥) × (stop ≡ stops.Damaged (2 + store.forest.body.generation % 2) 0))
-
--- the records are told, or that no view covers the slice, or why the command stops
-abbrev pub QueryTells : Store → Query → Plan → Result (List Row) AnswerStop → Reply → Type 0
-QueryTells store q p (Ok rows) result = RowsTell store q p rows result
-QueryTells store q p (Err stop) result = Tells (Err stop) result

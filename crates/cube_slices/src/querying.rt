@@ -5,16 +5,16 @@ ghost use Rattle.script_lang.specs.declared.command.Command.TheVariants as says;
 ghost use Rattle.cube_state.specs.Carried.{CarriesOut, IsReadyFor};
 ghost use Rattle.sql_lang.specs.Agreeing.{SqlAgrees};
 ghost use Rattle.sql_slice.specs.RowFold.{query_text};
-ghost use Rattle.cube_slices.specs.Told.{CarriesOutAs, AreWide, QueryTells, RowsTell, where_covered};
+ghost use Rattle.cube_slices.specs.Told.{AreWide, CarriesOutAs, FoldTold, RowsTell, where_covered};
 
-use crate::slices::unanswered;
+use crate::slices::{spoilt, unanswered};
 use cube_state::{State, Stop};
 use fact_model::{ListOf, Memory, Rows};
 use forest_root::Store;
 use page_cache::Pages;
 use replica_route::pick;
 use reply_text::{plain, refused_query};
-use site_core::{SIDES, Site};
+use site_core::Site;
 use slice_exec::{AnswerStop, answer_picked};
 use sql_lang::{Query, read_sql};
 use sql_slice::{Plan, plan, sql_text};
@@ -102,7 +102,7 @@ fn told(
     answer: Result<SliceRows<'_>, AnswerStop>,
 ) -> Result<Vec<u8>, Stop>
     requires { AreWide plan.now answer }
-    ensures { QueryTells store.now query.now plan.now answer.entry result }
+    ensures { FoldTold store.now (query_text query.now plan.now) answer.entry result }
 {
     match answer {
         Ok(rows) => records(alloc, store, query, plan, &rows.to_rows(alloc)?),
@@ -119,13 +119,10 @@ fn records(
     rows: &Rows,
 ) -> Result<Vec<u8>, Stop>
     requires { AreWide plan.now (Ok rows.now) }
-    ensures { RowsTell store.now query.now plan.now rows.now result }
+    ensures { RowsTell store.now rows.now (query_text query.now plan.now rows.now) result }
 {
     if !rows.adds() {
-        return Err(Stop::Damaged {
-            file: SIDES + (store.forest.body.generation % 2) as u32,
-            offset: 0,
-        });
+        return Err(spoilt(store));
     }
     Ok(sql_text(alloc, query, plan, rows)?.into_vec())
 }

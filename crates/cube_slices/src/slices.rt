@@ -1,14 +1,14 @@
 //! The command `slice`.
 ghost use Rattle.script_lang.specs.declared.command.Command.TheVariants as says;
 ghost use Rattle.cube_state.specs.Carried.{CarriesOut, IsReadyFor};
-ghost use Rattle.std.specs.Prelude.{Err};
+ghost use Rattle.std.specs.Prelude.{◌≡◌, ◌+◌, ◌%◌, Err};
 ghost use Rattle.cube_slices.specs.Told.{CarriesOutAs, Tells};
 
 use cube_state::{State, Stop};
 use forest_root::Store;
 use page_cache::Pages;
 use reply_text::{plain, refused_slice};
-use site_core::Site;
+use site_core::{SIDES, Site};
 use slice_exec::{AnswerStop, rows_text};
 use slice_lang::read_slice;
 use std::alloc::Global;
@@ -70,5 +70,15 @@ pub(crate) fn unanswered(alloc: Global, stop: AnswerStop) -> Result<Vec<u8>, Sto
         AnswerStop::Disk => Err(Stop::Disk),
         AnswerStop::Damaged { file, offset } => Err(Stop::Damaged { file, offset }),
         AnswerStop::Memory => Err(Stop::Memory),
+    }
+}
+
+/// Why a command stops that folds rows which do not add up, as rows of facts do: the front of the live side is named.
+pub(crate) fn spoilt(store: &Store) -> Stop
+    ensures { result ≡ Stop.Damaged (2 + store.now.forest.body.generation % 2) 0 }
+{
+    Stop::Damaged {
+        file: SIDES + (store.forest.body.generation % 2) as u32,
+        offset: 0,
     }
 }

@@ -19,11 +19,17 @@ use Rattle.slice_lang.specs.Reading.{slice_of}
 use Rattle.plain_machine.specs.declared.batch_source.BatchSource.{BatchSource}
 use Rattle.plain_machine.specs.declared.batch_source.BatchSource.TheVariants.{Rows, Numbered, Generator}
 use Rattle.plain_machine.specs.Machine.{Given}
-use Rattle.plain_machine.proofs.Acts.{HasByte, HasReply, answer_some, behind, declare_some, explained_some, query_refused_some, records_some, refused_some, some_line, some_number, source_has}
+use Rattle.plain_machine.proofs.Acts.{HasByte, HasReply, answer_some, behind, declare_some, explained_some, level_reply_some, query_refused_some, records_some, refused_some, some_line, some_number, source_has}
 use Rattle.cube_state.specs.declared.state.State.TheVariants.{Empty, Idle, Hollow, Pending}
 use Rattle.cube_state.specs.Batches.{GivesBatch, GivesBegun, GivesGiven, IsRefused, LoadGives, given_to, pending_line, refusal_text}
 use Rattle.cube_state.specs.Commands.{Gives}
-use Rattle.cube_state.specs.Folds.{GivesQuery, QueryGives, records_found}
+use Rattle.cube_state.specs.Folds.{GivesQuery, GivesRolled, QueryGives, RollupGives, records_found, rolled_found}
+use Rattle.cube_state.specs.Levels.{leveled_by}
+use Rattle.cube_schema.specs.Kinds.{arity}
+use Rattle.roll_up.specs.Levels.{extended}
+use Rattle.roll_up.specs.Lifted.{rolled_up}
+use Rattle.roll_up.specs.declared.level.Level.{Level}
+use Rattle.script_lang.specs.declared.command.Block.{Block}
 use Rattle.cube_state.specs.Slices.{GivesRead, SliceGives, explain_text}
 use Rattle.fact_model.specs.declared.slice.Row.{Row}
 use Rattle.sql_lang.specs.Reading.{query_of}
@@ -76,6 +82,22 @@ query_some : (store : Option Store) (files : Files) (text reply : List ℕ) → 
 query_some None files text reply is = as_line no_schema reply is
 query_some (Some store) files text reply is = query_read_some store files (query_of store.forest.schema text) reply is
 
+rolled_some : (levels : List Level) (store : Store) (s : Slice) (found : Option (List Row)) → 0 < length (rolled_found store levels s found)
+rolled_some levels store s (Some rows) = answer_some (rolled_up (arity store.forest.schema) levels s rows)
+rolled_some levels store s None = some_line not_covered
+
+rolled_read_some : (levels : List Level) (store : Store) (files : Files) (read : Result Slice SliceRefusal) (reply : List ℕ) → GivesRolled levels store files read reply → 0 < length reply
+rolled_read_some levels store files (Err refusal) reply is = as_text _ reply is (refused_some refusal)
+rolled_read_some levels store files (Ok s) reply is = as_text _ reply is.2 (rolled_some levels store s is.0)
+
+rollup_some : (levels : List Level) (store : Option Store) (files : Files) (text reply : List ℕ) → RollupGives levels store files text reply → 0 < length reply
+rollup_some levels None files text reply is = as_line no_schema reply is
+rollup_some levels (Some store) files text reply is = rolled_read_some levels store files (slice_of (extended store.forest.schema levels) text) reply is
+
+leveled_some : (levels : List Level) (store : Option Store) (name attr : List ℕ) (block : Block) → 0 < length (leveled_by levels store name attr block)
+leveled_some levels None name attr block = some_line no_schema
+leveled_some levels (Some store) name attr block = level_reply_some store.forest.schema levels name attr block
+
 batch_some : (store : Store) (files : Files) (batch : List Fact) (reply : List ℕ) → GivesBatch store files batch reply → 0 < length reply
 batch_some store files [] reply is = as_text _ reply is (some_number (codes "committed ") store.forest.body.facts)
 batch_some store files (x ∷ xs) reply (inl refused) = limit_some store reply refused
@@ -100,32 +122,34 @@ pending_some (Hollow store) text = some_line text
 pending_some (Pending r) text = some_line text
 pending_some _ text = some_line none_pending
 
-pub gives_some : (state : State) (files : Files) (command : Command) (reply : List ℕ) → Gives state files command reply → 0 < length reply
-gives_some Empty files (says.Schema block) reply is = as_text _ reply is (declare_some (bare None) None block)
-gives_some state files (says.Schema block) reply is = as_line is_declared reply is
-gives_some state files (says.Load block) reply is = load_some state files (Rows block) reply is
-gives_some state files (says.LoadNumbered number block) reply is = load_some state files (Numbered number block) reply is
-gives_some state files (says.Generate start rows) reply is = load_some state files (Generator start rows) reply is
-gives_some state files (says.Slice text) reply is = slice_some (store_of state) files text reply is
-gives_some state files (says.Explain text) reply is = as_text _ reply is (explain_some (store_of state) text)
-gives_some state files (says.Sql text) reply is = query_some (store_of state) files text reply is
-gives_some Empty files says.Status reply is = as_text _ reply is (some_line unopened)
-gives_some (Idle store) files says.Status reply is = as_text _ reply is (some_number (codes "facts ") store.forest.body.facts)
-gives_some (Hollow store) files says.Status reply is =
+pub gives_some : (levels : List Level) (state : State) (files : Files) (command : Command) (reply : List ℕ) → Gives levels state files command reply → 0 < length reply
+gives_some levels Empty files (says.Schema block) reply is = as_text _ reply is (declare_some (bare None) None block)
+gives_some levels state files (says.Schema block) reply is = as_line is_declared reply is
+gives_some levels state files (says.Load block) reply is = load_some state files (Rows block) reply is
+gives_some levels state files (says.LoadNumbered number block) reply is = load_some state files (Numbered number block) reply is
+gives_some levels state files (says.Generate start rows) reply is = load_some state files (Generator start rows) reply is
+gives_some levels state files (says.Slice text) reply is = slice_some (store_of state) files text reply is
+gives_some levels state files (says.Explain text) reply is = as_text _ reply is (explain_some (store_of state) text)
+gives_some levels state files (says.Sql text) reply is = query_some (store_of state) files text reply is
+gives_some levels state files (says.Rollup text) reply is = rollup_some levels (store_of state) files text reply is
+gives_some levels state files (says.Level name attr block) reply is = as_text _ reply is (leveled_some levels (store_of state) name attr block)
+gives_some levels Empty files says.Status reply is = as_text _ reply is (some_line unopened)
+gives_some levels (Idle store) files says.Status reply is = as_text _ reply is (some_number (codes "facts ") store.forest.body.facts)
+gives_some levels (Hollow store) files says.Status reply is =
     as_text _ reply is (behind (codes "facts ") _ (behind (decimal store.forest.body.facts) _ (some_number (codes " pending ") 0)))
-gives_some (Pending r) files says.Status reply is =
+gives_some levels (Pending r) files says.Status reply is =
     as_text _ reply is (behind (codes "facts ") _ (behind (decimal r.store.forest.body.facts) _ (some_number (codes " pending ") (batch_size r))))
-gives_some Empty files says.Upgrade reply is = as_line no_schema reply is
-gives_some (Idle store) files says.Upgrade reply is = as_line upgraded_text reply is.said
-gives_some state files says.Upgrade reply is = as_line is_pending reply is
-gives_some Empty files (says.Begin block) reply is = as_line no_schema reply is
-gives_some (Idle store) files (says.Begin block) reply is = begun_some store (given_to store (Rows block)) reply (source_has store.forest.schema store.forest.body.last (Rows block)) is
-gives_some state files (says.Begin block) reply is = as_line is_pending reply is
-gives_some state files (says.Step n) reply is = as_text _ reply is (pending_some state stepped_text)
-gives_some (Hollow store) files says.Finish reply is = as_text _ reply is (some_number (codes "committed ") store.forest.body.facts)
-gives_some (Pending r) files says.Finish reply is = as_text _ reply is.said (some_number (codes "committed ") r.next.facts)
-gives_some state files says.Finish reply is = as_line none_pending reply is
-gives_some state files says.Abandon reply is = as_text _ reply is (pending_some state abandoned_text)
-gives_some state files says.LongLine reply is = as_line long_line reply is
-gives_some state files says.OpenBlock reply is = as_line open_block reply is
-gives_some state files says.Unknown reply is = as_line is_unknown reply is
+gives_some levels Empty files says.Upgrade reply is = as_line no_schema reply is
+gives_some levels (Idle store) files says.Upgrade reply is = as_line upgraded_text reply is.said
+gives_some levels state files says.Upgrade reply is = as_line is_pending reply is
+gives_some levels Empty files (says.Begin block) reply is = as_line no_schema reply is
+gives_some levels (Idle store) files (says.Begin block) reply is = begun_some store (given_to store (Rows block)) reply (source_has store.forest.schema store.forest.body.last (Rows block)) is
+gives_some levels state files (says.Begin block) reply is = as_line is_pending reply is
+gives_some levels state files (says.Step n) reply is = as_text _ reply is (pending_some state stepped_text)
+gives_some levels (Hollow store) files says.Finish reply is = as_text _ reply is (some_number (codes "committed ") store.forest.body.facts)
+gives_some levels (Pending r) files says.Finish reply is = as_text _ reply is.said (some_number (codes "committed ") r.next.facts)
+gives_some levels state files says.Finish reply is = as_line none_pending reply is
+gives_some levels state files says.Abandon reply is = as_text _ reply is (pending_some state abandoned_text)
+gives_some levels state files says.LongLine reply is = as_line long_line reply is
+gives_some levels state files says.OpenBlock reply is = as_line open_block reply is
+gives_some levels state files says.Unknown reply is = as_line is_unknown reply is

@@ -5,6 +5,7 @@ pub mod Carried
 pub mod Costs
 pub mod Giving
 pub mod Known
+pub mod Levels
 pub mod Limits
 pub mod Looking
 pub mod Moves

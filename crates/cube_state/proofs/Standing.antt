@@ -1,5 +1,5 @@
 -- What a session that stands for a world tells of the files.
-use Rattle.std.proofs.Common.{◌≡◌, ◌≤◌, ℕ, List, arith, sym, ◌∙◌, ap, subst}
+use Rattle.std.proofs.Common.{◌≡◌, ◌≤◌, ℕ, List, [], Option, Some, None, arith, sym, ◌∙◌, ap, subst}
 use Rattle.site_core.specs.Calls.{Emits, Rests}
 use Rattle.site_core.specs.Disk.{Files, Disk}
 use Rattle.site_core.specs.Moments.{HoldsNow, IsStable}
@@ -16,7 +16,7 @@ use Rattle.forest_store.specs.Held.{KeepsAs, KeepsFacts}
 use Rattle.forest_store.specs.Opened.{HasRoot, IsOpened}
 use Rattle.forest_store.specs.Stored.{IsStoreOf}
 use Rattle.forest_store.proofs.Standing.{body_format, in_some, live_keeps}
-use Rattle.plain_machine.specs.World.{World, Warehouse}
+use Rattle.plain_machine.specs.World.{Kept, Knows, World, Warehouse}
 use Rattle.plain_machine.specs.Keeps.{IsFrom, Keeps, KeepsWarehouse}
 use Rattle.cube_state.specs.declared.state.State.{State}
 use Rattle.cube_state.specs.declared.state.State.TheVariants.{Empty, Idle, Hollow, Pending}
@@ -151,3 +151,14 @@ emits_left reply old new emits files left = let was = emits.time.now files left 
 
 pub rests_left : (old new : Disk) → Rests old new → (files : Files) → new.may_leave files → old.may_leave files
 rests_left old new rests files left = let was = rests.time.now files left in subst old.may_leave (sym was.2) was.1
+
+-- ---- of a world that is as kept and as pending
+
+knows_as : (kept : Kept) (pending : Option (List Fact)) (world next : World) → Knows world.kept world.pending next → Knows kept pending world → Knows kept pending next
+knows_as kept pending world next same is = record { kept = same.kept ∙ is.kept; pending = same.pending ∙ is.pending }
+
+pub stands_as : (state : State) (disk : Disk) (world next : World) → Knows world.kept world.pending next → Stands state disk world → Stands state disk next
+stands_as Empty disk world next same is = (knows_as None None world next same is.0, is.1)
+stands_as (Idle store) disk world next same is = (is.0, knows_as (Some is.0) None world next same is.1, is.2)
+stands_as (Hollow store) disk world next same is = (is.0, knows_as (Some is.0) (Some []) world next same is.1, is.2)
+stands_as (Pending r) disk world next same is = (is.0, is.1, knows_as (Some is.0) (Some is.1) world next same is.2, is.3)

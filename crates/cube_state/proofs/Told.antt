@@ -8,6 +8,7 @@ use Rattle.forest_root.specs.Root.{ClosesGate}
 use Rattle.forest_root.specs.declared.body.Body.{Body}
 use Rattle.forest_root.specs.declared.forest.Store.{Store}
 use Rattle.forest_refresh.specs.Begun.{Begun}
+use Rattle.roll_up.specs.declared.level.Level.{Level}
 use Rattle.script_lang.specs.declared.command.Command.{Command}
 use Rattle.script_lang.specs.declared.command.Command.TheVariants as says
 use Rattle.plain_machine.specs.declared.batch_source.BatchSource.{BatchSource}
@@ -32,9 +33,9 @@ spoilt_none kept files asked stops.Output is = tt
 spoilt_none kept files asked (stops.Damaged file offset) is = absurd is
 spoilt_none kept files asked stops.Memory is = tt
 
-pub slice_none : (kept : Option Store) (files : Files) (command : Command) (stop : Stop) → IsNoDamage stop → SliceTells kept files command stop
-slice_none None files command stop is = is
-slice_none (Some kept) files command stop is = spoilt_none kept files (asked_by kept.forest.schema command) stop is
+pub slice_none : (levels : List Level) (kept : Option Store) (files : Files) (command : Command) (stop : Stop) → IsNoDamage stop → SliceTells levels kept files command stop
+slice_none levels None files command stop is = is
+slice_none levels (Some kept) files command stop is = spoilt_none kept files (asked_by kept.forest.schema levels command) stop is
 
 fold_spoilt_none : (kept : Store) (files : Files) (asked : Option Slice) (stop : Stop) → IsNoDamage stop → TellsFold kept files asked stop
 fold_spoilt_none kept files asked stops.Disk is = tt
@@ -42,9 +43,9 @@ fold_spoilt_none kept files asked stops.Output is = tt
 fold_spoilt_none kept files asked (stops.Damaged file offset) is = absurd is
 fold_spoilt_none kept files asked stops.Memory is = tt
 
-fold_none : (kept : Option Store) (files : Files) (command : Command) (stop : Stop) → IsNoDamage stop → FoldTells kept files command stop
-fold_none None files command stop is = is
-fold_none (Some kept) files command stop is = fold_spoilt_none kept files (asked_by kept.forest.schema command) stop is
+fold_none : (levels : List Level) (kept : Option Store) (files : Files) (command : Command) (stop : Stop) → IsNoDamage stop → FoldTells levels kept files command stop
+fold_none levels None files command stop is = is
+fold_none levels (Some kept) files command stop is = fold_spoilt_none kept files (asked_by kept.forest.schema levels command) stop is
 
 pub batch_none : (kept : Store) (files : Files) (batch : List Fact) (stop : Stop) → IsNoDamage stop → TellsBatchDamage kept files batch stop
 batch_none kept files batch stops.Disk is = tt
@@ -81,23 +82,25 @@ upgrade_none (Hollow kept) files stop is = is
 upgrade_none (Pending r) files stop is = is
 
 -- a stop that is no damage tells none
-pub tells_none : (state : State) (files : Files) (command : Command) (stop : Stop) → IsNoDamage stop → TellsDamage state files command stop
-tells_none state files (says.Slice text) stop is = slice_none (store_of state) files (says.Slice text) stop is
-tells_none state files (says.Load block) stop is = load_none state files (Rows block) stop is
-tells_none state files (says.LoadNumbered number block) stop is = load_none state files (Numbered number block) stop is
-tells_none state files (says.Generate start rows) stop is = load_none state files (Generator start rows) stop is
-tells_none state files (says.Step n) stop is = finish_none state files stop is
-tells_none state files says.Finish stop is = finish_none state files stop is
-tells_none state files says.Upgrade stop is = upgrade_none state files stop is
-tells_none state files (says.Schema block) stop is = is
-tells_none state files (says.Explain text) stop is = is
-tells_none state files (says.Sql text) stop is = fold_none (store_of state) files (says.Sql text) stop is
-tells_none state files says.Status stop is = is
-tells_none state files says.LongLine stop is = is
-tells_none state files says.OpenBlock stop is = is
-tells_none state files (says.Begin block) stop is = is
-tells_none state files says.Abandon stop is = is
-tells_none state files says.Unknown stop is = is
+pub tells_none : (levels : List Level) (state : State) (files : Files) (command : Command) (stop : Stop) → IsNoDamage stop → TellsDamage levels state files command stop
+tells_none levels state files (says.Slice text) stop is = slice_none levels (store_of state) files (says.Slice text) stop is
+tells_none levels state files (says.Load block) stop is = load_none state files (Rows block) stop is
+tells_none levels state files (says.LoadNumbered number block) stop is = load_none state files (Numbered number block) stop is
+tells_none levels state files (says.Generate start rows) stop is = load_none state files (Generator start rows) stop is
+tells_none levels state files (says.Step n) stop is = finish_none state files stop is
+tells_none levels state files says.Finish stop is = finish_none state files stop is
+tells_none levels state files says.Upgrade stop is = upgrade_none state files stop is
+tells_none levels state files (says.Schema block) stop is = is
+tells_none levels state files (says.Explain text) stop is = is
+tells_none levels state files (says.Sql text) stop is = fold_none levels (store_of state) files (says.Sql text) stop is
+tells_none levels state files (says.Rollup text) stop is = fold_none levels (store_of state) files (says.Rollup text) stop is
+tells_none levels state files (says.Level name attr block) stop is = is
+tells_none levels state files says.Status stop is = is
+tells_none levels state files says.LongLine stop is = is
+tells_none levels state files says.OpenBlock stop is = is
+tells_none levels state files (says.Begin block) stop is = is
+tells_none levels state files says.Abandon stop is = is
+tells_none levels state files says.Unknown stop is = is
 
 -- and it spares no less
 pub spares_none : (live : Option Body) (old new : Files) (stop : Stop) → IsNoDamage stop → Spares live old new stop

@@ -8,6 +8,7 @@ use Rattle.cube_schema.specs.declared.schema.Schema.{Schema}
 use Rattle.fact_model.specs.declared.slice.Slice.{Slice}
 use Rattle.forest_root.specs.declared.body.Body.{Body}
 use Rattle.page_cache.specs.Giving.{Cache}
+use Rattle.roll_up.specs.declared.level.Level.{Level}
 use Rattle.script_lang.specs.declared.command.Command.{Command}
 use Rattle.plain_machine.specs.Machine.{act, asked_by, asked_over}
 use Rattle.plain_machine.specs.World.{Kept, World}
@@ -21,7 +22,7 @@ use Rattle.cube_state.specs.Frames.{IsQuiet, RunsOn}
 use Rattle.cube_state.specs.Moves.{format_of, moves_made, reached_behind, reached_by}
 use Rattle.cube_state.specs.Session.{Between, IsAnswer, Stands}
 use Rattle.cube_state.specs.Stops.{IsNoDamage}
-use Rattle.cube_state.specs.Visits.{GoesFrom, GoesOver, GoesTo}
+use Rattle.cube_state.specs.Visits.{GoesFrom, GoesOver, GoesTo, schema_of}
 use Rattle.cube_state.proofs.Answering.{OnlyNow, quiet}
 use Rattle.cube_state.proofs.Cached.{emptied_fits, kept_none, kept_same, side_fits}
 use Rattle.cube_state.proofs.Costs.{spends_none}
@@ -35,12 +36,12 @@ module _ {A E : Type 0} (P : Result A E → Type 0) (error : E) where
   at_error (Err e) same is = subst (λ (x : E). P (Err x)) (sym same) is
 
 -- a command that has no slice answered goes to no page
-pub goes_nowhere : (command : Command) → ((schema : Schema) → asked_by schema command ≡ None) → (format : ℕ) (world : World) (numbers : List ℕ) → GoesTo format world command numbers → ⊥
+pub goes_nowhere : (command : Command) → ((schema : Schema) (levels : List Level) → asked_by schema levels command ≡ None) → (format : ℕ) (world : World) (numbers : List ℕ) → GoesTo format world command numbers → ⊥
 goes_nowhere command none format world numbers goes = by world.kept goes
   where
-    by : (kept : Kept) → GoesFrom format kept (asked_over kept command) numbers → ⊥
+    by : (kept : Kept) → GoesFrom format kept (asked_over kept world.levels command) numbers → ⊥
     by None is = is
-    by (Some warehouse) is = subst (λ (a : Option Slice). GoesOver format warehouse.schema warehouse.facts a numbers) (none warehouse.schema) is
+    by (Some warehouse) is = subst (λ (a : Option Slice). GoesOver format warehouse.schema warehouse.facts a numbers) (none warehouse.schema world.levels) is
 
 -- ---- what is particular to an end of a command
 
@@ -58,10 +59,11 @@ pub record Replies {S : Type 0} (T : Ghosts S) (command : Command) (state next :
   pub answer : ForEach T state old (λ world. IsAnswer (T.disk new) (act world command) next reply)
   pub moved : ForEach T state old (λ world. reached_by next ≡ reached_behind world (reached_by state) command)
   pub uncalled : ForEach T state old (λ world. MakesNoCall world (reached_by state) command → new ≡ old)
-  pub answered : IsTrue T.tells → Gives state (T.disk old).files command reply
+  pub answered : IsTrue T.tells → (levels : List Level) → Gives levels state (T.disk old).files command reply
   pub runs : RunsOn T new next
+  pub schema : (declared : Schema) → schema_of state ≡ Some declared → schema_of next ≡ Some declared
   pub made : (IsStep command → ⊥) → moves_made next ≡ made_alone command (moves_made state)
-  pub said : RepliesAlone command → (files : Files) → Gives state files command reply
+  pub said : RepliesAlone command → (files : Files) (levels : List Level) → Gives levels state files command reply
 
 -- what it makes of the kept pages and of what is live
 pub record Leaves {S : Type 0} (T : Ghosts S) (command : Command) (state next : State) (old new : S) (before after : Cache) : Type 0 where
@@ -77,7 +79,7 @@ pub record Leaves {S : Type 0} (T : Ghosts S) (command : Command) (state next : 
 -- at a stop
 pub record Stopped {S : Type 0} (T : Ghosts S) (command : Command) (state : State) (old new : S) (stop : Stop) : Type 0 where
   pub undamaged : ForEach T state old (λ world. IsNoDamage stop)
-  pub damage : IsTrue T.tells → TellsDamage state (T.disk old).files command stop
+  pub damage : IsTrue T.tells → (levels : List Level) → TellsDamage levels state (T.disk old).files command stop
   pub spared : IsTrue T.tells → Spares (live_of state) (T.disk old).files (T.disk new).files stop
   pub harmless : TellsNone command → IsNoDamage stop
   pub step_side : IsTrue T.tells → IsStep command → SideStays (live_of state) (T.disk old).files (T.disk new).files
@@ -88,12 +90,12 @@ kept_capacity : (same : Bool) (cache : Cache) → (cond same cache (emptied cach
 kept_capacity true cache = refl
 kept_capacity false cache = refl
 
-module _ {S : Type 0} (T : Ghosts S) (command : Command) (none_asked : (schema : Schema) → asked_by schema command ≡ None) (state next : State) (old new : S) where
+module _ {S : Type 0} (T : Ghosts S) (command : Command) (none_asked : (schema : Schema) (levels : List Level) → asked_by schema levels command ≡ None) (state next : State) (old new : S) where
   -- a reply of it
   pub replied : (before after : Cache) (reply : Vec ℕ Global) → ForEach T state old (RunsFor T command state old new) → Replies T command state next old new reply.items
       → Leaves T command state next old new before after → IsQuiet T old new (Ok reply) → CarriesOut T command state next old new before after (Ok reply)
-  replied before after reply runs is leaves quiet = record {
-    by_world = λ t world stands. record {
+  replied before after reply runs is leaves quiet levels = record {
+    by_world = λ t world known stands. record {
       answer = is.answer t world stands;
       any_moment = (runs t world stands).any_moment;
       undamaged = tt;
@@ -105,13 +107,14 @@ module _ {S : Type 0} (T : Ghosts S) (command : Command) (none_asked : (schema :
     };
     any_files = λ t. record {
       damage = tt;
-      answered = is.answered t;
+      answered = is.answered t levels;
       spared = tt;
       looks = λ no. subst (λ (s : S). Rests (T.disk old) (T.disk s)) (sym (leaves.still no).0) (rests_here (T.disk old));
       fits = leaves.fits t;
     };
     goes_on = record {
       runs = is.runs;
+      schema = is.schema;
       cache = λ none. leaves.cache;
       capacity = ap (λ (c : Cache). c.capacity) leaves.cache ∙ kept_capacity (generation (live_of state) == generation (live_of next)) before;
       unwritten = λ no. ap T.writes (leaves.still no).0;
@@ -121,7 +124,7 @@ module _ {S : Type 0} (T : Ghosts S) (command : Command) (none_asked : (schema :
       made = is.made;
       live = leaves.live;
       harmless = λ none. tt;
-      said = is.said;
+      said = λ alone files. is.said alone files levels;
       unasked = λ no nothing. (leaves.still no).1;
       fits = leaves.stays;
       side = leaves.side;
@@ -132,8 +135,8 @@ module _ {S : Type 0} (T : Ghosts S) (command : Command) (none_asked : (schema :
   -- a stop of one that may write; whatever the session has then
   pub stopped : MayWrite command → (before after : Cache) → after.capacity ≡ before.capacity → (stop : Stop) → ForEach T state old (RunsFor T command state old new)
       → Stopped T command state old new stop → IsQuiet {A = Vec ℕ Global} T old new (Err stop) → CarriesOut T command state next old new before after (Err stop)
-  stopped may before after same stop runs is quiet = record {
-    by_world = λ t world stands. record {
+  stopped may before after same stop runs is quiet levels = record {
+    by_world = λ t world known stands. record {
       answer = tt;
       any_moment = (runs t world stands).any_moment;
       undamaged = is.undamaged t world stands;
@@ -143,8 +146,8 @@ module _ {S : Type 0} (T : Ghosts S) (command : Command) (none_asked : (schema :
       saves = λ numbers goes. absurd (goes_nowhere command none_asked (format_of state) world numbers goes);
       keeps = λ numbers goes. tt;
     };
-    any_files = λ t. record { damage = is.damage t; answered = tt; spared = is.spared t; looks = λ no. absurd (no may); fits = tt };
-    goes_on = record { runs = tt; cache = λ none. tt; capacity = same; unwritten = λ no. absurd (no may); quiet = quiet };
+    any_files = λ t. record { damage = is.damage t levels; answered = tt; spared = is.spared t; looks = λ no. absurd (no may); fits = tt };
+    goes_on = record { runs = tt; schema = λ declared has. tt; cache = λ none. tt; capacity = same; unwritten = λ no. absurd (no may); quiet = quiet };
     leaves = record {
       made = λ no. tt;
       live = λ same. tt;
@@ -161,7 +164,7 @@ module _ {S : Type 0} (T : Ghosts S) (command : Command) (none_asked : (schema :
   pub unharmed : (stop : Stop) → IsNoDamage stop → (IsTrue T.tells → IsStep command → SideStays (live_of state) (T.disk old).files (T.disk new).files) → Stopped T command state old new stop
   unharmed stop none side = record {
     undamaged = λ t world stands. none;
-    damage = λ t. tells_none state (T.disk old).files command stop none;
+    damage = λ t levels. tells_none levels state (T.disk old).files command stop none;
     spared = λ t. spares_none (live_of state) (T.disk old).files (T.disk new).files stop none;
     harmless = λ tells. none;
     step_side = side;
@@ -194,7 +197,7 @@ module _ {S : Type 0} (T : Ghosts S) (command : Command) (none_asked : (schema :
   }
 
 -- no call is made, and what the session has may be named anew
-pub still : {S : Type 0} (T : Ghosts S) (command : Command) → ((schema : Schema) → asked_by schema command ≡ None) → (state next : State) (site : S) → (IsTrue T.tells → OnlyNow (T.disk site))
+pub still : {S : Type 0} (T : Ghosts S) (command : Command) → ((schema : Schema) (levels : List Level) → asked_by schema levels command ≡ None) → (state next : State) (site : S) → (IsTrue T.tells → OnlyNow (T.disk site))
     → (cache : Cache) → IsReadyFor T site cache state → (reply : Vec ℕ Global) → Replies T command state next site site reply.items → live_of next ≡ live_of state
     → CarriesOut T command state next site site cache cache (Ok reply)
 still T command none_asked state next site only cache ready reply is same =

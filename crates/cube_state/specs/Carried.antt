@@ -7,6 +7,8 @@ use Rattle.site_core.specs.Disk.{Files}
 use Rattle.site_core.specs.declared.site.Site.{Ghosts}
 use Rattle.forest_root.specs.declared.body.Body.{Body}
 use Rattle.page_cache.specs.Giving.{Cache}
+use Rattle.cube_schema.specs.declared.schema.Schema.{Schema}
+use Rattle.roll_up.specs.declared.level.Level.{Level}
 use Rattle.script_lang.specs.declared.command.Command.{Command}
 use Rattle.script_lang.specs.declared.command.Command.TheVariants as says
 use Rattle.plain_machine.specs.Machine.{act}
@@ -22,7 +24,7 @@ use Rattle.cube_state.specs.Frames.{IsQuiet, RunsOn}
 use Rattle.cube_state.specs.Moves.{format_of, moves_made, reached_behind, reached_by}
 use Rattle.cube_state.specs.Session.{Between, IsAnswer, Stands}
 use Rattle.cube_state.specs.Stops.{IsNoDamage}
-use Rattle.cube_state.specs.Visits.{GoesTo, asks_pages}
+use Rattle.cube_state.specs.Visits.{GoesTo, asks_pages, schema_of}
 
 -- a session may carry out a command: it has this on a site, whatever the files hold, and the kept pages fit
 pub record IsReadyFor {S : Type 0} (T : Ghosts S) (site : S) (cache : Cache) (state : State) : Type 0 where
@@ -70,6 +72,8 @@ effect_of says.Upgrade = rewrites
 effect_of (says.Slice text) = asks
 effect_of (says.Explain text) = answers
 effect_of (says.Sql text) = asks
+effect_of (says.Rollup text) = asks
+effect_of (says.Level name attr block) = answers
 effect_of says.Status = answers
 effect_of says.LongLine = answers
 effect_of says.OpenBlock = answers
@@ -135,20 +139,22 @@ Spares live old new stops.Output = Unit {0}
 Spares live old new stops.Memory = Unit {0}
 
 -- the files hold what they may
-pub record OverAnyFiles {S : Type 0} (T : Ghosts S) (command : Command) (state next : State) (old new : S) (after : Cache) (result : Reply) : Type 0 where
+pub record OverAnyFiles {S : Type 0} (T : Ghosts S) (levels : List Level) (command : Command) (state next : State) (old new : S) (after : Cache) (result : Reply) : Type 0 where
   -- damage that is told is there, and is no reply; it leaves what counts
-  pub damage : IfErr result (TellsDamage state (T.disk old).files command)
-  pub answered : IfOk result (λ reply. Gives state (T.disk old).files command reply.items)
+  pub damage : IfErr result (TellsDamage levels state (T.disk old).files command)
+  pub answered : IfOk result (λ reply. Gives levels state (T.disk old).files command reply.items)
   pub spared : IfErr result (Spares (live_of state) (T.disk old).files (T.disk new).files)
   -- what writes nothing changes nothing
   pub looks : (MayWrite command → ⊥) → Rests (T.disk old) (T.disk new)
   pub fits : OnOk result (Fits next (T.disk new).files after)
 
 -- whatever the site tells
-pub record GoesOn {S : Type 0} (T : Ghosts S) (command : Command) (state next : State) (old new : S) (before after : Cache) (result : Reply) : Type 0 where
+pub record GoesOn {S : Type 0} (T : Ghosts S) (levels : List Level) (command : Command) (state next : State) (old new : S) (before after : Cache) (result : Reply) : Type 0 where
   pub runs : OnOk result (RunsOn T new next)
+  -- a schema that is declared stays
+  pub schema : (declared : Schema) → schema_of state ≡ Some declared → OnOk result (schema_of next ≡ Some declared)
   -- none is kept over a new generation, and no other command but a slice changes them
-  pub cache : asks_pages state command ≡ false → OnOk result (after ≡ kept_over (live_of state) (live_of next) before)
+  pub cache : asks_pages levels state command ≡ false → OnOk result (after ≡ kept_over (live_of state) (live_of next) before)
   pub capacity : after.capacity ≡ before.capacity
   pub unwritten : (MayWrite command → ⊥) → T.writes new ≡ T.writes old
   pub quiet : IsQuiet T old new result
@@ -156,25 +162,29 @@ pub record GoesOn {S : Type 0} (T : Ghosts S) (command : Command) (state next : 
 -- ---- what a command leaves alone
 
 -- what holds of it although the site may tell nothing, and what stays in any files
-pub record LeavesAlone {S : Type 0} (T : Ghosts S) (command : Command) (state next : State) (old new : S) (before after : Cache) (result : Reply) : Type 0 where
+pub record LeavesAlone {S : Type 0} (T : Ghosts S) (levels : List Level) (command : Command) (state next : State) (old new : S) (before after : Cache) (result : Reply) : Type 0 where
   pub made : (IsStep command → ⊥) → OnOk result (moves_made next ≡ made_alone command (moves_made state))
   pub live : LeavesLive command → OnOk result (live_of next ≡ live_of state)
   pub harmless : TellsNone command → IfErr result IsNoDamage
-  pub said : RepliesAlone command → (files : Files) → IfOk result (λ reply. Gives state files command reply.items)
+  pub said : RepliesAlone command → (files : Files) → IfOk result (λ reply. Gives levels state files command reply.items)
   -- no page is kept or let go but by a slice that is answered, and by what writes
-  pub unasked : (MayWrite command → ⊥) → asks_pages state command ≡ false → after ≡ before
+  pub unasked : (MayWrite command → ⊥) → asks_pages levels state command ≡ false → after ≡ before
   -- what only looks leaves kept pages that fit, however it ends
   pub fits : IsTrue T.tells → (MayWrite command → ⊥) → Fits state (T.disk new).files after
   pub side : IsTrue T.tells → LeavesLive command → OnOk result (SideStays (live_of state) (T.disk old).files (T.disk new).files)
   -- a step leaves the live side as it was however it ends
   pub step_side : IsTrue T.tells → IsStep command → SideStays (live_of state) (T.disk old).files (T.disk new).files
 
--- a command is carried out: what the session had, and has then, on a site as it was and is, with the kept pages
-pub record CarriesOut {S : Type 0} (T : Ghosts S) (command : Command) (state next : State) (old new : S) (before after : Cache) (result : Reply) : Type 0 where
-  pub by_world : IsTrue T.tells → (world : World) → Stands state (T.disk old) world → ByWorld T command world state next old new before after result
-  pub any_files : IsTrue T.tells → OverAnyFiles T command state next old new after result
-  pub goes_on : GoesOn T command state next old new before after result
-  pub leaves : LeavesAlone T command state next old new before after result
+-- with these levels a command is carried out: what the session had, and has then, on a site as it was and is, with the kept pages
+pub record CarriesOutWith {S : Type 0} (T : Ghosts S) (levels : List Level) (command : Command) (state next : State) (old new : S) (before after : Cache) (result : Reply) : Type 0 where
+  pub by_world : IsTrue T.tells → (world : World) → world.levels ≡ levels → Stands state (T.disk old) world → ByWorld T command world state next old new before after result
+  pub any_files : IsTrue T.tells → OverAnyFiles T levels command state next old new after result
+  pub goes_on : GoesOn T levels command state next old new before after result
+  pub leaves : LeavesAlone T levels command state next old new before after result
+
+-- whatever the levels are
+abbrev pub CarriesOut : {S : Type 0} (T : Ghosts S) (command : Command) (state next : State) (old new : S) (before after : Cache) (result : Reply) → Type 0
+CarriesOut T command state next old new before after result = (levels : List Level) → CarriesOutWith T levels command state next old new before after result
 
 -- the same of a command that leaves the kept pages as they are, whichever these are
 abbrev pub CarriesOutAlone : {S : Type 0} (T : Ghosts S) (command : Command) (state next : State) (old new : S) (result : Reply) → Type 0

@@ -3,6 +3,7 @@ use Rattle.std.specs.Prelude.{◌≡◌, ℕ, false, List, [], ◌∷◌, None, 
 use Rattle.reply_text.specs.Replies.{is_declared, long_line, open_block, is_unknown, stepped_text, abandoned_text}
 use Rattle.site_core.specs.Disk.{Files}
 use Rattle.fact_model.specs.declared.fact.Fact.{Fact}
+use Rattle.roll_up.specs.declared.level.Level.{Level}
 use Rattle.script_lang.specs.declared.command.Block.{Block}
 use Rattle.script_lang.specs.declared.command.Command.{Command}
 use Rattle.script_lang.specs.declared.command.Command.TheVariants as says
@@ -19,7 +20,8 @@ use Rattle.cube_state.specs.Batches.{BeginGives, FinishGives, LoadGives, Upgrade
 use Rattle.cube_state.specs.Costs.{Cost, both, free}
 use Rattle.cube_state.specs.Moves.{Reached, reached_behind}
 use Rattle.cube_state.specs.Session.{IsLine, state_text}
-use Rattle.cube_state.specs.Folds.{FoldTells, QueryGives}
+use Rattle.cube_state.specs.Folds.{FoldTells, QueryGives, RollupGives}
+use Rattle.cube_state.specs.Levels.{leveled_by}
 use Rattle.cube_state.specs.Slices.{SliceGives, SliceTells, explain_text}
 use Rattle.cube_state.specs.Stops.{IsNoDamage}
 use Rattle.cube_state.specs.Visits.{ReadsFor, store_of}
@@ -46,6 +48,8 @@ Costs world reached says.Abandon cost = cost ≡ free
 Costs world reached says.Upgrade cost = cost ≡ upgrade_cost reached.format world
 Costs world reached (says.Explain text) cost = cost ≡ free
 Costs world reached (says.Sql text) cost = ReadsFor reached.format world (says.Sql text) cost
+Costs world reached (says.Rollup text) cost = ReadsFor reached.format world (says.Rollup text) cost
+Costs world reached (says.Level name attr block) cost = cost ≡ free
 Costs world reached says.Status cost = cost ≡ free
 Costs world reached says.LongLine cost = cost ≡ free
 Costs world reached says.OpenBlock cost = cost ≡ free
@@ -78,6 +82,8 @@ MakesNoCall world reached says.Upgrade = remakes world reached.format ≡ false
 MakesNoCall world reached says.Abandon = Unit {0}
 MakesNoCall world reached (says.Explain text) = Unit {0}
 MakesNoCall world reached (says.Sql text) = asked_slice world (says.Sql text) ≡ None
+MakesNoCall world reached (says.Rollup text) = asked_slice world (says.Rollup text) ≡ None
+MakesNoCall world reached (says.Level name attr block) = Unit {0}
 MakesNoCall world reached says.Status = Unit {0}
 MakesNoCall world reached says.LongLine = Unit {0}
 MakesNoCall world reached says.OpenBlock = Unit {0}
@@ -92,42 +98,46 @@ SchemaGives (Idle store) block reply = IsLine is_declared reply
 SchemaGives (Hollow store) block reply = IsLine is_declared reply
 SchemaGives (Pending refresh) block reply = IsLine is_declared reply
 
--- a session that has this, over these files, gives this reply to a command
-abbrev pub Gives : State → Files → Command → List ℕ → Type 0
-Gives state files (says.Schema block) reply = SchemaGives state block reply
-Gives state files (says.Load block) reply = LoadGives state files (Rows block) reply
-Gives state files (says.LoadNumbered number block) reply = LoadGives state files (Numbered number block) reply
-Gives state files (says.Generate start rows) reply = LoadGives state files (Generator start rows) reply
-Gives state files (says.Slice text) reply = SliceGives (store_of state) files text reply
-Gives state files (says.Explain text) reply = reply ≡ explain_text (store_of state) text
-Gives state files (says.Sql text) reply = QueryGives (store_of state) files text reply
-Gives state files says.Status reply = reply ≡ state_text state
-Gives state files says.Upgrade reply = UpgradeGives state files reply
-Gives state files (says.Begin block) reply = BeginGives state block reply
-Gives state files (says.Step n) reply = reply ≡ pending_line state stepped_text
-Gives state files says.Finish reply = FinishGives state files reply
-Gives state files says.Abandon reply = reply ≡ pending_line state abandoned_text
-Gives state files says.LongLine reply = IsLine long_line reply
-Gives state files says.OpenBlock reply = IsLine open_block reply
-Gives state files says.Unknown reply = IsLine is_unknown reply
+-- a session that has this and these levels, over these files, gives this reply to a command
+abbrev pub Gives : List Level → State → Files → Command → List ℕ → Type 0
+Gives levels state files (says.Schema block) reply = SchemaGives state block reply
+Gives levels state files (says.Load block) reply = LoadGives state files (Rows block) reply
+Gives levels state files (says.LoadNumbered number block) reply = LoadGives state files (Numbered number block) reply
+Gives levels state files (says.Generate start rows) reply = LoadGives state files (Generator start rows) reply
+Gives levels state files (says.Slice text) reply = SliceGives (store_of state) files text reply
+Gives levels state files (says.Explain text) reply = reply ≡ explain_text (store_of state) text
+Gives levels state files (says.Sql text) reply = QueryGives (store_of state) files text reply
+Gives levels state files (says.Rollup text) reply = RollupGives levels (store_of state) files text reply
+Gives levels state files (says.Level name attr block) reply = reply ≡ leveled_by levels (store_of state) name attr block
+Gives levels state files says.Status reply = reply ≡ state_text state
+Gives levels state files says.Upgrade reply = UpgradeGives state files reply
+Gives levels state files (says.Begin block) reply = BeginGives state block reply
+Gives levels state files (says.Step n) reply = reply ≡ pending_line state stepped_text
+Gives levels state files says.Finish reply = FinishGives state files reply
+Gives levels state files says.Abandon reply = reply ≡ pending_line state abandoned_text
+Gives levels state files says.LongLine reply = IsLine long_line reply
+Gives levels state files says.OpenBlock reply = IsLine open_block reply
+Gives levels state files says.Unknown reply = IsLine is_unknown reply
 
 -- ---- damage
 
--- damage that a command tells is there; no command but these eight tells any
-abbrev pub TellsDamage : State → Files → Command → Stop → Type 0
-TellsDamage state files (says.Slice text) stop = SliceTells (store_of state) files (says.Slice text) stop
-TellsDamage state files (says.Load block) stop = LoadTells state files (Rows block) stop
-TellsDamage state files (says.LoadNumbered number block) stop = LoadTells state files (Numbered number block) stop
-TellsDamage state files (says.Generate start rows) stop = LoadTells state files (Generator start rows) stop
-TellsDamage state files (says.Step n) stop = FinishTells state files stop
-TellsDamage state files says.Finish stop = FinishTells state files stop
-TellsDamage state files says.Upgrade stop = UpgradeTells state files stop
-TellsDamage state files (says.Schema block) stop = IsNoDamage stop
-TellsDamage state files (says.Explain text) stop = IsNoDamage stop
-TellsDamage state files (says.Sql text) stop = FoldTells (store_of state) files (says.Sql text) stop
-TellsDamage state files says.Status stop = IsNoDamage stop
-TellsDamage state files says.LongLine stop = IsNoDamage stop
-TellsDamage state files says.OpenBlock stop = IsNoDamage stop
-TellsDamage state files (says.Begin block) stop = IsNoDamage stop
-TellsDamage state files says.Abandon stop = IsNoDamage stop
-TellsDamage state files says.Unknown stop = IsNoDamage stop
+-- damage that a command tells is there
+abbrev pub TellsDamage : List Level → State → Files → Command → Stop → Type 0
+TellsDamage levels state files (says.Slice text) stop = SliceTells levels (store_of state) files (says.Slice text) stop
+TellsDamage levels state files (says.Load block) stop = LoadTells state files (Rows block) stop
+TellsDamage levels state files (says.LoadNumbered number block) stop = LoadTells state files (Numbered number block) stop
+TellsDamage levels state files (says.Generate start rows) stop = LoadTells state files (Generator start rows) stop
+TellsDamage levels state files (says.Step n) stop = FinishTells state files stop
+TellsDamage levels state files says.Finish stop = FinishTells state files stop
+TellsDamage levels state files says.Upgrade stop = UpgradeTells state files stop
+TellsDamage levels state files (says.Schema block) stop = IsNoDamage stop
+TellsDamage levels state files (says.Explain text) stop = IsNoDamage stop
+TellsDamage levels state files (says.Sql text) stop = FoldTells levels (store_of state) files (says.Sql text) stop
+TellsDamage levels state files (says.Rollup text) stop = FoldTells levels (store_of state) files (says.Rollup text) stop
+TellsDamage levels state files (says.Level name attr block) stop = IsNoDamage stop
+TellsDamage levels state files says.Status stop = IsNoDamage stop
+TellsDamage levels state files says.LongLine stop = IsNoDamage stop
+TellsDamage levels state files says.OpenBlock stop = IsNoDamage stop
+TellsDamage levels state files (says.Begin block) stop = IsNoDamage stop
+TellsDamage levels state files says.Abandon stop = IsNoDamage stop
+TellsDamage levels state files says.Unknown stop = IsNoDamage stop

@@ -6,7 +6,13 @@ use Rattle.fact_model.specs.declared.slice.Row.{Row}
 use Rattle.fact_model.specs.declared.slice.Slice.{Slice}
 use Rattle.forest_root.specs.declared.forest.Store.{Store}
 use Rattle.replica_route.specs.Picked.{IsPicked}
-use Rattle.reply_text.specs.Replies.{line, query_text, no_schema, not_covered}
+use Rattle.reply_text.specs.Replies.{answer_text, line, query_text, slice_text, no_schema, not_covered}
+use Rattle.cube_schema.specs.Kinds.{arity}
+use Rattle.roll_up.specs.Levels.{extended}
+use Rattle.roll_up.specs.Lifted.{rolled_up}
+use Rattle.roll_up.specs.declared.level.Level.{Level}
+use Rattle.slice_lang.specs.Reading.{slice_of}
+use Rattle.slice_lang.specs.declared.refusal.SliceRefusal.{SliceRefusal}
 use Rattle.script_lang.specs.declared.command.Command.{Command}
 use Rattle.slice_exec.specs.Answers.{IsJudged}
 use Rattle.slice_exec.specs.declared.stop.AnswerStop.TheVariants as answers
@@ -16,7 +22,7 @@ use Rattle.sql_lang.specs.declared.refusal.SqlRefusal.{SqlRefusal}
 use Rattle.sql_slice.specs.Plans.{plan_of}
 use Rattle.sql_slice.specs.RowFold.{query_text as records_text}
 use Rattle.sql_slice.specs.declared.planned.Plan.{Plan}
-use Rattle.plain_machine.specs.Machine.{asked_by, is_covered}
+use Rattle.plain_machine.specs.Machine.{asked_by, base_slice, is_covered}
 use Rattle.cube_state.specs.declared.stop.Stop.{Stop}
 use Rattle.cube_state.specs.declared.stop.Stop.TheVariants as stops
 use Rattle.cube_state.specs.Session.{IsLine}
@@ -47,9 +53,9 @@ TellsFold store files asked stops.Output = Unit {0}
 TellsFold store files asked stops.Memory = Unit {0}
 
 -- the same of the slice that a command has answered; without a schema no damage is told
-abbrev pub FoldTells : Option Store → Files → Command → Stop → Type 0
-FoldTells None files command stop = IsNoDamage stop
-FoldTells (Some store) files command stop = TellsFold store files (asked_by store.forest.schema command) stop
+abbrev pub FoldTells : List Level → Option Store → Files → Command → Stop → Type 0
+FoldTells levels None files command stop = IsNoDamage stop
+FoldTells levels (Some store) files command stop = TellsFold store files (asked_by store.forest.schema levels command) stop
 
 -- ---- the reply to a query
 
@@ -78,3 +84,26 @@ GivesQuery store files (Ok q) reply =
 abbrev pub QueryGives : Option Store → Files → List ℕ → List ℕ → Type 0
 QueryGives None files text reply = IsLine no_schema reply
 QueryGives (Some store) files text reply = GivesQuery store files (query_of store.forest.schema text) reply
+
+-- ---- the reply to a roll-up
+
+-- the rows of the base slice in these files, which add up; none where no view covers it
+abbrev pub FindsBase : Store → Files → Slice → Option (List Row) → Type 0
+FindsBase store files s (Some rows) = (is_covered store.forest.schema s ≡ true) × AreRowsIn store files s rows × AddUp rows
+FindsBase store files s None = is_covered store.forest.schema s ≡ false
+
+-- the text of what was found, rolled up
+abbrev pub rolled_found : Store → List Level → Slice → Option (List Row) → List ℕ
+rolled_found store levels s (Some rows) = answer_text (rolled_up (arity store.forest.schema) levels s rows)
+rolled_found store levels s None = line not_covered
+
+-- the reply to a slice that was read, or to a text that is none
+abbrev pub GivesRolled : List Level → Store → Files → Result Slice SliceRefusal → List ℕ → Type 0
+GivesRolled levels store files (Err refusal) reply = reply ≡ slice_text refusal
+GivesRolled levels store files (Ok s) reply =
+    (found : Option (List Row)) × FindsBase store files (base_slice store.forest.schema levels s) found × (reply ≡ rolled_found store levels s found)
+
+-- the reply to the text of a roll-up, of a session that has this store and these levels
+abbrev pub RollupGives : List Level → Option Store → Files → List ℕ → List ℕ → Type 0
+RollupGives levels None files text reply = IsLine no_schema reply
+RollupGives levels (Some store) files text reply = GivesRolled levels store files (slice_of (extended store.forest.schema levels) text) reply

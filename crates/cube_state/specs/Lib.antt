@@ -7,6 +7,7 @@ pub mod Commands
 pub mod Costs
 pub mod Folds
 pub mod Frames
+pub mod Levels
 pub mod Moves
 pub mod Session
 pub mod Slices

@@ -73,6 +73,8 @@ reached_behind world reached says.Upgrade = record reached { format = format_upg
 reached_behind world reached (says.Slice text) = reached
 reached_behind world reached (says.Explain text) = reached
 reached_behind world reached (says.Sql text) = reached
+reached_behind world reached (says.Level name attr block) = reached
+reached_behind world reached (says.Rollup text) = reached
 reached_behind world reached says.Status = reached
 reached_behind world reached says.LongLine = reached
 reached_behind world reached says.OpenBlock = reached

@@ -5,6 +5,7 @@ use Rattle.fact_model.specs.declared.slice.Row.{Row}
 use Rattle.fact_model.specs.declared.slice.Slice.{Slice}
 use Rattle.forest_root.specs.declared.forest.Store.{Store}
 use Rattle.reply_text.specs.Replies.{line, answer_text, slice_text, no_schema, not_covered}
+use Rattle.roll_up.specs.declared.level.Level.{Level}
 use Rattle.script_lang.specs.declared.command.Command.{Command}
 use Rattle.slice_exec.specs.Answers.{IsJudged}
 use Rattle.slice_exec.specs.declared.stop.AnswerStop.TheVariants as answers
@@ -68,6 +69,6 @@ TellsSpoilt store files asked stops.Output = Unit {0}
 TellsSpoilt store files asked stops.Memory = Unit {0}
 
 -- the same of the slice that a command has answered; without a schema no damage is told
-abbrev pub SliceTells : Option Store → Files → Command → Stop → Type 0
-SliceTells None files command stop = IsNoDamage stop
-SliceTells (Some store) files command stop = TellsSpoilt store files (asked_by store.forest.schema command) stop
+abbrev pub SliceTells : List Level → Option Store → Files → Command → Stop → Type 0
+SliceTells levels None files command stop = IsNoDamage stop
+SliceTells levels (Some store) files command stop = TellsSpoilt store files (asked_by store.forest.schema levels command) stop

@@ -5,6 +5,7 @@ use Rattle.fact_model.specs.declared.slice.Slice.{Slice}
 use Rattle.cube_schema.specs.declared.schema.Schema.{Schema}
 use Rattle.forest_pages.specs.Forest.{body_counts}
 use Rattle.forest_root.specs.declared.forest.Store.{Store}
+use Rattle.roll_up.specs.declared.level.Level.{Level}
 use Rattle.script_lang.specs.declared.command.Command.{Command}
 use Rattle.slice_exec.specs.Costs.{visits_over}
 use Rattle.replica_route.specs.Picked.{IsPicked}
@@ -20,6 +21,14 @@ store_of Empty = None
 store_of (Idle store) = Some store
 store_of (Hollow store) = Some store
 store_of (Pending refresh) = Some refresh.store
+
+-- and that schema
+abbrev pub schema_from : Option Store → Option Schema
+schema_from None = None
+schema_from (Some store) = Some store.forest.schema
+
+abbrev pub schema_of : State → Option Schema
+schema_of state = schema_from (store_of state)
 
 -- ---- over a world
 
@@ -46,18 +55,18 @@ ReadsFor format world command cost = ReadsFrom format world.kept (asked_slice wo
 
 -- ---- over what a session has
 
--- the slice that it has answered, if it has one answered
-abbrev pub asked_from : Option Store → Command → Option Slice
-asked_from None command = None
-asked_from (Some store) command = asked_by store.forest.schema command
+-- the slice that it has answered with these levels, if it has one answered
+abbrev pub asked_from : List Level → Option Store → Command → Option Slice
+asked_from levels None command = None
+asked_from levels (Some store) command = asked_by store.forest.schema levels command
 
-abbrev pub asked_for : State → Command → Option Slice
-asked_for state command = asked_from (store_of state) command
+abbrev pub asked_for : List Level → State → Command → Option Slice
+asked_for levels state command = asked_from levels (store_of state) command
 
 abbrev pub is_asked : Option Slice → Bool
 is_asked None = false
 is_asked (Some s) = true
 
 -- whether it goes to pages
-abbrev pub asks_pages : State → Command → Bool
-asks_pages state command = is_asked (asked_for state command)
+abbrev pub asks_pages : List Level → State → Command → Bool
+asks_pages levels state command = is_asked (asked_for levels state command)

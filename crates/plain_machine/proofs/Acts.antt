@@ -21,7 +21,12 @@ use Rattle.script_lang.specs.declared.command.Command.TheVariants as says
 use Rattle.forest_pages.specs.Forest.{body_counts}
 use Rattle.replica_route.specs.Picked.{picked}
 use Rattle.replica_route.specs.declared.picking.Choice.{Choice}
-use Rattle.reply_text.specs.Replies.{line, already_text, gap_text, numbered, query_text, run_text, schema_text, batch_text, slice_text, answer_text}
+use Rattle.reply_text.specs.Replies.{line, already_text, gap_text, level_text, numbered, query_text, run_text, schema_text, batch_text, slice_text, answer_text}
+use Rattle.roll_up.specs.Levels.{extended, lift}
+use Rattle.roll_up.specs.Reading.{level_of}
+use Rattle.roll_up.specs.declared.level.Level.{Level}
+use Rattle.roll_up.specs.declared.refusal.LevelRefusal.{LevelRefusal}
+use Rattle.roll_up.specs.declared.refusal.LevelRefusal.TheVariants as levels
 use Rattle.slice_lang.specs.declared.refusal.SliceRefusal.{SliceRefusal}
 use Rattle.slice_lang.specs.declared.refusal.SliceRefusal.TheVariants as slices
 use Rattle.slice_lang.specs.Reading.{slice_of}
@@ -34,7 +39,7 @@ use Rattle.sql_slice.specs.SqlRows.{records_text, sql_reply, sqlrows}
 use Rattle.plain_machine.specs.declared.batch_source.BatchSource.{BatchSource}
 use Rattle.plain_machine.specs.declared.batch_source.BatchSource.TheVariants.{Rows, Numbered, Generator}
 use Rattle.plain_machine.specs.World.{Kept, World, Warehouse}
-use Rattle.plain_machine.specs.Machine.{Answer, Given, abandon, accepted, act, batch_from, begin, begun, begun_or_refused, block_read, committed, declare, declare_over, declared, explain, explain_over, explain_reply, fact_limit, facts_or_refusal, finish, first_full, first_heavy, full_refusal, heavy_refusal, is_covered, load, pending_over, picked_reply, query, query_over, query_reply, read_by, refusal_of, replies_with, rows_reply, slice, slice_over, slice_reply, status_over, status_text, step, take_over, unless, upgrade, upgrade_over, with_last, with_number}
+use Rattle.plain_machine.specs.Machine.{Answer, Given, abandon, accepted, act, batch_from, begin, begun, begun_or_refused, block_read, committed, declare, declare_over, declared, explain, explain_over, explain_reply, fact_limit, facts_or_refusal, finish, first_full, first_heavy, full_refusal, base_slice, heavy_refusal, is_covered, level, level_over, level_reply, lifted_reply, load, pending_over, picked_reply, query, query_over, query_reply, read_by, refusal_of, replies_with, read_reply, rollup, rollup_over, rollup_reply, rows_reply, slice, slice_over, slice_reply, status_over, status_text, step, take_over, unless, unread_reply, upgrade, upgrade_over, with_last, with_number}
 use Rattle.plain_machine.specs.Stages.{size, makes_stage}
 use Rattle.plain_machine.specs.Histories.{Batch, batch_by}
 use Rattle.plain_machine.proofs.Outcomes.{Outcome, stays, declares, commits, counts, outcome}
@@ -230,6 +235,48 @@ query_some : (kept : Kept) (text : List ℕ) → 0 < length (query_over kept tex
 query_some None text = some_line (codes "refused no schema")
 query_some (Some warehouse) text = query_reply_some warehouse.schema warehouse.facts (query_of warehouse.schema text)
 
+level_refused_some : (refusal : LevelRefusal) → 0 < length (level_text refusal)
+level_refused_some levels.Name = some_line (codes "refused level name")
+level_refused_some levels.Attribute = some_line (codes "refused level attribute")
+level_refused_some levels.Many = some_line (codes "refused level many")
+level_refused_some levels.Rows = batch_some refusals.Rows
+level_refused_some (levels.Fields row) = batch_some (refusals.Fields row)
+level_refused_some (levels.Number row) = batch_some (refusals.Number row 1)
+level_refused_some (levels.Long row field) = batch_some (refusals.Long row field)
+level_refused_some (levels.Repeated row) = behind (codes "refused row ") _ (behind (decimal row) _ (some_line (codes " repeated")))
+level_refused_some levels.Memory = some_line []
+
+read_reply_some : (read : Result Level LevelRefusal) → 0 < length (read_reply read)
+read_reply_some (Err refusal) = level_refused_some refusal
+read_reply_some (Ok l) = some_number (codes "leveled ") (length l.parents)
+
+unread_reply_some : (read : Result Level LevelRefusal) → 0 < length (unread_reply read)
+unread_reply_some (Err refusal) = level_refused_some refusal
+unread_reply_some (Ok l) = some_line (codes "refused block")
+
+pub level_reply_some : (schema : Schema) (known : List Level) (name attr : List ℕ) (block : Block) → 0 < length (level_reply schema known name attr block)
+level_reply_some schema known name attr (Whole bytes) = read_reply_some (level_of schema known name attr bytes)
+level_reply_some schema known name attr Long = unread_reply_some (level_of schema known name attr [])
+
+level_some : (kept : Kept) (known : List Level) (name attr : List ℕ) (block : Block) → 0 < length (level_over kept known name attr block)
+level_some None known name attr block = some_line (codes "refused no schema")
+level_some (Some warehouse) known name attr block = level_reply_some warehouse.schema known name attr block
+
+lifted_some : (schema : Schema) (known : List Level) (facts : List Fact) (s : Slice) → 0 < length (lifted_reply schema known facts s)
+lifted_some schema known facts s = by (is_covered schema (base_slice schema known s))
+  where
+    by : (b : Bool) → 0 < length (cond b (answer_text (rows_of (map (lift known) facts) s)) (line (codes "refused notcovered")))
+    by true = answer_some (rows_of (map (lift known) facts) s)
+    by false = some_line (codes "refused notcovered")
+
+rollup_reply_some : (schema : Schema) (known : List Level) (facts : List Fact) (read : Result Slice SliceRefusal) → 0 < length (rollup_reply schema known facts read)
+rollup_reply_some schema known facts (Err refusal) = refused_some refusal
+rollup_reply_some schema known facts (Ok s) = lifted_some schema known facts s
+
+rollup_some : (kept : Kept) (known : List Level) (text : List ℕ) → 0 < length (rollup_over kept known text)
+rollup_some None known text = some_line (codes "refused no schema")
+rollup_some (Some warehouse) known text = rollup_reply_some warehouse.schema known warehouse.facts (slice_of (extended warehouse.schema known) text)
+
 status_some : (kept : Kept) (pending : Option (List Fact)) → 0 < length (status_over kept pending)
 status_some None pending = some_line (codes "no schema")
 status_some (Some warehouse) None = some_number (codes "facts ") (length warehouse.facts)
@@ -255,6 +302,8 @@ reply_some world says.Abandon = pending_some world _ world.kept world.pending (�
 reply_some world (says.Slice text) = slice_some world.kept text
 reply_some world (says.Explain text) = explain_some world.kept text
 reply_some world (says.Sql text) = query_some world.kept text
+reply_some world (says.Level name attr block) = level_some world.kept world.levels name attr block
+reply_some world (says.Rollup text) = rollup_some world.kept world.levels text
 reply_some world says.Status = status_some world.kept world.pending
 reply_some world says.Upgrade = upgrade_some world.kept world.pending
 reply_some world says.LongLine = some_line (codes "refused long line")
@@ -309,6 +358,14 @@ act_explain world text = refl
 pub act_sql : (world : World) (text : List ℕ) → act world (says.Sql text) ≡ query world text
 unfolding act
 act_sql world text = refl
+
+pub act_level : (world : World) (name attr : List ℕ) (block : Block) → act world (says.Level name attr block) ≡ level world name attr block
+unfolding act
+act_level world name attr block = refl
+
+pub act_rollup : (world : World) (text : List ℕ) → act world (says.Rollup text) ≡ rollup world text
+unfolding act
+act_rollup world text = refl
 
 pub act_status : (world : World) → act world says.Status ≡ (world, status_text world)
 unfolding act

@@ -1,10 +1,10 @@
 -- The plain machine: the reply to each command, and what is known behind it.
-use Rattle.std.specs.Prelude.{ℕ, suc, ◌+◌, Bool, cond, List, [], ◌∷◌, ◌++◌, length, nat_le, nat_lt, Option, Some, None, Result, Ok, Err}
+use Rattle.std.specs.Prelude.{ℕ, suc, ◌+◌, Bool, cond, List, [], ◌∷◌, ◌++◌, length, map, nat_le, nat_lt, Option, Some, None, Result, Ok, Err}
 use Rattle.std.specs.List.{list_any}
 use Rattle.cube_schema.specs.declared.schema.Attr.{Attr}
 use Rattle.cube_schema.specs.declared.schema.Schema.{Schema}
 use Rattle.cube_schema.specs.declared.schema.SchemaRefusal.{SchemaRefusal}
-use Rattle.cube_schema.specs.Kinds.{max_of}
+use Rattle.cube_schema.specs.Kinds.{arity, max_of}
 use Rattle.cube_schema.specs.Reading.{schema_of}
 use Rattle.view_points.specs.Codes.{names_of}
 use Rattle.fact_csv.specs.Batch.{batch_of}
@@ -22,7 +22,12 @@ use Rattle.script_lang.specs.declared.command.Command.TheVariants as says
 use Rattle.forest_pages.specs.Forest.{body_counts}
 use Rattle.replica_route.specs.Picked.{picked}
 use Rattle.replica_route.specs.declared.picking.Choice.{Choice}
-use Rattle.reply_text.specs.Replies.{line, already_text, choice_text, committed_text, facts_text, gap_text, pending_text, schema_text, batch_text, full_text, mass_text, query_text, slice_text, answer_text, unopened, no_schema, is_declared, long_schema, long_block, is_pending, none_pending, too_many_facts, is_empty, not_covered, long_line, open_block, is_unknown, declared_text, begun_text, stepped_text, abandoned_text, upgraded_text}
+use Rattle.reply_text.specs.Replies.{line, already_text, choice_text, committed_text, facts_text, gap_text, leveled_text, pending_text, schema_text, batch_text, full_text, level_text, mass_text, query_text, slice_text, answer_text, unopened, no_schema, is_declared, long_schema, long_block, is_pending, none_pending, too_many_facts, is_empty, not_covered, long_line, open_block, is_unknown, declared_text, begun_text, stepped_text, abandoned_text, upgraded_text}
+use Rattle.roll_up.specs.Bases.{base}
+use Rattle.roll_up.specs.Levels.{extended, lift}
+use Rattle.roll_up.specs.Reading.{level_of}
+use Rattle.roll_up.specs.declared.level.Level.{Level}
+use Rattle.roll_up.specs.declared.refusal.LevelRefusal.{LevelRefusal}
 use Rattle.slice_lang.specs.declared.refusal.SliceRefusal.{SliceRefusal}
 use Rattle.sql_lang.specs.Reading.{query_of}
 use Rattle.sql_lang.specs.declared.query.Query.{Query}
@@ -268,33 +273,125 @@ query_over (Some warehouse) text = query_reply warehouse.schema warehouse.facts 
 abbrev pub query : World → List ℕ → Answer
 query world text = (world, query_over world.kept text)
 
+-- ---- level
+
+-- the reply to a level that was read, or to one that is refused
+abbrev pub read_reply : Result Level LevelRefusal → List ℕ
+read_reply (Err refusal) = level_text refusal
+read_reply (Ok l) = leveled_text (length l.parents)
+
+-- a block that is too long is refused where the name and the attribute are not
+abbrev pub unread_reply : Result Level LevelRefusal → List ℕ
+unread_reply (Err refusal) = level_text refusal
+unread_reply (Ok l) = line long_block
+
+abbrev pub level_reply : Schema → List Level → List ℕ → List ℕ → Block → List ℕ
+level_reply schema levels name attr (Whole bytes) = read_reply (level_of schema levels name attr bytes)
+level_reply schema levels name attr Long = unread_reply (level_of schema levels name attr [])
+
+-- the level, where it was read
+abbrev pub level_read : Result Level LevelRefusal → List Level
+level_read (Err refusal) = []
+level_read (Ok l) = l ∷ []
+
+abbrev pub level_by : Option Schema → List Level → List ℕ → List ℕ → Block → List Level
+level_by None levels name attr block = []
+level_by (Some schema) levels name attr Long = []
+level_by (Some schema) levels name attr (Whole bytes) = level_read (level_of schema levels name attr bytes)
+
+-- the levels behind a command, by the schema that is declared: `level` alone adds one
+abbrev pub levels_behind : Option Schema → List Level → Command → List Level
+levels_behind schema levels (says.Level name attr block) = levels ++ level_by schema levels name attr block
+levels_behind schema levels (says.Schema block) = levels
+levels_behind schema levels (says.Load block) = levels
+levels_behind schema levels (says.LoadNumbered number block) = levels
+levels_behind schema levels (says.Generate start rows) = levels
+levels_behind schema levels (says.Begin block) = levels
+levels_behind schema levels (says.Step n) = levels
+levels_behind schema levels says.Finish = levels
+levels_behind schema levels says.Abandon = levels
+levels_behind schema levels (says.Slice text) = levels
+levels_behind schema levels (says.Explain text) = levels
+levels_behind schema levels (says.Sql text) = levels
+levels_behind schema levels (says.Rollup text) = levels
+levels_behind schema levels says.Status = levels
+levels_behind schema levels says.Upgrade = levels
+levels_behind schema levels says.LongLine = levels
+levels_behind schema levels says.OpenBlock = levels
+levels_behind schema levels says.Unknown = levels
+
+-- the schema that is declared
+abbrev pub schema_in : Kept → Option Schema
+schema_in None = None
+schema_in (Some warehouse) = Some warehouse.schema
+
+abbrev pub level_over : Kept → List Level → List ℕ → List ℕ → Block → List ℕ
+level_over None levels name attr block = line no_schema
+level_over (Some warehouse) levels name attr block = level_reply warehouse.schema levels name attr block
+
+abbrev pub level : World → List ℕ → List ℕ → Block → Answer
+level world name attr block = (
+  record world { levels = levels_behind (schema_in world.kept) world.levels (says.Level name attr block) },
+  level_over world.kept world.levels name attr block,
+)
+
+-- ---- rollup
+
+-- the slice that a roll-up is answered from
+abbrev pub base_slice : Schema → List Level → Slice → Slice
+base_slice schema levels s = base (arity schema) levels s
+
+-- the base slice, where some view covers it
+abbrev pub rolled_from : Schema → List Level → Result Slice SliceRefusal → Option Slice
+rolled_from schema levels (Err refusal) = None
+rolled_from schema levels (Ok s) = covered schema (Ok (base_slice schema levels s))
+
+-- the rows of the facts with their parents, or the refusal where no view has all attributes that are grouped or bound, or whose level is
+abbrev pub lifted_reply : Schema → List Level → List Fact → Slice → List ℕ
+lifted_reply schema levels facts s = cond (is_covered schema (base_slice schema levels s)) (answer_text (rows (map (lift levels) facts) s)) (line not_covered)
+
+-- the reply to a slice that was read, or to a text that is none
+abbrev pub rollup_reply : Schema → List Level → List Fact → Result Slice SliceRefusal → List ℕ
+rollup_reply schema levels facts (Err refusal) = slice_text refusal
+rollup_reply schema levels facts (Ok s) = lifted_reply schema levels facts s
+
+-- in the text a level may stand wherever a text attribute may
+abbrev pub rollup_over : Kept → List Level → List ℕ → List ℕ
+rollup_over None levels text = line no_schema
+rollup_over (Some warehouse) levels text = rollup_reply warehouse.schema levels warehouse.facts (slice_of (extended warehouse.schema levels) text)
+
+abbrev pub rollup : World → List ℕ → Answer
+rollup world text = (world, rollup_over world.kept world.levels text)
+
 -- ---- what is answered from pages
 
--- the slice that a command has answered from pages by this schema, if it has one answered
-abbrev pub asked_by : Schema → Command → Option Slice
-asked_by schema (says.Slice text) = covered schema (slice_of schema text)
-asked_by schema (says.Schema block) = None
-asked_by schema (says.Load block) = None
-asked_by schema (says.LoadNumbered number block) = None
-asked_by schema (says.Generate start rows) = None
-asked_by schema (says.Begin block) = None
-asked_by schema (says.Step n) = None
-asked_by schema says.Finish = None
-asked_by schema says.Abandon = None
-asked_by schema (says.Explain text) = None
-asked_by schema (says.Sql text) = queried schema (query_of schema text)
-asked_by schema says.Status = None
-asked_by schema says.Upgrade = None
-asked_by schema says.LongLine = None
-asked_by schema says.OpenBlock = None
-asked_by schema says.Unknown = None
+-- the slice that a command has answered from pages by this schema and these levels, if it has one answered
+abbrev pub asked_by : Schema → List Level → Command → Option Slice
+asked_by schema levels (says.Slice text) = covered schema (slice_of schema text)
+asked_by schema levels (says.Rollup text) = rolled_from schema levels (slice_of (extended schema levels) text)
+asked_by schema levels (says.Level name attr block) = None
+asked_by schema levels (says.Schema block) = None
+asked_by schema levels (says.Load block) = None
+asked_by schema levels (says.LoadNumbered number block) = None
+asked_by schema levels (says.Generate start rows) = None
+asked_by schema levels (says.Begin block) = None
+asked_by schema levels (says.Step n) = None
+asked_by schema levels says.Finish = None
+asked_by schema levels says.Abandon = None
+asked_by schema levels (says.Explain text) = None
+asked_by schema levels (says.Sql text) = queried schema (query_of schema text)
+asked_by schema levels says.Status = None
+asked_by schema levels says.Upgrade = None
+asked_by schema levels says.LongLine = None
+asked_by schema levels says.OpenBlock = None
+asked_by schema levels says.Unknown = None
 
-abbrev pub asked_over : Kept → Command → Option Slice
-asked_over None command = None
-asked_over (Some warehouse) command = asked_by warehouse.schema command
+abbrev pub asked_over : Kept → List Level → Command → Option Slice
+asked_over None levels command = None
+asked_over (Some warehouse) levels command = asked_by warehouse.schema levels command
 
 abbrev pub asked_slice : World → Command → Option Slice
-asked_slice world command = asked_over world.kept command
+asked_slice world command = asked_over world.kept world.levels command
 
 -- ---- status
 
@@ -321,6 +418,8 @@ act world says.Abandon = abandon world
 act world (says.Slice text) = slice world text
 act world (says.Explain text) = explain world text
 act world (says.Sql text) = query world text
+act world (says.Level name attr block) = level world name attr block
+act world (says.Rollup text) = rollup world text
 act world says.Status = (world, status_text world)
 act world says.Upgrade = upgrade world
 act world says.LongLine = replies_with world long_line

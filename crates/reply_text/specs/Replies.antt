@@ -7,6 +7,8 @@ use Rattle.fact_csv.specs.declared.refusal.RowRefusal.{RowRefusal}
 use Rattle.fact_csv.specs.declared.refusal.RowRefusal.TheVariants as rows
 use Rattle.fact_model.specs.declared.slice.Row.{Row}
 use Rattle.replica_route.specs.declared.picking.Choice.{Choice}
+use Rattle.roll_up.specs.declared.refusal.LevelRefusal.{LevelRefusal}
+use Rattle.roll_up.specs.declared.refusal.LevelRefusal.TheVariants as levels
 use Rattle.slice_lang.specs.declared.refusal.SliceRefusal.{SliceRefusal}
 use Rattle.slice_lang.specs.declared.refusal.SliceRefusal.TheVariants as slices
 use Rattle.sql_lang.specs.declared.refusal.SqlRefusal.{SqlRefusal}
@@ -38,7 +40,7 @@ is_declared = codes "refused declared"
 abbrev pub long_schema : List ℕ
 long_schema = codes "refused schema block"
 
--- the block of a batch is too long
+-- the block of a batch, or of a level, is too long
 abbrev pub long_block : List ℕ
 long_block = codes "refused block"
 
@@ -136,6 +138,22 @@ batch_text (rows.Fields row) = codes "refused row " ++ (decimal row ++ line (cod
 batch_text (rows.Number row field) = codes "refused row " ++ (decimal row ++ numbered (codes " number ") field)
 batch_text (rows.Long row field) = codes "refused row " ++ (decimal row ++ numbered (codes " long ") field)
 batch_text rows.Memory = line []
+
+-- a level has so many values with a parent
+abbrev pub leveled_text : ℕ → List ℕ
+leveled_text count = numbered (codes "leveled ") count
+
+-- the refusal of a level; a fault of its rows is told as that of a batch; want of memory is none, and has no text
+abbrev pub level_text : LevelRefusal → List ℕ
+level_text levels.Name = line (codes "refused level name")
+level_text levels.Attribute = line (codes "refused level attribute")
+level_text levels.Many = line (codes "refused level many")
+level_text levels.Rows = batch_text rows.Rows
+level_text (levels.Fields row) = batch_text (rows.Fields row)
+level_text (levels.Number row) = batch_text (rows.Number row 1)
+level_text (levels.Long row field) = batch_text (rows.Long row field)
+level_text (levels.Repeated row) = codes "refused row " ++ (decimal row ++ line (codes " repeated"))
+level_text levels.Memory = line []
 
 -- the refusal of a batch by the names of the attribute of this name
 abbrev pub full_text : List ℕ → List ℕ

@@ -1,6 +1,6 @@
 //! Replies of one line.
 ghost use Rattle.std.specs.Prelude.{◌≡◌, IfOk};
-ghost use Rattle.reply_text.specs.Replies.{line, numbered, committed_text, already_text, facts_text, pending_text, choice_text, run_text};
+ghost use Rattle.reply_text.specs.Replies.{line, numbered, committed_text, already_text, facts_text, leveled_text, pending_text, choice_text, run_text};
 
 use fact_model::Memory;
 use replica_route::Choice;
@@ -32,6 +32,13 @@ pub fn facts(alloc: Global, count: u64) -> Result<Vec<u8>, Memory>
     ensures { IfOk result (λ reply. reply.items ≡ facts_text count) }
 {
     numbered(alloc, "facts ", count)
+}
+
+/// The reply to a level, with the number of values that have a parent.
+pub fn leveled(alloc: Global, count: u64) -> Result<Vec<u8>, Memory>
+    ensures { IfOk result (λ reply. reply.items ≡ leveled_text count) }
+{
+    numbered(alloc, "leveled ", count)
 }
 
 /// How many facts there are, and how many are pending.

@@ -1,12 +1,14 @@
-//! Replies that refuse a schema, a batch, a slice or a query.
+//! Replies that refuse a schema, a batch, a level, a slice or a query.
 ghost use Rattle.std.specs.Prelude.{◌≡◌, ◌≢◌, ◌++◌, IfOk, OnOk};
 ghost use Rattle.fact_csv.specs.declared.refusal.RowRefusal.TheVariants as rows;
-ghost use Rattle.reply_text.specs.Replies.{line, schema_text, batch_text, gap_text, full_text, mass_text, slice_text, query_text};
+ghost use Rattle.roll_up.specs.declared.refusal.LevelRefusal.TheVariants as levels;
+ghost use Rattle.reply_text.specs.Replies.{line, schema_text, batch_text, gap_text, full_text, level_text, mass_text, slice_text, query_text};
 
 use crate::line::{numbered, plain};
 use cube_schema::SchemaRefusal;
 use fact_csv::RowRefusal;
 use fact_model::Memory;
+use roll_up::LevelRefusal;
 use slice_lang::SliceRefusal;
 use sql_lang::SqlRefusal;
 use std::alloc::Global;
@@ -60,6 +62,30 @@ fn refused_long(alloc: Global, row: u64, field: u64) -> Result<Vec<u8>, Memory>
     ensures { IfOk result (λ reply. reply.items ≡ batch_text (rows.Long row field)) }
 {
     Ok(format!(in alloc; "refused row {row} long {field}\n")?.into_bytes())
+}
+
+/// The refusal of a level by the first reason against it; a fault of its rows is told as that of a batch. Want of memory has no reply.
+pub fn refused_level(alloc: Global, refusal: LevelRefusal) -> Result<Vec<u8>, Memory>
+    ensures text { IfOk result (λ reply. reply.items ≡ level_text refusal) }
+    ensures refused { OnOk result (refusal ≢ LevelRefusal.Memory) }
+{
+    match refusal {
+        LevelRefusal::Name => plain(alloc, "refused level name"),
+        LevelRefusal::Attribute => plain(alloc, "refused level attribute"),
+        LevelRefusal::Many => plain(alloc, "refused level many"),
+        LevelRefusal::Rows => plain(alloc, "refused rows"),
+        LevelRefusal::Fields(row) => refused_fields(alloc, row),
+        LevelRefusal::Number(row) => refused_number(alloc, row, 1),
+        LevelRefusal::Long { row, field } => refused_long(alloc, row, field),
+        LevelRefusal::Repeated(row) => refused_repeated(alloc, row),
+        LevelRefusal::Memory => Err(Memory),
+    }
+}
+
+fn refused_repeated(alloc: Global, row: u64) -> Result<Vec<u8>, Memory>
+    ensures { IfOk result (λ reply. reply.items ≡ level_text (levels.Repeated row)) }
+{
+    Ok(format!(in alloc; "refused row {row} repeated\n")?.into_bytes())
 }
 
 /// The refusal of a numbered batch where the one of this number is due.

@@ -20,7 +20,7 @@ use row_fold::{LentValue, RowFold};
 use std::alloc::Global;
 
 /// Rolls the rows of the base slice up: those whose keys meet the conditions on levels, grouped anew, and their numbers joined. Where the
-/// rows are those of facts, these are the rows of the facts with their parents.
+/// rows are those of facts, these are the rows of the facts with their parents. An error is want of memory.
 pub fn fold_up(
     alloc: Global,
     schema: &Schema,
@@ -33,7 +33,8 @@ pub fn fold_up(
     requires form { All (HasForm (base (arity schema.now) levels.now slice.now)) rows.now }
     requires adds { AddUp rows.now }
 
-    ensures { (accepted : List facts.Fact) → All (λ (x : facts.Fact). length x.values ≡ arity schema.now) accepted
+    ensures exact { IfOk result (λ found. found ≡ rolled_up (arity schema.now) levels.now slice.now rows.now) }
+    ensures lifted { (accepted : List facts.Fact) → All (λ (x : facts.Fact). length x.values ≡ arity schema.now) accepted
         → rows.now ≡ plain.rows accepted (base (arity schema.now) levels.now slice.now)
         → IfOk result (λ found. found ≡ plain.rows (map (lift levels.now) accepted) slice.now) }
 {

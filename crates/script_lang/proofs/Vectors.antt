@@ -1,7 +1,7 @@
 -- Worked examples: the numbers and texts of commands, and the bytes of blocks.
 use Rattle.std.specs.Prelude.{◌≡◌, [], ◌∷◌, ◌++◌, codes, refl}
 use Rattle.script_lang.specs.declared.command.Block.TheVariants.{Whole}
-use Rattle.script_lang.specs.declared.command.Command.TheVariants.{Schema, Load, LoadNumbered, Begin, Step, Slice, Generate, Upgrade, Unknown}
+use Rattle.script_lang.specs.declared.command.Command.TheVariants.{Schema, Load, LoadNumbered, Begin, Step, Slice, Generate, Level, Rollup, Upgrade, Unknown}
 use Rattle.script_lang.specs.Script.{commands}
 
 numbers : commands (codes "step 0\nstep 007\r\nstep 18446744073709551615\ngenerate 1 262145\ngenerate 0 0\n")
@@ -31,3 +31,9 @@ numbered = refl
 ends : commands (codes "load\n end\nend \nEND\nends\nend\nload\na\r\n\r\nend\r\nload\nend\r\r\nend\r")
     ≡ Load (Whole (codes " end\nend \nEND\nends\n")) ∷ Load (Whole (codes "a\r\n\r\n")) ∷ Load (Whole (codes "end\r\r\n")) ∷ []
 ends = refl
+
+-- a level has two words that are not empty
+levels : commands (codes "level kind part\nbolt,steel\nend\nlevel kind part\r\nend\nrollup count by kind\nrollup \nlevel kind\nlevel  part\nlevel kind \nlevel kind part x\nlevel kind  part\nrollup\n")
+    ≡ Level (codes "kind") (codes "part") (Whole (codes "bolt,steel\n")) ∷ Level (codes "kind") (codes "part") (Whole []) ∷ Rollup (codes "count by kind") ∷ Rollup []
+    ∷ Unknown ∷ Unknown ∷ Unknown ∷ Unknown ∷ Unknown ∷ Unknown ∷ []
+levels = refl

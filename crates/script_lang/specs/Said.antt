@@ -1,7 +1,7 @@
 -- What one line of a script says.
-use Rattle.std.specs.Prelude.{ℕ, ◌^◌, Bool, cond, ◌&&◌, ◌==◌, List, length, drop, nat_lt, nat_eq, codes, Option, Some, None}
+use Rattle.std.specs.Prelude.{ℕ, ◌^◌, Bool, cond, ◌&&◌, ◌||◌, ◌==◌, List, length, drop, nat_lt, nat_eq, codes, Option, Some, None}
 use Rattle.std.specs.Cmp.Lexicographic.{pointwise}
-use Rattle.std.specs.List.{starts_with, before_first, after_first}
+use Rattle.std.specs.List.{starts_with, before_first, after_first, list_any}
 use Rattle.std.specs.Str.Parse.{digits_value}
 use Rattle.std.specs.Str.Lines.{strip_carriage_return}
 use Rattle.fact_model.specs.Number.{is_numeral}
@@ -36,6 +36,10 @@ generate_in (Some start) (Some rows) = says.Generate start rows
 abbrev pub is_space : ℕ → Bool
 is_space byte = byte == 32
 
+-- a level has a name and the name of an attribute, two words that are not empty
+abbrev pub level_in : List ℕ → List ℕ → Said
+level_in name attr = cond (length name == 0 || (length attr == 0 || list_any is_space attr)) (Says says.Unknown) (Opens (opens.Level name attr))
+
 -- what a line says that is not one word alone
 abbrev pub said_with : List ℕ → Said
 said_with line =
@@ -43,10 +47,12 @@ said_with line =
     (cond (starts_with nat_eq line (codes "slice ")) (Says (says.Slice (drop 6 line)))
     (cond (starts_with nat_eq line (codes "explain ")) (Says (says.Explain (drop 8 line)))
     (cond (starts_with nat_eq line (codes "sql ")) (Says (says.Sql (drop 4 line)))
+    (cond (starts_with nat_eq line (codes "rollup ")) (Says (says.Rollup (drop 7 line)))
+    (cond (starts_with nat_eq line (codes "level ")) (level_in (before_first is_space (drop 6 line)) (after_first is_space (drop 6 line)))
     (cond (starts_with nat_eq line (codes "step ")) (Says (step_in (count_in (drop 5 line))))
     (cond (starts_with nat_eq line (codes "generate "))
     (Says (generate_in (count_in (before_first is_space (drop 9 line))) (count_in (after_first is_space (drop 9 line)))))
-    (Says says.Unknown))))))
+    (Says says.Unknown))))))))
 
 -- what a line says, without the carriage return at its end
 abbrev pub said_in : List ℕ → Said

@@ -41,6 +41,7 @@ command_with opens.Schema block = says.Schema block
 command_with opens.Load block = says.Load block
 command_with (opens.Numbered n) block = says.LoadNumbered n block
 command_with opens.Begin block = says.Begin block
+command_with (opens.Level name attr) block = says.Level name attr block
 
 -- the command of a block that ends
 abbrev pub ended : Begun → Command
@@ -86,6 +87,8 @@ KeepsLimit (says.Schema block) = IsWithin block
 KeepsLimit (says.Load block) = IsWithin block
 KeepsLimit (says.LoadNumbered n block) = IsWithin block
 KeepsLimit (says.Begin block) = IsWithin block
+KeepsLimit (says.Level name attr block) = IsWithin block
+KeepsLimit (says.Rollup text) = Unit {0}
 KeepsLimit (says.Step count) = Unit {0}
 KeepsLimit says.Finish = Unit {0}
 KeepsLimit says.Abandon = Unit {0}

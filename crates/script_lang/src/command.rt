@@ -38,6 +38,17 @@ pub enum Command {
     Explain(Text),
     /// Answer the query of this text, which may be empty.
     Sql(Text),
+    /// Give each value of an attribute a parent, by the pairs of this block. The level lives until the script ends.
+    Level {
+        /// Its name, which is not empty.
+        name: Text,
+        /// The name of the attribute, which is not empty.
+        attr: Text,
+        /// The values with their parents.
+        block: Block,
+    },
+    /// Answer the slice of this text, which may be empty and may name levels.
+    Rollup(Text),
     /// Tell how many facts there are.
     Status,
     /// Make the pages anew in the greatest format.

@@ -19,7 +19,7 @@ const LONGEST_BLOCK: usize = 67_108_864;
 const ENDS_NO_BLOCK: usize = 5;
 
 /// Which block is open.
-#[derive(Clone, Copy, Debug, PartialEq, Eq)]
+#[derive(Drop)]
 pub enum Inside {
     Nothing,
     Block(Opening),
@@ -64,7 +64,7 @@ impl Reader {
         ensures short { IsShort self.new }
         ensures err { OnErr result (self.new ≡ self.old) }
     {
-        let room = most(self.inside).saturating_sub(self.text.len());
+        let room = most(&self.inside).saturating_sub(self.text.len());
         Ok(self.text.extend_from_slice(front(bytes, room))?)
     }
 
@@ -83,7 +83,7 @@ impl Reader {
         ensures short { IsShort self.new }
         ensures err { OnErr result (self.new ≡ self.old) }
     {
-        match self.inside {
+        match mem::replace(&mut self.inside, Inside::Nothing) {
             Inside::Nothing => {
                 let (command, inside) = follow(said_by(alloc, self.text.as_slice())?);
                 self.text.clear();
@@ -93,17 +93,20 @@ impl Reader {
             Inside::Block(opening) => {
                 if is_end(&self.text[self.start..]) {
                     let text = take_front(alloc, &mut self.text, self.start);
-                    self.inside = Inside::Nothing;
                     self.start = 0;
                     return Ok(Some(command_with(opening, Block::Whole(text))));
                 }
-                self.text.push(b'\n')?;
+                if self.text.push(b'\n').is_err() {
+                    self.inside = Inside::Block(opening);
+                    return Err(Memory);
+                }
                 if self.text.len() > LONGEST_BLOCK {
                     self.text.clear();
                     self.inside = Inside::LongBlock(opening);
                     self.start = 0;
                     return Ok(None);
                 }
+                self.inside = Inside::Block(opening);
                 self.start = self.text.len();
                 Ok(None)
             }
@@ -111,9 +114,9 @@ impl Reader {
                 let ends = is_end(self.text.as_slice());
                 self.text.clear();
                 if !ends {
+                    self.inside = Inside::LongBlock(opening);
                     return Ok(None);
                 }
-                self.inside = Inside::Nothing;
                 Ok(Some(command_with(opening, Block::Long)))
             }
         }
@@ -124,7 +127,7 @@ impl Reader {
         ensures was { result ≡ is_some self.old.block }
         ensures after { self.new ≡ record { block = None; line = [] } }
     {
-        let was = self.inside != Inside::Nothing;
+        let was = !matches!(self.inside, Inside::Nothing);
         self.inside = Inside::Nothing;
         self.text.clear();
         self.start = 0;
@@ -133,8 +136,8 @@ impl Reader {
 }
 
 /// How many bytes are kept at most. Where they are so many, the line is too long for a command, or with it its block is too long.
-fn most(inside: Inside) -> usize
-    ensures { result ≡ most (block_in inside 0 []) }
+fn most(inside: &Inside) -> usize
+    ensures { result ≡ most (block_in inside.now 0 []) }
 {
     match inside {
         Inside::Nothing => LONGEST_LINE + 1,
@@ -176,5 +179,6 @@ fn command_with(opening: Opening, block: Block) -> Command
         Opening::Load => Command::Load(block),
         Opening::Numbered(number) => Command::LoadNumbered { number, block },
         Opening::Begin => Command::Begin(block),
+        Opening::Level { name, attr } => Command::Level { name, attr, block },
     }
 }

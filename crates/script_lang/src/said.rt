@@ -2,7 +2,7 @@
 ghost use Rattle.std.specs.Prelude.{◌≡◌, IfOk};
 ghost use Rattle.std.specs.List.{before_first, after_first};
 ghost use Rattle.script_lang.specs.Script.{KeepsLimit, SaysNoBlock};
-ghost use Rattle.script_lang.specs.Said.{is_text, said_in, said_with, said_by, is_end, is_space, load_in, step_in, generate_in, count_in};
+ghost use Rattle.script_lang.specs.Said.{is_text, said_in, said_with, said_by, is_end, is_space, level_in, load_in, step_in, generate_in, count_in};
 
 use crate::command::Command;
 use crate::count::read_count;
@@ -14,13 +14,15 @@ use std::alloc::Global;
 pub const LONGEST_LINE: usize = 65_536;
 
 /// What a block is for.
-#[derive(Clone, Copy, Debug, PartialEq, Eq)]
+#[derive(Drop)]
 pub enum Opening {
     Schema,
     Load,
     /// A load with this number.
     Numbered(u64),
     Begin,
+    /// The level of this name, over the attribute of this name.
+    Level { name: Text, attr: Text },
 }
 
 /// What a line between two blocks says.
@@ -101,6 +103,13 @@ fn said_with(alloc: Global, line: &[u8]) -> Result<Said, Memory>
         let text = Text::from_bytes(alloc, after(line, 4))?;
         return Ok(Said::Says(Command::Sql(text)));
     }
+    if line.starts_with(b"rollup ") {
+        let text = Text::from_bytes(alloc, after(line, 7))?;
+        return Ok(Said::Says(Command::Rollup(text)));
+    }
+    if line.starts_with(b"level ") {
+        return level(alloc, after(line, 6));
+    }
     if line.starts_with(b"step ") {
         return Ok(Said::Says(step(after(line, 5))));
     }
@@ -119,6 +128,20 @@ fn load(number: &[u8]) -> Said
         None | Some(0) => Said::Says(Command::Unknown),
         Some(number) => Said::Opens(Opening::Numbered(number)),
     }
+}
+
+/// What `level` with these words says, which are two.
+fn level(alloc: Global, words: &[u8]) -> Result<Said, Memory>
+    ensures said { IfOk result (λ said. said ≡ level_in (before_first is_space words.now) (after_first is_space words.now)) }
+    ensures fits { IfOk result SaysNoBlock }
+{
+    let (name, attr) = cut_at(b' ', words);
+    if name.is_empty() || attr.is_empty() || attr.contains(&b' ') {
+        return Ok(Said::Says(Command::Unknown));
+    }
+    let name = Text::from_bytes(alloc, name)?;
+    let attr = Text::from_bytes(alloc, attr)?;
+    Ok(Said::Opens(Opening::Level { name, attr }))
 }
 
 /// The command `step` with this word.
