@@ -1,17 +1,16 @@
 -- What holds after old points were moved one after another.
-use Rattle.std.proofs.Common.{◌≡◌, ◌≤◌, ◌<◌, ◌+◌, ◌*◌, ℕ, zero, suc, true, List, [], length, drop, refl, sym, ap, subst, ◌∙◌, arith}
+use Rattle.std.proofs.Common.{◌≡◌, ◌≤◌, ◌+◌, ◌*◌, ℕ, true, List, [], length, refl, ap, subst, ◌∙◌, arith}
 use Rattle.cube_point.specs.declared.point.Entry.{Entry}
 use Rattle.cube_point.specs.declared.point.Shape.{Shape}
 use Rattle.page_fmt.specs.declared.page.Place.{Place}
 use Rattle.page_fmt.specs.declared.page.TheConstants.{PAGE}
-use Rattle.tree_pack.specs.Moving.{Moving}
 use Rattle.tree_scan.specs.Streaming.{Scanned}
 use Rattle.merge_pack.specs.declared.side.Advance.TheVariants as advances
 use Rattle.merge_pack.specs.Building.{IsBuilding}
-use Rattle.merge_pack.specs.Merging.{Goes, KeepsOn, Merger, Merging, merging_of}
+use Rattle.merge_pack.specs.Merging.{Goes, KeepsOn, Merger, merging_of}
 use Rattle.merge_pack.specs.Safe.{IsSafe, falls}
 use Rattle.merge_pack.specs.Standing.{IsMergeOf}
-use Rattle.merge_pack.specs.Stepping.{Steps, in_memory}
+use Rattle.merge_pack.specs.Stepping.{in_memory}
 use Rattle.merge_pack.proofs.Building.{steps-build}
 use Rattle.merge_pack.proofs.OneByOne.{Carries, carries_none, carries_one}
 use Rattle.merge_pack.proofs.Safety.{goes-next, goes-safe, goes-shape, safe-falls}

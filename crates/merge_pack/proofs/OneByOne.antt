@@ -1,10 +1,10 @@
 -- Old points that are moved at once are moved one after another.
-use Rattle.std.proofs.Common.{◌≡◌, ◌≤◌, ◌<◌, ◌+◌, ◌*◌, ℕ, zero, suc, Bool, true, false, Option, Some, None, List, [], ◌∷◌, ◌++◌, length, take, drop, set, refl, sym, ap, subst, ◌∙◌, arith, append-nil, append_assoc, length-append}
+use Rattle.std.proofs.Common.{◌≡◌, ◌≤◌, ◌<◌, ◌+◌, ℕ, zero, suc, true, false, Option, Some, None, List, [], ◌∷◌, ◌++◌, length, take, drop, set, refl, sym, ap, subst, ◌∙◌, arith, append-nil, append_assoc, length-append}
 use Rattle.std.specs.Prelude.{◌==◌, not, slice_index}
 use Rattle.std.specs.List.{All}
 use Rattle.std.specs.declared.cmp.Ordering.{Ordering}
 use Rattle.std.proofs.lemmas.Bool.{and_from, eq-eqb, eqb-true, ne_eqb}
-use Rattle.std.proofs.lemmas.List.{drop-drop, get_or-set_same, length-drop, set-get_or, set-set}
+use Rattle.std.proofs.lemmas.List.{get_or-set_same, length-drop, set-get_or, set-set}
 use Rattle.std.proofs.lemmas.List.Elements.{All-tail}
 use Rattle.cube_point.specs.declared.point.Entry.{Entry}
 use Rattle.cube_point.specs.declared.point.Point.{Point}
@@ -17,14 +17,13 @@ use Rattle.page_fmt.specs.Trees.{fanout_of, room_of}
 use Rattle.page_fmt.specs.Writing.{leaf_arity}
 use Rattle.leaf_pack.specs.Leaf.{MayAdd, MayAddAll, is_full}
 use Rattle.leaf_pack.proofs.Entries.{not-not}
-use Rattle.tree_pack.specs.Moving.{Moving, with_points}
-use Rattle.tree_scan.specs.Streaming.{Scanned}
+use Rattle.tree_pack.specs.Moving.{with_points}
 use Rattle.merge_pack.specs.declared.side.Advance.TheVariants as advances
 use Rattle.merge_pack.specs.declared.side.Side.{Side}
 use Rattle.merge_pack.specs.declared.side.Side.TheVariants as sides
-use Rattle.merge_pack.specs.Merging.{Goes, KeepsOn, Merger, Merging, arity_on, first_point, merging_of, moves_point, new_after, old_after, one_more, side_by, side_of, turns_at}
+use Rattle.merge_pack.specs.Merging.{Goes, KeepsOn, Merger, arity_on, first_point, merging_of, moves_point, new_after, old_after, one_more, side_by, side_of, turns_at}
 use Rattle.merge_pack.specs.Runs.{ComeBefore, HasMovedRun, MayMoveAtOnce, MayMoveRun, many_more}
-use Rattle.merge_pack.specs.Safe.{IsSafe, MayCount, falls}
+use Rattle.merge_pack.specs.Safe.{IsSafe, falls}
 use Rattle.merge_pack.proofs.Counting.{may-less}
 use Rattle.merge_pack.proofs.Points.{moves-old, no_entry, old-next}
 use Rattle.merge_pack.proofs.Safety.{goes-safe, safe-may}

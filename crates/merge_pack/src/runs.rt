@@ -65,12 +65,7 @@ fn count_before(scan: &Scan, most: usize, new: &Option<Point>) -> usize
 }
 
 /// How many of the next old points may be moved at once, where `new` is the point of the next new one.
-pub(crate) fn count_at_once(
-    scan: &Scan,
-    packer: &Packer,
-    new: &Option<Point>,
-    limit: u64,
-) -> usize
+pub(crate) fn count_at_once(scan: &Scan, packer: &Packer, new: &Option<Point>, limit: u64) -> usize
     requires arity { leaf_arity scan.now.held ≤ 8 }
     requires order { ascend entry_before scan.now.held ≡ true }
     ensures limit { result ≤ limit }

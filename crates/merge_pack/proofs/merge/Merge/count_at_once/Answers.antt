@@ -1,4 +1,4 @@
-use Rattle.std.proofs.Common.{◌<◌, ◌≤◌, ◌≡◌, sym, subst, true}
+use Rattle.std.proofs.Common.{subst}
 use Rattle.merge_pack.specs.Merging.{Merger}
 use Rattle.merge_pack.specs.Runs.{MayMoveAtOnce}
 use Rattle.merge_pack.proofs.merge.Merge.count_at_once.Goals as goal

@@ -1,6 +1,6 @@
-use Rattle.std.proofs.Common.{◌≡◌, ◌≤◌, ◌<◌, ◌+◌, sym, subst, ap, ◌∙◌, arith}
+use Rattle.std.proofs.Common.{sym, subst}
 use Rattle.merge_pack.specs.Merging.{Merger}
-use Rattle.merge_pack.specs.Runs.{HasMovedRun, MayMoveRun}
+use Rattle.merge_pack.specs.Runs.{MayMoveRun}
 use Rattle.merge_pack.proofs.merge.Merge.move_at_once.Goals as goal
 
 pub move_run-requires : goal.move_run-requires
