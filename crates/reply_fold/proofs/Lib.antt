@@ -1,0 +1,11 @@
+pub mod Adding
+pub mod FactRows
+pub mod Faults
+pub mod Numerals
+pub mod Reading
+pub mod RepliesAgain
+pub mod RowsAgain
+pub mod Said
+pub mod Texts
+pub mod Theorem
+pub mod Wide

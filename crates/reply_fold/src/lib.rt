@@ -1,0 +1,21 @@
+//! The replies of parts to one slice, joined to the reply of the whole: read back from their text, folded, and written as `cubetree` writes
+//! a reply.
+#![tactic(auto)]
+
+mod fault;
+mod fields;
+mod input;
+mod joining;
+mod pulling;
+mod records;
+mod replies;
+mod rows;
+mod taken;
+#[cfg(test)]
+mod tests;
+mod text;
+mod whole;
+
+pub use fault::Fault;
+pub use pulling::fold;
+pub use whole::fold_input;
