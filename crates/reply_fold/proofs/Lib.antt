@@ -9,3 +9,4 @@ pub mod Said
 pub mod Texts
 pub mod Theorem
 pub mod Wide
+pub mod Vectors
