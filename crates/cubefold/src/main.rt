@@ -33,10 +33,7 @@ fn fold_here(rt: &HostRuntime) -> End {
     if has_words(rt) {
         return End::Usage;
     }
-    match fold(
-        rt.alloc(),
-        &mut Input::new(StandardInput::new(rt.stdin())),
-    ) {
+    match fold(rt.alloc(), &mut Input::new(StandardInput::new(rt.stdin()))) {
         Ok(reply) => match tell(rt, reply.as_bytes()) {
             Ok(()) => End::Done,
             Err(_) => End::Output,

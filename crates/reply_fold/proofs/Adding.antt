@@ -11,7 +11,7 @@ use Rattle.fact_model.specs.declared.slice.Column.{Column}
 use Rattle.fact_model.specs.declared.slice.Column.TheVariants.{Count, Sum, Min, Max}
 use Rattle.fact_model.specs.declared.slice.Row.{Row}
 use Rattle.fact_model.specs.declared.slice.Slice.{Slice}
-use Rattle.fact_model.specs.Adds.{AddUp, number_in, numbers_in, width}
+use Rattle.fact_model.specs.Adds.{AddUp, numbers_in, width}
 use Rattle.fact_model.specs.Fact.{key_of, mass, mass_limit, measure_at}
 use Rattle.fact_model.specs.Groups.{groups, having}
 use Rattle.fact_model.specs.Rows.{as_row, number_of, numbers_of, rows}

@@ -1,20 +1,18 @@
 -- Rows of facts are rows that are read again.
-use Rattle.std.proofs.Common.{◌≡◌, ℕ, zero, suc, ◌+◌, ◌<◌, ◌≤◌, Bool, true, false, cond, List, [], ◌∷◌, ◌++◌, length, get_or, map, filter, ℤ, pos, nat_abs, sum_by, refl, sym, ◌∙◌, ap, arith}
+use Rattle.std.proofs.Common.{ℕ, ◌<◌, ◌≤◌, true, false, cond, List, [], ◌∷◌, ◌++◌, length, map, filter, nat_abs, sum_by, arith}
 use Rattle.std.specs.Prelude.{flat_map}
 use Rattle.std.specs.List.{All, AllByRecursion, AllZip}
-use Rattle.std.specs.declared.cmp.Ordering.{Ordering}
 use Rattle.std.specs.declared.cmp.Ordering.TheVariants.{Less, Equal, Greater}
 use Rattle.std.proofs.lemmas.List.Elements.{recursion_from_All}
 use Rattle.cube_schema.specs.Agreeing.{Agrees, IsOfKind}
 use Rattle.cube_schema.specs.Kinds.{kind_at}
 use Rattle.cube_schema.specs.declared.schema.Schema.{Schema}
 use Rattle.fact_model.specs.declared.fact.Fact.{Fact}
-use Rattle.fact_model.specs.declared.slice.Column.{Column}
 use Rattle.fact_model.specs.declared.slice.Row.{Row}
 use Rattle.fact_model.specs.declared.slice.Slice.{Slice}
 use Rattle.fact_model.specs.Adds.{AddUp, number_in, numbers_in}
 use Rattle.fact_model.specs.Distinct.{by_order, distinct, placed}
-use Rattle.fact_model.specs.Fact.{key_of, mass_limit, value_at}
+use Rattle.fact_model.specs.Fact.{key_of, mass_limit}
 use Rattle.fact_model.specs.Groups.{having}
 use Rattle.fact_model.specs.Rows.{as_row, numbers_of, rows}
 use Rattle.fact_model.specs.Slice.{holds}

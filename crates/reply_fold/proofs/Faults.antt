@@ -1,5 +1,5 @@
 -- An input is at no fault of the source.
-use Rattle.std.proofs.Common.{◌≡◌, ℕ, zero, suc, Bool, true, false, cond, List, [], ◌∷◌, length, drop, map, Option, Some, None, Result, Ok, Err, ℤ, refl, sym, ◌∙◌, ap, arith}
+use Rattle.std.proofs.Common.{◌≡◌, ℕ, suc, Bool, true, false, cond, List, [], ◌∷◌, length, drop, map, Option, Some, None, Result, Ok, Err, ℤ, sym, ◌∙◌, arith}
 use Rattle.std.specs.Prelude.{◌==◌, ◌≢◌, ◌+◌}
 use Rattle.std.specs.List.{zip}
 use Rattle.cube_schema.specs.Kinds.{kind_at}
@@ -20,9 +20,9 @@ use Rattle.slice_lang.specs.Values.{coordinate_in}
 use Rattle.slice_lang.specs.declared.refusal.SliceRefusal.{SliceRefusal}
 use Rattle.reply_fold.specs.Answers.{Answers}
 use Rattle.reply_fold.specs.Input.{behind_text, block_in, is_whole, place_of_end, text_in}
-use Rattle.reply_fold.specs.Replies.{all_ended, begun_behind, first_field, first_in, is_end, is_refusal, is_single, onto, refused_from, rows_from, taken, with_front}
+use Rattle.reply_fold.specs.Replies.{begun_behind, first_field, first_in, is_end, is_refusal, is_single, onto, refused_from, rows_from, taken, with_front}
 use Rattle.reply_fold.specs.Rows.{found_or, number_at, numbers_in, row_from, row_in, value_in, values_in}
-use Rattle.reply_fold.specs.Whole.{IsFold, IsJoined, as_refused, as_rows, as_schema, asked_said, is_short, records_said, replies_said, rows_said, said_in, schema_said}
+use Rattle.reply_fold.specs.Whole.{IsFold, IsJoined, as_refused, as_rows, as_schema, is_short, records_said, replies_said, rows_said, said_in, schema_said}
 use Rattle.reply_fold.specs.declared.fault.Fault.{Fault}
 use Rattle.reply_fold.specs.declared.fault.Fault.TheVariants as faults
 use Rattle.reply_fold.specs.declared.replies.Replies.{Replies}

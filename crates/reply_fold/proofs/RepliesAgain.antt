@@ -1,5 +1,5 @@
 -- The records of replies, read again.
-use Rattle.std.proofs.Common.{◌≡◌, ℕ, zero, suc, ◌+◌, ◌<◌, Bool, true, false, cond, List, [], ◌∷◌, ◌++◌, length, map, Some, None, Result, Ok, Err, refl, sym, ◌∙◌, ap, arith, append_assoc, append-nil, add-one}
+use Rattle.std.proofs.Common.{◌≡◌, ℕ, suc, ◌+◌, true, cond, List, [], ◌∷◌, ◌++◌, length, map, Result, Ok, Err, refl, sym, ◌∙◌, ap, arith, append_assoc}
 use Rattle.std.specs.Prelude.{flat_map}
 use Rattle.std.specs.List.{AllByRecursion}
 use Rattle.std.specs.Str.{bytes_eq}
@@ -8,7 +8,7 @@ use Rattle.csv_text.specs.Rows.{row_fields}
 use Rattle.cube_schema.specs.declared.schema.Schema.{Schema}
 use Rattle.fact_model.specs.declared.slice.Row.{Row}
 use Rattle.fact_model.specs.declared.slice.Slice.{Slice}
-use Rattle.reply_fold.specs.Replies.{end_text, is_end, is_single, onto, begun_behind, refused_from, rows_from, taken, with_front}
+use Rattle.reply_fold.specs.Replies.{end_text, onto, begun_behind, refused_from, rows_from, taken, with_front}
 use Rattle.reply_fold.specs.Rows.{row_in}
 use Rattle.reply_fold.specs.declared.fault.Fault.{Fault}
 use Rattle.reply_fold.specs.declared.fault.Fault.TheVariants.{Differs}

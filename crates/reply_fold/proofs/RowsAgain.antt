@@ -1,8 +1,8 @@
 -- The printed rows of a slice, read back, are these rows.
-use Rattle.std.proofs.Common.{◌≡◌, ℕ, zero, suc, ◌+◌, ◌<◌, ◌≤◌, Bool, true, false, cond, List, [], ◌∷◌, ◌++◌, length, drop, get_or, map, Some, None, Ok, Err, ℤ, pos, negsuc, nat_abs, refl, sym, ◌∙◌, ap, arith, length-append}
+use Rattle.std.proofs.Common.{◌≡◌, ℕ, zero, suc, ◌+◌, ◌<◌, ◌≤◌, Bool, false, cond, List, [], ◌∷◌, ◌++◌, length, get_or, map, Ok, Err, ℤ, pos, negsuc, nat_abs, refl, sym, ◌∙◌, ap, arith, length-append}
 use Rattle.std.specs.Prelude.{◌==◌, ◌&&◌, codes, decimal, take}
 use Rattle.std.specs.Fmt.{signed_decimal}
-use Rattle.std.specs.List.{AllByRecursion, AllZip, zip}
+use Rattle.std.specs.List.{AllZip, zip}
 use Rattle.std.specs.Str.{bytes_eq}
 use Rattle.std.proofs.lemmas.Bool.{and_left, eq-eqb, ne_eqb}
 use Rattle.std.proofs.Math.Seq.{drop-append_seam}
@@ -20,12 +20,10 @@ use Rattle.fact_model.specs.declared.fact.Value.TheVariants.{Word, Number}
 use Rattle.fact_model.specs.declared.slice.Row.{Row}
 use Rattle.fact_model.specs.declared.slice.Slice.{Slice}
 use Rattle.fact_model.specs.Fact.{mass_limit}
-use Rattle.fact_model.specs.Limits.{number_limit}
 use Rattle.fact_model.specs.Value.{Key}
 use Rattle.slice_lang.proofs.Decimals.{coordinate-again}
 use Rattle.reply_fold.specs.Replies.{end_text, first_field, is_end, is_refusal}
 use Rattle.reply_fold.specs.Rows.{found_or, number_at, numbers_in, row_from, row_in, value_in, values_in}
-use Rattle.reply_fold.specs.declared.fault.Fault.{Fault}
 use Rattle.reply_fold.specs.declared.fault.Fault.TheVariants.{Record}
 use Rattle.reply_fold.proofs.Numerals.{AreDigits, decimal-digits, natural-again, number-again}
 

@@ -1,5 +1,5 @@
 -- What an input says, and what its reply is.
-use Rattle.std.proofs.Common.{◌≡◌, ℕ, zero, suc, ◌+◌, Bool, true, false, cond, List, [], ◌∷◌, length, drop, take, map, Option, Some, None, Result, Ok, Err, refl, sym, ◌∙◌, ap, subst}
+use Rattle.std.proofs.Common.{◌≡◌, ℕ, ◌+◌, Bool, true, false, cond, List, length, drop, take, Result, Ok, Err, refl, sym, ◌∙◌, ap, subst}
 use Rattle.std.specs.Prelude.{◌==◌, ◌≢◌, IfOk}
 use Rattle.std.specs.List.{before_first}
 use Rattle.std.proofs.lemmas.Bool.{ne_eqb}
@@ -14,7 +14,7 @@ use Rattle.slice_lang.specs.declared.refusal.SliceRefusal.{SliceRefusal}
 use Rattle.slice_lang.proofs.Agreed.{slice_answer}
 use Rattle.reply_fold.specs.Answers.{Answers}
 use Rattle.reply_fold.specs.Input.{behind_text, block_in, place_of_end, text_in}
-use Rattle.reply_fold.specs.Whole.{HasParts, IsFold, IsJoined, as_schema, asked_said, is_short, replies_said, reply_over, said_in, schema_said, together, whole_text}
+use Rattle.reply_fold.specs.Whole.{HasParts, IsFold, IsJoined, as_schema, asked_said, is_short, replies_said, reply_over, said_in, schema_said, together}
 use Rattle.reply_fold.specs.declared.fault.Fault.{Fault}
 use Rattle.reply_fold.specs.declared.fault.Fault.TheVariants as faults
 use Rattle.reply_fold.specs.declared.replies.Replies.{Replies}

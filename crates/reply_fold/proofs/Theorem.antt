@@ -1,6 +1,6 @@
 -- The replies of the plain machine over parts say its reply over all their facts.
-use Rattle.std.proofs.Common.{◌≡◌, ℕ, zero, suc, ◌+◌, ◌-◌, ◌<◌, ◌≤◌, Bool, true, false, cond, List, [], ◌∷◌, ◌++◌, length, drop, get_or, map, Some, None, Option, Result, Ok, Err, refl, sym, ◌∙◌, ap, subst, arith, append_assoc, append-nil, true≢false}
-use Rattle.std.specs.Prelude.{◌==◌, ◌&&◌, IfOk, codes, decimal, flat_map, slice_index, nat_lt}
+use Rattle.std.proofs.Common.{◌≡◌, ℕ, suc, ◌+◌, ◌-◌, ◌<◌, Bool, true, false, cond, List, [], ◌∷◌, ◌++◌, length, drop, map, Some, None, Result, Ok, Err, refl, sym, ◌∙◌, ap, subst, arith, append_assoc, true≢false}
+use Rattle.std.specs.Prelude.{◌==◌, IfOk, codes, decimal, flat_map, slice_index}
 use Rattle.std.specs.List.{AllByRecursion, before_first, list_all}
 use Rattle.std.proofs.lemmas.Bool.{and_parts, eq-eqb, eqb-true, false_from_ne_true, ltb-true}
 use Rattle.std.proofs.lemmas.List.{drop_all}
@@ -18,14 +18,14 @@ use Rattle.fact_model.specs.declared.slice.Slice.{Slice}
 use Rattle.fact_model.specs.Adds.{AddUp}
 use Rattle.fact_model.specs.Rows.{rows}
 use Rattle.plain_machine.specs.Machine.{is_covered, rows_reply, slice_reply}
-use Rattle.reply_text.specs.Replies.{answer_text, line, not_covered, numbered, slice_text}
+use Rattle.reply_text.specs.Replies.{answer_text, line, not_covered, numbered}
 use Rattle.row_fold.specs.Folds.{KeepsMass}
 use Rattle.row_fold.proofs.FoldLaws.{lists-join}
 use Rattle.slice_lang.specs.Agreeing.{SliceAgrees, is_column}
 use Rattle.slice_lang.specs.declared.refusal.SliceRefusal.{SliceRefusal}
 use Rattle.slice_lang.specs.declared.refusal.SliceRefusal.TheVariants as slices
-use Rattle.reply_fold.specs.Input.{behind_end, behind_text, is_whole, place_of_end, text_in}
-use Rattle.reply_fold.specs.Replies.{end_text, first_field, first_in, is_refusal, refused_from, rows_from}
+use Rattle.reply_fold.specs.Input.{behind_end, behind_text, is_whole, place_of_end}
+use Rattle.reply_fold.specs.Replies.{first_field, first_in}
 use Rattle.reply_fold.specs.Whole.{CanJoin, KeepLimits, as_refused, as_rows, is_short, records_said, replies_said, together, whole_text}
 use Rattle.reply_fold.specs.declared.fault.Fault.{Fault}
 use Rattle.reply_fold.specs.declared.fault.Fault.TheVariants as faults
@@ -231,4 +231,3 @@ has-end input b more is = false_from_ne_true (place_of_end input == length input
     let nothing : length (behind_text input) ≡ 0 = ap (λ t. length (drop (length (before_first (λ b. b == 10) t)) t)) none in
     let more = ap length is in
     absurd (omega arith))
-

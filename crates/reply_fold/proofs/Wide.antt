@@ -1,5 +1,5 @@
 -- Each row that is read has a number for each column.
-use Rattle.std.proofs.Common.{◌≡◌, ℕ, zero, suc, ◌+◌, ◌-◌, Bool, true, false, cond, List, [], ◌∷◌, ◌++◌, length, drop, map, Result, Ok, Err, ℤ, refl, sym, ◌∙◌, ap, subst, arith}
+use Rattle.std.proofs.Common.{◌≡◌, ℕ, suc, ◌+◌, Bool, true, false, cond, List, [], ◌∷◌, length, drop, map, Result, Ok, Err, ℤ, refl, sym, ◌∙◌, ap, subst, arith}
 use Rattle.std.specs.Prelude.{◌==◌, unwrap_or}
 use Rattle.std.specs.List.{All, AllByRecursion}
 use Rattle.std.specs.Result.{result_ok}
@@ -11,7 +11,7 @@ use Rattle.fact_csv.specs.Gathered.{gathered, with_first}
 use Rattle.fact_model.specs.declared.slice.Row.{Row}
 use Rattle.fact_model.specs.declared.slice.Slice.{Slice}
 use Rattle.fact_model.specs.Value.{Key}
-use Rattle.reply_fold.specs.Replies.{all_ended, begun_behind, is_end, onto, rows_from, taken, with_front}
+use Rattle.reply_fold.specs.Replies.{all_ended, begun_behind, is_end, onto, rows_from, taken}
 use Rattle.reply_fold.specs.Rows.{number_at, numbers_in, row_from, row_in, values_in}
 use Rattle.reply_fold.specs.Whole.{IsWide}
 use Rattle.reply_fold.specs.declared.fault.Fault.{Fault}

@@ -4,8 +4,8 @@ ghost use Rattle.csv.specs.Records.{fields_of};
 ghost use Rattle.reply_fold.specs.Replies.{is_end, is_refusal, is_single};
 
 use csv::ByteRecord;
-use fact_model::bytes::front;
 use fact_model::Memory;
+use fact_model::bytes::front;
 use itoa::Buffer;
 use std::alloc::Global;
 

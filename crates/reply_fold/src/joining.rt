@@ -23,11 +23,7 @@ pub(crate) fn joined_rows(alloc: Global, columns: &[Column], rows: &[Row]) -> Re
 }
 
 /// The groups of the rows.
-fn fold_of<'a>(
-    alloc: Global,
-    columns: &[Column],
-    rows: &'a [Row],
-) -> Result<RowFold<'a>, Memory>
+fn fold_of<'a>(alloc: Global, columns: &[Column], rows: &'a [Row]) -> Result<RowFold<'a>, Memory>
     requires wide { All (IsWide columns.now) rows.now }
     requires adds { AddUp rows.now }
     ensures { IfOk result (λ fold. fold ≡ joined columns.now rows.now) }

@@ -11,8 +11,6 @@ mod records;
 mod replies;
 mod rows;
 mod taken;
-#[cfg(test)]
-mod tests;
 mod text;
 mod whole;
 
