@@ -15,10 +15,11 @@ use crate::input::{END, is_whole, place_of_end};
 use crate::joining::joined_rows;
 use crate::records::{first_refusal, read_rows, share_refusal};
 use crate::replies::Replies;
-use crate::text::{refusal_text, rows_text};
+use crate::text::refusal_text;
 use cube_schema::{Schema, SchemaRefusal};
 use fact_model::bytes::{after, cut_at, front};
 use fact_model::{Memory, Rows, Slice, Text};
+use reply_text::answered;
 use slice_lang::{SliceRefusal, read_slice};
 use std::alloc::Global;
 
@@ -133,6 +134,5 @@ fn join_rows(alloc: Global, slice: &Slice, rows: &Rows) -> Result<Text, Fault>
         return Err(Fault::Sum);
     }
     let joined = joined_rows(alloc, slice.columns.as_slice(), rows.as_slice())?;
-    let text = rows_text(alloc, joined.as_slice())?;
-    Ok(Text::from_vec(text))
+    Ok(Text::from_vec(answered(alloc, &joined)?))
 }
