@@ -12,7 +12,7 @@ pub(crate) fn place_of_end(input: &[u8]) -> usize
     ensures most { result ≤ length input.now }
 {
     for at in 0..input.len() {
-        if input[at..].starts_with(b"\nend\n") {
+        if input[at..].starts_with(END) {
             return at;
         }
     }
