@@ -1,0 +1,12 @@
+pub mod Arities
+pub mod Due
+pub mod Fronts
+pub mod Going
+pub mod Keeping
+pub mod Leaves
+pub mod Pages
+pub mod Results
+pub mod Safe
+pub mod Telling
+pub mod Views
+pub mod Within
