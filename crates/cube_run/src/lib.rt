@@ -6,5 +6,7 @@ mod pull;
 mod script_run;
 mod serve;
 
+pub use cube_session::{Held, Session};
+pub use cube_state::{State, Stop};
 pub use exit::Status;
 pub use script_run::attempt;

@@ -3,7 +3,5 @@
 
 mod top_call;
 
-pub use cube_run::Status;
-pub use cube_session::Session;
-pub use cube_state::{State, Stop};
+pub use cube_run::{Held, Session, State, Status, Stop};
 pub use top_call::{run, run_within};
