@@ -20,7 +20,7 @@ use Rattle.fact_model.specs.Value.{Key, key_cmp}
 use Rattle.fact_model.proofs.Sums.{column-cons}
 use Rattle.sql_slice.proofs.SqlLaws.{kinds-of}
 use Rattle.reply_fold.proofs.Adding.{HasColumns}
-use Rattle.reply_fold.proofs.RowsAgain.{IsRow}
+use Rattle.reply_fold.specs.Laws.{IsRow}
 
 -- ---- keys
 

@@ -1,10 +1,13 @@
 -- The records of replies, read again.
-use Rattle.std.proofs.Common.{◌≡◌, ℕ, suc, ◌+◌, true, cond, List, [], ◌∷◌, ◌++◌, length, map, Result, Ok, Err, refl, sym, ◌∙◌, ap, arith, append_assoc}
+use Rattle.std.proofs.Common.{◌≡◌, ℕ, suc, ◌+◌, true, cond, List, [], ◌∷◌, ◌++◌, length, map, Result, Ok, Err, refl, sym, ◌∙◌, ap, arith, append_assoc, append-nil}
 use Rattle.std.specs.Prelude.{flat_map}
-use Rattle.std.specs.List.{AllByRecursion}
+use Rattle.std.specs.List.{All, AllByRecursion}
+use Rattle.std.proofs.lemmas.List.Elements.{recursion_from_All}
 use Rattle.std.specs.Str.{bytes_eq}
 use Rattle.std.proofs.lemmas.Cmp.{nat_list_eq_equiv}
+use Rattle.csv_text.specs.Records.{records_of}
 use Rattle.csv_text.specs.Rows.{row_fields}
+use Rattle.reply_text.specs.Replies.{answer_text}
 use Rattle.cube_schema.specs.declared.schema.Schema.{Schema}
 use Rattle.fact_model.specs.declared.slice.Row.{Row}
 use Rattle.fact_model.specs.declared.slice.Slice.{Slice}
@@ -12,8 +15,9 @@ use Rattle.reply_fold.specs.Replies.{end_text, onto, begun_behind, refused_from,
 use Rattle.reply_fold.specs.Rows.{row_in}
 use Rattle.reply_fold.specs.declared.fault.Fault.{Fault}
 use Rattle.reply_fold.specs.declared.fault.Fault.TheVariants.{Differs}
-use Rattle.reply_fold.proofs.RowsAgain.{IsRow, not-end, row-again}
-use Rattle.reply_fold.proofs.Texts.{end_record, row_records}
+use Rattle.reply_fold.specs.Laws.{IsRow}
+use Rattle.reply_fold.proofs.RowsAgain.{has-fields, not-end, row-again}
+use Rattle.reply_fold.proofs.Texts.{HasField, answer-records, end_record, records-again, row_records}
 
 -- ---- rows
 
@@ -64,6 +68,22 @@ module _ (s : Schema) (q : Slice) where
       ap (rows_from s q 0 n) (append_assoc (map row_fields (rows a)) (end_record (rows a) ∷ []) (flat_map (λ a. row_records (rows a)) parts))
       ∙ (ap (λ k. rows_from s q 0 n (map row_fields (rows a) ++ ((end_text k ∷ []) ∷ flat_map (λ a. row_records (rows a)) parts))) {x = length (rows a)} {y = 0 + length (rows a)} (omega arith)
       ∙ reply-more (rows a) 0 n (flat_map (λ a. row_records (rows a)) parts) h.0 ∙ ap (with_front (rows a)) (replies-again rows parts (suc (n + length (rows a))) h.1))
+
+  -- each record of a reply has a field
+  some-fields : (rs : List Row) (end : Record) → HasField end → AllByRecursion (IsRow s q) rs → AllByRecursion HasField (map row_fields rs ++ end ∷ [])
+  some-fields [] end has h = (has, tt)
+  some-fields (r ∷ rs) end has h = (has-fields s q r h.0, some-fields rs end has h.1)
+
+  pub reply-fields : (rows : List Row) → AllByRecursion (IsRow s q) rows → AllByRecursion HasField (row_records rows)
+  reply-fields rows h = some-fields rows (end_record rows) (omega arith) h
+
+  -- the reply of rows is read back as the rows
+  pub rows-again : (rows : List Row) → All (IsRow s q) rows → rows_from s q 0 1 (records_of (10 ∷ answer_text rows)) ≡ Ok rows
+  rows-again rows are =
+      let each = recursion_from_All (IsRow s q) rows are in
+      ap (rows_from s q 0 1)
+      (ap (λ t. records_of (10 ∷ t)) (answer-records rows) ∙ (records-again (row_records rows) (reply-fields rows each) ∙ sym (append-nil (row_records rows))))
+      ∙ (replies-again (λ rs. rs) (rows ∷ []) 1 (each, tt) ∙ ap Ok (append-nil rows))
 
 -- ---- refusals
 

@@ -22,17 +22,11 @@ use Rattle.fact_model.specs.declared.slice.Slice.{Slice}
 use Rattle.fact_model.specs.Fact.{mass_limit}
 use Rattle.fact_model.specs.Value.{Key}
 use Rattle.slice_lang.proofs.Decimals.{coordinate-again}
+use Rattle.reply_fold.specs.Laws.{IsRow}
 use Rattle.reply_fold.specs.Replies.{end_text, first_field, is_end, is_refusal}
 use Rattle.reply_fold.specs.Rows.{found_or, number_at, numbers_in, row_from, row_in, value_in, values_in}
 use Rattle.reply_fold.specs.declared.fault.Fault.TheVariants.{Record}
 use Rattle.reply_fold.proofs.Numerals.{AreDigits, decimal-digits, natural-again, number-again}
-
--- a row of facts within their limits: values of the grouped attributes' kinds, and a number for each column
-pub record IsRow (s : Schema) (q : Slice) (row : Row) : Type 0 where
-  pub key : AllZip (λ a v. IsOfKind (kind_at s a) v) q.group row.key
-  pub numbers : length row.numbers ≡ length q.columns
-  pub some : 0 < length q.columns
-  pub light : (column : ℕ) → nat_abs (get_or row.numbers column (pos 0)) ≤ mass_limit
 
 module _ (s : Schema) (n : ℕ) where
   value-again : (k : Kind) (v : Value) → IsOfKind k v → value_in k n (value_text v) ≡ Ok v

@@ -33,9 +33,10 @@ use Rattle.reply_fold.specs.declared.replies.Replies.{Replies}
 use Rattle.reply_fold.specs.declared.replies.Replies.TheVariants as says
 use Rattle.reply_fold.proofs.Adding.{parts-add, parts-wide}
 use Rattle.reply_fold.proofs.FactRows.{fact-rows}
-use Rattle.reply_fold.proofs.RepliesAgain.{refusals-again, replies-again}
-use Rattle.reply_fold.proofs.RowsAgain.{IsRow, has-fields, not-refusal}
-use Rattle.reply_fold.proofs.Texts.{HasField, IsPlain, answer-records, end_record, numbered-line, numbered-plain, plain-line, records-again, row_records, texts-flat}
+use Rattle.reply_fold.proofs.RepliesAgain.{refusals-again, replies-again, reply-fields}
+use Rattle.reply_fold.specs.Laws.{IsRow}
+use Rattle.reply_fold.proofs.RowsAgain.{not-refusal}
+use Rattle.reply_fold.proofs.Texts.{HasField, IsPlain, answer-records, numbered-line, numbered-plain, plain-line, records-again, row_records, texts-flat}
 
 abbrev Fields : Type 0
 Fields = List (List ℕ)
@@ -163,17 +164,13 @@ module _ (s : Schema) (parts : List (List Fact)) (some : 0 < length parts) (repl
     are-rows : AllByRecursion (λ facts. AllByRecursion (IsRow s q) (rows facts q)) parts
     are-rows = fact-rows s q agrees.some parts limits.agree (parts-wide q parts) adds
 
-    some-fields : (rs : List Row) (end : Fields) → HasField end → AllByRecursion (IsRow s q) rs → AllByRecursion HasField (map row_fields rs ++ end ∷ [])
-    some-fields [] end has h = (has, tt)
-    some-fields (r ∷ rs) end has h = (has-fields s q r h.0, some-fields rs end has h.1)
-
     every-join : {X : Type 0} (P : X → Type 0) (xs ys : List X) → AllByRecursion P xs → AllByRecursion P ys → AllByRecursion P (xs ++ ys)
     every-join P [] ys h k = k
     every-join P (x ∷ xs) ys h k = (h.0, every-join P xs ys h.1 k)
 
     all-fields : (lists : List (List Fact)) → AllByRecursion (λ facts. AllByRecursion (IsRow s q) (rows facts q)) lists → AllByRecursion HasField (flat_map (λ facts. row_records (rows facts q)) lists)
     all-fields [] h = tt
-    all-fields (facts ∷ lists) h = every-join HasField (row_records (rows facts q)) _ (some-fields (rows facts q) (end_record (rows facts q)) (omega arith) h.0) (all-fields lists h.1)
+    all-fields (facts ∷ lists) h = every-join HasField (row_records (rows facts q)) _ (reply-fields s q (rows facts q) h.0) (all-fields lists h.1)
 
     first-row : (rs : List Row) (more : List Fields) → AllByRecursion (IsRow s q) rs → first_in (row_records rs ++ more) ≡ Ok None
     first-row [] more h = refl

@@ -1,5 +1,6 @@
 pub mod Answers
 pub mod Input
+pub mod Laws
 pub mod Replies
 pub mod Rows
 pub mod Taking

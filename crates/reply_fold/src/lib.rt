@@ -6,6 +6,7 @@ mod fault;
 mod fields;
 mod input;
 mod joining;
+mod laws;
 mod pulling;
 mod records;
 mod replies;
@@ -15,5 +16,6 @@ mod text;
 mod whole;
 
 pub use fault::Fault;
+pub use laws::printed_rows_read_back;
 pub use pulling::fold;
 pub use whole::fold_input;
