@@ -1,15 +1,26 @@
 -- Worked examples: the parts of an input, and the rows of records.
-use Rattle.std.specs.Prelude.{◌≡◌, ℕ, true, false, List, [], ◌∷◌, codes, Some, None, Ok, Err, ℤ, pos, negsuc, refl}
+use Rattle.std.proofs.Common.{◌<◌, ◌≤◌, zero, suc, arith}
+use Rattle.std.specs.Prelude.{◌≡◌, ℕ, flat_map, true, false, List, [], ◌∷◌, codes, Some, None, Ok, Err, ℤ, pos, negsuc, refl}
 use Rattle.std.specs.Fmt.{digits}
+use Rattle.std.specs.List.{All}
+use Rattle.std.proofs.lemmas.List.Elements.{All-from_recursion}
+use Rattle.csv.specs.Writing.{escaped, fields_text, is_blank}
+use Rattle.cube_schema.specs.Agreeing.{Agrees}
+use Rattle.cube_schema.specs.Reading.{schema_of, after_line, after_attr, after_measure, after_view}
 use Rattle.cube_schema.specs.declared.schema.Kind.TheVariants as kind
 use Rattle.cube_schema.specs.declared.schema.Schema.{Schema}
+use Rattle.fact_model.specs.Fact.{mass, mass_limit}
+use Rattle.fact_model.specs.declared.fact.Fact.{Fact}
 use Rattle.fact_model.specs.declared.fact.Value.TheVariants.{Word, Number}
 use Rattle.fact_model.specs.declared.slice.Column.TheVariants.{Count, Sum}
 use Rattle.fact_model.specs.declared.slice.Row.{Row}
 use Rattle.fact_model.specs.declared.slice.Slice.{Slice}
+use Rattle.slice_lang.specs.Parts.{parts_of}
+use Rattle.slice_lang.specs.Reading.{slice_of, behind_columns, behind_group, column_in, count_in, measured_in, name_of_group, attr_in}
 use Rattle.reply_fold.specs.Input.{behind_text, block_in, is_whole, text_in}
 use Rattle.reply_fold.specs.Replies.{first_in, refused_from, rows_from}
 use Rattle.reply_fold.specs.Rows.{row_in}
+use Rattle.reply_fold.specs.Whole.{HasParts, reply_over, together}
 use Rattle.reply_fold.specs.declared.fault.Fault.TheVariants as faults
 
 -- ---- the parts of an input
@@ -104,3 +115,35 @@ no_refusal = refl
 
 none : first_in [] ≡ Err faults.Nothing
 none = refl
+
+-- ---- the premise of the theorem can be met
+
+abbrev parts_input : List ℕ
+parts_input = codes "attr part text max 9\nmeasure qty\nview part\nend\ncount,sum(qty) by part\nbolt,1,-5\nrows 1\nrows 0\n"
+
+abbrev bolts_schema : Schema
+bolts_schema = record { attrs = record { name = codes "part"; kind = kind.Word 9 } ∷ []; measures = codes "qty" ∷ []; views = (0 ∷ []) ∷ [] }
+
+abbrev a_bolt : Fact
+a_bolt = record { values = Word (codes "bolt") ∷ []; measures = negsuc 4 ∷ [] }
+
+abbrev parts : List (List Fact)
+parts = (a_bolt ∷ []) ∷ [] ∷ []
+
+light : (m : ℕ) → m < 1 → mass m (together parts) ≤ mass_limit
+light zero l = omega arith
+light (suc m) l = absurd (omega arith)
+
+agree : All (Agrees bolts_schema) (together parts)
+agree = All-from_recursion (Agrees bolts_schema) (together parts) (record { values = (omega arith, tt); measures = refl }, tt)
+
+declared : schema_of (block_in parts_input) ≡ Ok bolts_schema
+unfolding schema_of after_line after_attr after_measure after_view
+declared = refl
+
+told : behind_text parts_input ≡ 10 ∷ flat_map (reply_over bolts_schema (text_in parts_input)) parts
+unfolding parts_of slice_of behind_columns behind_group column_in count_in measured_in name_of_group attr_in digits escaped fields_text is_blank
+told = refl
+
+met : HasParts parts_input bolts_schema parts
+met = record { declared = declared; told = told; some = omega arith; limits = record { agree = agree; few = omega arith; light = light } }
