@@ -1,7 +1,7 @@
 -- What is kept behind one page more.
 use Rattle.std.proofs.Common.{◌≡◌, ◌≢◌, ◌≤◌, ◌<◌, ◌+◌, ◌-◌, ◌^◌, ℕ, Bool, true, false, cond, List, [], ◌∷◌, ◌++◌, Option, filter, get_or, length, set, refl, ap, sym, ◌∙◌, arith, inl, inr, subst, append-nil, length-append}
 use Rattle.std.specs.Prelude.{◌==◌, slice_index}
-use Rattle.std.specs.List.{range_with_len}
+use Rattle.std.specs.List.{All, range_with_len}
 use Rattle.std.proofs.lemmas.Bool.{cases_Bool, eqb-true, eqb-false, eq-eqb, ne_eqb}
 use Rattle.std.proofs.lemmas.List.{get_or-set_same, get_or-set_other}
 use Rattle.std.proofs.lemmas.List.Elements.{All-append, All-cons, All-nil, filter-append, recursion_from_All}
@@ -15,6 +15,7 @@ use Rattle.page_fmt.specs.declared.page.Place.{Place}
 use Rattle.page_fmt.specs.InFiles.{page_at}
 use Rattle.page_fmt.specs.Taking.{entries, page_count}
 use Rattle.page_fmt.specs.Trees.{room_of}
+use Rattle.page_fmt.specs.Writing.{FitsLeaf}
 use Rattle.tree_scan.specs.Scanning.{leaf_entries}
 use Rattle.tree_scan.specs.Streaming.{first_of}
 use Rattle.tree_audit.specs.Broken.{AreFew}
@@ -36,7 +37,7 @@ module _ (shape : Shape) (views : List Kept) (fresh : AreFresh shape views) wher
   pub open-begins : (counts : List ℕ) → AreFew counts → AreOpen shape counts views
   open-begins counts few arity d lt =
       subst (IsOpen shape arity (slice_index counts arity)) (sym (fresh arity d lt)) (record {
-        view = record { shape_is = refl; arity_is = refl };
+        view = record { shape_is = refl; arity_is = refl; good = All-nil (FitsLeaf shape) };
         full = λ _. All-nil (λ (p : List ℕ). page_count p ≡ room_of shape arity);
         few = omega (arith, few arity);
       })
@@ -103,7 +104,7 @@ abbrev pub with_leaf : Kept → List ℕ → ℕ → Kept
 with_leaf k page number = record k { leaves = k.leaves ++ page ∷ []; first = first_or k.first number }
 
 module _ (shape : Shape) (left page : List ℕ) (arity number : ℕ) (nine : length left ≡ 9) (room : 0 < room_of shape arity) (leaf : IsLeafOf shape left page arity)
-    (are : leaf_entries shape page ≡ entries shape page) (views : List Kept) (is : AreOpen shape left views) where
+    (are : leaf_entries shape page ≡ entries shape page) (good : All (FitsLeaf shape) (leaf_entries shape page)) (views : List Kept) (is : AreOpen shape left views) where
   abbrev es : List Entry
   es = leaf_entries shape page
 
@@ -144,7 +145,11 @@ module _ (shape : Shape) (left page : List ℕ) (arity number : ℕ) (nine : len
 
     here-open : IsOpen shape arity (slice_index left arity - due shape left arity) (with_leaf old page number)
     here-open = record {
-      view = record { shape_is = open_here.view.shape_is; arity_is = open_here.view.arity_is };
+      view = record {
+        shape_is = open_here.view.shape_is;
+        arity_is = open_here.view.arity_is;
+        good = subst (All (FitsLeaf shape)) (sym points-now) (All-append (FitsLeaf shape) (points_of old) es open_here.view.good good);
+      };
       full = λ more.
           let at : room_of old.shape old.arity ≡ room_of shape arity = (λ i. room_of (open_here.view.shape_is i) (open_here.view.arity_is i)) in
           All-append (λ (p : List ℕ). page_count p ≡ room_of old.shape old.arity) old.leaves (page ∷ []) leaf-full

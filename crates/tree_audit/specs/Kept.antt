@@ -1,12 +1,13 @@
 -- What an audit keeps of a tree: of each arity its points, and the page of its first leaf.
 use Rattle.std.specs.Prelude.{◌≡◌, ◌≤◌, ◌<◌, ◌+◌, ◌^◌, ◌==◌, ℕ, Bool, true, false, List, [], ◌∷◌, ◌++◌, Option, filter, get_or, length, slice_index}
-use Rattle.std.specs.List.{range_with_len}
+use Rattle.std.specs.List.{All, range_with_len}
 use Rattle.cube_point.specs.declared.point.Entry.{Entry}
 use Rattle.cube_point.specs.declared.point.Shape.{Shape}
 use Rattle.kept_points.specs.Kept.{AreFull, Kept, first_or, points_of}
 use Rattle.leaf_pack.specs.Leaf.{arity_of}
 use Rattle.page_fmt.specs.declared.page.Place.{Place}
 use Rattle.page_fmt.specs.InFiles.{page_at}
+use Rattle.page_fmt.specs.Writing.{FitsLeaf}
 use Rattle.tree_scan.specs.Scanning.{leaf_entries}
 use Rattle.tree_scan.specs.Streaming.{first_of}
 use Rattle.tree_audit.specs.Packed.{points_in}
@@ -37,10 +38,11 @@ pub record IsKept (place : Place) (bytes : List ℕ) (n arity : ℕ) (kept : Kep
 abbrev pub AreKept : Place → List ℕ → ℕ → List Kept → Type 0
 AreKept place bytes n views = (arity : ℕ) (d : Kept) → arity < 9 → IsKept place bytes n arity (get_or views arity d)
 
--- they are views of a tree of this shape, each of its arity
+-- it is a view of this arity of a tree of this shape, and a leaf may hold each of its points
 pub record IsViewOf (shape : Shape) (arity : ℕ) (kept : Kept) : Type 0 where
   pub shape_is : kept.shape ≡ shape
   pub arity_is : kept.arity ≡ arity
+  pub good : All (FitsLeaf shape) (points_of kept)
 
 abbrev pub AreViewsOf : Shape → List Kept → Type 0
 AreViewsOf shape views = (arity : ℕ) (d : Kept) → arity < 9 → IsViewOf shape arity (get_or views arity d)

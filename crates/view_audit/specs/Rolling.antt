@@ -25,7 +25,6 @@ projected_at dims place = padded (map (λ d. slice_index place d) dims)
 -- the dimensions of the finer view in which the attributes of the coarser one stand, in the coarser view's order
 pub record AreDims (fine coarse : View) (dims : List ℕ) : Type 0 where
   pub few : length dims ≤ 8
-  pub inside : All (λ d. d < 8) dims
   pub place : (place : List ℕ) → length place ≡ 8 → projected fine coarse place ≡ projected_at dims place
 
 -- points of a view as they are read of accepted pages: in order, each as a leaf may hold it

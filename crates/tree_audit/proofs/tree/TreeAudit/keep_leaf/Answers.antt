@@ -1,11 +1,12 @@
 use Rattle.std.proofs.Common.{◌≡◌, ◌-◌, set, ◌<◌, ◌++◌, [], ◌∷◌, List, ℕ, length, get_or, sym, ap, ◌∙◌, subst, arith}
 use Rattle.std.specs.Prelude.{slice_index}
+use Rattle.std.specs.List.{All}
 use Rattle.cube_point.specs.declared.point.Entry.{Entry}
 use Rattle.cube_point.specs.declared.point.Shape.{Shape}
 use Rattle.kept_points.specs.Kept.{Kept, first_or}
 use Rattle.page_fmt.specs.Taking.{entries}
 use Rattle.page_fmt.specs.Trees.{room_of}
-use Rattle.page_fmt.specs.Writing.{AreEntries}
+use Rattle.page_fmt.specs.Writing.{AreEntries, FitsLeaf}
 use Rattle.page_fmt.proofs.Rooms.{room-some}
 use Rattle.tree_audit.specs.Fitting.{due}
 use Rattle.page_fmt.specs.Lawful.{HasEntries}
@@ -44,7 +45,7 @@ push-requires-clause-few c = λ d.
     let room : 0 < room_of shape c.args.arity = (let one = room-some c.args.arity shape (omega (arith, leaf.next.nine)) c.requires.shape.measures in omega (arith, one)) in
     let many : c.args.count ≡ due shape s.left c.args.arity = c.requires.found.many ∙ leaf.many in
     let some : 0 < c.args.count = omega (arith, many, room, leaf.next.some) in
-    omega (arith, many, leaf-room shape s.left s.page.value c.args.arity s.packer.at.next_page c.requires.safe.nine room leaf (c.requires.found.are some) c.args.kept.now c.requires.room d)
+    omega (arith, many, leaf-room shape s.left s.page.value c.args.arity s.packer.at.next_page c.requires.safe.nine room leaf (c.requires.found.are some) (subst (All (FitsLeaf shape)) (sym (c.requires.found.are some)) (c.requires.found.holds some).good) c.args.kept.now c.requires.room d)
 
 pub push-requires-clause-full : goal.push-requires-clause-full
 push-requires-clause-full c = λ d.
@@ -54,7 +55,7 @@ push-requires-clause-full c = λ d.
     let room : 0 < room_of shape c.args.arity = (let one = room-some c.args.arity shape (omega (arith, leaf.next.nine)) c.requires.shape.measures in omega (arith, one)) in
     let many : c.args.count ≡ due shape s.left c.args.arity = c.requires.found.many ∙ leaf.many in
     let some : 0 < c.args.count = omega (arith, many, room, leaf.next.some) in
-    leaf-full shape s.left s.page.value c.args.arity s.packer.at.next_page c.requires.safe.nine room leaf (c.requires.found.are some) c.args.kept.now c.requires.room d
+    leaf-full shape s.left s.page.value c.args.arity s.packer.at.next_page c.requires.safe.nine room leaf (c.requires.found.are some) (subst (All (FitsLeaf shape)) (sym (c.requires.found.are some)) (c.requires.found.holds some).good) c.args.kept.now c.requires.room d
 
 pub push-requires-clause-long : goal.push-requires-clause-long
 push-requires-clause-long c = λ d.
@@ -64,7 +65,7 @@ push-requires-clause-long c = λ d.
     let room : 0 < room_of shape c.args.arity = (let one = room-some c.args.arity shape (omega (arith, leaf.next.nine)) c.requires.shape.measures in omega (arith, one)) in
     let many : c.args.count ≡ due shape s.left c.args.arity = c.requires.found.many ∙ leaf.many in
     let some : 0 < c.args.count = omega (arith, many, room, leaf.next.some) in
-    omega (arith, many, leaf-long shape s.left s.page.value c.args.arity s.packer.at.next_page c.requires.safe.nine room leaf (c.requires.found.are some) c.args.kept.now c.requires.room d)
+    omega (arith, many, leaf-long shape s.left s.page.value c.args.arity s.packer.at.next_page c.requires.safe.nine room leaf (c.requires.found.are some) (subst (All (FitsLeaf shape)) (sym (c.requires.found.are some)) (c.requires.found.holds some).good) c.args.kept.now c.requires.room d)
 
 pub push_all-requires-clause-page : goal.push_all-requires-clause-page
 push_all-requires-clause-page c =
@@ -152,6 +153,6 @@ returns-clause-keeps c =
     let room : 0 < room_of shape c.args.arity = (let one = room-some c.args.arity shape (omega (arith, leaf.next.nine)) c.requires.shape.measures in omega (arith, one)) in
     let many : c.args.count ≡ due shape s.left c.args.arity = c.requires.found.many ∙ leaf.many in
     let some : 0 < c.args.count = omega (arith, many, room, leaf.next.some) in
-    keeps-leaf shape s.left s.page.value c.args.arity s.packer.at.next_page c.requires.safe.nine room leaf (c.requires.found.are some) c.args.kept.now c.requires.room
+    keeps-leaf shape s.left s.page.value c.args.arity s.packer.at.next_page c.requires.safe.nine room leaf (c.requires.found.are some) (subst (All (FitsLeaf shape)) (sym (c.requires.found.are some)) (c.requires.found.holds some).good) c.args.kept.now c.requires.room
     c.push.new.self _ c.push.ensures.nine
     (λ d. c.in_ok-push.ensures.pushed d ∙ now d) (ap (λ (n : ℕ). set s.left c.args.arity (slice_index s.left c.args.arity - n)) many)
