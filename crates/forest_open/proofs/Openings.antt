@@ -47,7 +47,7 @@ use Rattle.forest_store.proofs.Storable.{storable}
 use Rattle.forest_open.specs.declared.stop.OpenStop.{OpenStop}
 use Rattle.forest_open.specs.declared.stop.OpenStop.TheVariants as stops
 use Rattle.forest_open.specs.Breaks.{BreaksAt, TellsBreak}
-use Rattle.forest_open.specs.Judging.{IsNoDamage, IsWarehouse, Judges, JudgesRest, JudgesSide, MayBeOpened, NamesPlace}
+use Rattle.forest_open.specs.Judging.{IsFound, IsNoDamage, IsWarehouse, Judges, JudgesRest, JudgesSide, MayBeOpened, NamesPlace}
 use Rattle.forest_open.specs.Opening.{AreOpened, BreaksBody, BreaksEntries, BreaksEntry, BreaksNames, BreaksSide, HasSchema, Place, declared_by, entries_in, has_pages, is_of_schema, is_zero, schema_in, text_in}
 use Rattle.forest_open.proofs.Declarations.{declared_again}
 
@@ -338,6 +338,13 @@ opened_as body now disk (Ok (Some store)) same stable live judged = record {
   }));
 }
 opened_as body now disk (Err stop) same stable live judged = tt
+
+-- what is opened has the live body
+pub found_as : (body : Body) (files : Files) (result : Result (Option Store) OpenStop) → IsLiveBody body (files 0) → Judges body files result → IfOk result (IsFound files)
+found_as body files (Ok None) live judged = absurd judged
+found_as body files (Ok (Some store)) live judged =
+    (subst (λ (b : Body). IsLiveBody b (files 0)) (sym judged.0) live, subst (λ (b : Body). AreOpened b files store.forest.schema store.dicts) (sym judged.0) judged.1)
+found_as body files (Err stop) live judged = tt
 
 -- damage that is told is where a rule is broken
 pub damaged_as : (body : Body) (files : Files) (result : Result (Option Store) OpenStop) → IsLiveBody body (files 0) → Judges body files result → IfErr result (TellsBreak files)

@@ -1,0 +1,7 @@
+pub mod Added
+pub mod Agrees
+pub mod Coordinates
+pub mod Naming
+pub mod Places
+pub mod Puts
+pub mod Results

@@ -1,0 +1,5 @@
+pub mod Agreeing
+pub mod Audited
+pub mod Limits
+pub mod Reading
+pub mod Verdicts
