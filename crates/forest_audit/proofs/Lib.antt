@@ -1,5 +1,6 @@
 pub mod Added
 pub mod Agrees
+pub mod Apart
 pub mod Coordinates
 pub mod Naming
 pub mod Places
