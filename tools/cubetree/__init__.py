@@ -1,4 +1,4 @@
-"""Cubetree warehouses from Python: facts that are appended in batches, and sums, counts and extremes of them by group.
+"""Cubetree warehouses from Python: you append facts in batches, and ask for sums, counts and extremes of them by group.
 
     import cubetree
 
@@ -7,18 +7,18 @@
         answer = warehouse.slice("sum(qty),count by part where year=1997")
         print(answer.columns, list(answer))
 
-A row has a str or an int for each attribute and measure of the schema, in order of declaration. An answer is a list of tuples of str and int with the
-names of its columns, which pandas takes as it is: pandas.DataFrame(answer, columns=answer.columns). Texts may be any bytes: those that are no UTF-8 are
-surrogates, as in names of files (os.fsencode has the bytes).
+A row has a str or an int for each attribute and measure of the schema, in order of declaration. An answer is a list of tuples of str and int, with the
+names of its columns: pandas.DataFrame(answer, columns=answer.columns) makes a table of it. Texts may be any bytes: those that are no UTF-8 are
+surrogates, as in names of files (os.fsencode gives the bytes).
 
-The same rows come of a query in SQL, by warehouse.sql("SELECT part, SUM(qty) FROM facts GROUP BY part"), or by cubetree.connect("folder"), which is the interface
+A query in SQL gives the same rows: warehouse.sql("SELECT part, SUM(qty) FROM facts GROUP BY part"), or cubetree.connect("folder"), which is the interface
 of databases to Python (PEP 249).
 
-A level gives values of an attribute a parent each, as long as the warehouse is open: behind warehouse.level("kind", "part", {"bolt": "steel"}) one may ask
+A level gives values of an attribute a parent each, as long as the warehouse is open. After warehouse.level("kind", "part", {"bolt": "steel"}) you may ask
 warehouse.rollup("count by kind").
 
-What goes wrong is a Fault: Refused has the reply of the program and the place that it names, Busy is another run in the way of one that is not to wait,
-Ended has the status of a program that ended early, and Damaged the file and the offset as well.
+What goes wrong is a Fault. Refused has the reply of the program and the place that it names. Busy says that another run is in the way of one that is not
+to wait. Ended has the status of a program that ended early, and Damaged the file and the offset as well.
 """
 from .dbapi import (
     NUMBER, STRING, Connection, Cursor, DatabaseError, DataError, Error, IntegrityError, InterfaceError, InternalError, NotSupportedError, OperationalError,
