@@ -1,8 +1,13 @@
 pub mod Added
 pub mod Agrees
 pub mod Apart
+pub mod Contents
 pub mod Coordinates
+pub mod Limited
 pub mod Naming
 pub mod Places
 pub mod Puts
 pub mod Results
+pub mod Slots
+pub mod Standing
+pub mod States

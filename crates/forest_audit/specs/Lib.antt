@@ -2,4 +2,5 @@ pub mod Agreeing
 pub mod Audited
 pub mod Limits
 pub mod Reading
+pub mod States
 pub mod Verdicts

@@ -8,6 +8,7 @@ ghost use Rattle.site_core.specs.Frames.{CallsOnly, LooksOnly};
 ghost use Rattle.forest_root.specs.Forest.{pages_of_all};
 ghost use Rattle.forest_audit.specs.Audited.{side_file, trees_of};
 ghost use Rattle.forest_audit.specs.Reading.{AreRead, AreShaped};
+ghost use Rattle.forest_audit.specs.States.{AnswersState};
 ghost use Rattle.forest_audit.specs.declared.verdict.Verdict as verdicts;
 ghost use Rattle.forest_audit.specs.Verdicts.{IsStoreVerdict, IsVerdict, NamesPage, NamesView};
 
@@ -31,6 +32,8 @@ pub fn audit<T: Site>(alloc: Global, site: &mut T) -> Result<Verdict, AuditStop>
     ensures verdict { IsTrue T.tells → IfOk result (IsVerdict (T.disk site.old).files) }
     // And there is no other verdict of these files.
     ensures exact { IsTrue T.tells → (verdict : verdicts.Verdict) → IsVerdict (T.disk site.old).files verdict → IfOk result (λ found. found ≡ verdict) }
+    // Files that keep no schema are empty, and files that keep facts are audited.
+    ensures states { IsTrue T.tells → IfOk result (AnswersState (T.disk site.old).files) }
     ensures disk { IsTrue T.tells → Settles Stays (T.disk site.old) (T.disk site.new) result }
     ensures calls { CallsOnly T.Site (HasCauseWhere AuditStop.Disk) (1 + 2 ^ 36 + 2 ^ 50) 0 site.old site.new result }
     ensures writes { T.writes site.new ≡ T.writes site.old }
