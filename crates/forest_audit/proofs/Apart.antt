@@ -1,21 +1,21 @@
 -- Files have one verdict alone.
-use Rattle.std.proofs.Common.{◌≡◌, ◌⊎◌, ◌<◌, inl, inr, ℕ, List, [], ◌++◌, ◌*◌, Option, Some, None, length, refl, ap, sym, ◌∙◌, arith, subst, append-nil}
+use Rattle.std.proofs.Common.{◌≡◌, inl, inr, ℕ, ◌*◌, Some, refl, ap, sym, ◌∙◌, arith, subst, append-nil}
 use Rattle.std.proofs.lemmas.Bool.{cases_lt}
 use Rattle.site_core.specs.Disk.{Files}
 use Rattle.attr_dict.specs.Book.{Book, no_names}
 use Rattle.attr_dict.proofs.EntryReads.{read-only}
 use Rattle.cube_schema.specs.declared.schema.Schema.{Schema}
 use Rattle.forest_open.specs.Breaks.{BreaksAt}
-use Rattle.forest_open.specs.Opening.{AreOpened, BreaksBody, Place, schema_in}
+use Rattle.forest_open.specs.Opening.{BreaksBody, Place}
 use Rattle.forest_open.proofs.Openings.{break_one, one_break, opened_whole}
 use Rattle.forest_root.specs.declared.body.Body.{Body}
-use Rattle.forest_root.specs.Live.{IsFirstDamaged, IsLiveBody, NoneRaised}
+use Rattle.forest_root.specs.Live.{NoneRaised}
 use Rattle.forest_root.proofs.Answered.{live_damaged, live_none}
 use Rattle.forest_root.proofs.One.{one_body}
 use Rattle.tree_audit.proofs.Fronts.{audited-unbroken, broken-alone, tree-audited}
 use Rattle.forest_audit.specs.declared.verdict.Verdict.{Verdict}
 use Rattle.forest_audit.specs.declared.verdict.Verdict.TheVariants as verdicts
-use Rattle.forest_audit.specs.Audited.{AllKeep, BreaksAudit, BreaksPage, BreaksTree, BreaksView, IsAudited, TreeKeeps, first_page, offset_of, side_file, tree_counts, tree_place, trees_of}
+use Rattle.forest_audit.specs.Audited.{BreaksAudit, BreaksTree, IsAudited, TreeKeeps, first_page, offset_of, side_file, tree_counts, tree_place}
 use Rattle.forest_audit.specs.Limits.{limits_in}
 use Rattle.forest_audit.specs.Verdicts.{AreAudited, AreWrong, IsVerdict, OpensAs}
 
@@ -66,7 +66,8 @@ module _ (files : Files) where
       let read = one.opened.read in
       read.book ∙ sym (read-only (no_names schema) b _ read.es (read.are ∙ append-nil _) two.opened.read)
 
-  one-schema : (body : Body) (s t : Schema) (a b : Book) → OpensAs files body s a → OpensAs files body t b → s ≡ t
+  -- and what schema
+  pub one-schema : (body : Body) (s t : Schema) (a b : Book) → OpensAs files body s a → OpensAs files body t b → s ≡ t
   one-schema body s t a b one two = some-in s t (sym one.opened.declared.found ∙ two.opened.declared.found)
 
   -- two rules of opening and one of what was opened

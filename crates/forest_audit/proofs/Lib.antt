@@ -3,6 +3,7 @@ pub mod Agrees
 pub mod Apart
 pub mod Contents
 pub mod Coordinates
+pub mod Costs
 pub mod Limited
 pub mod Naming
 pub mod Places

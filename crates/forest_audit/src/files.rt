@@ -7,6 +7,7 @@ ghost use Rattle.site_core.specs.Disk.{Files};
 ghost use Rattle.site_core.specs.Frames.{CallsOnly, LooksOnly};
 ghost use Rattle.forest_root.specs.Forest.{pages_of_all};
 ghost use Rattle.forest_audit.specs.Audited.{side_file, trees_of};
+ghost use Rattle.forest_audit.specs.Cost.{CostsAudit, HaveFewPages};
 ghost use Rattle.forest_audit.specs.Reading.{AreRead, AreShaped};
 ghost use Rattle.forest_audit.specs.States.{AnswersState};
 ghost use Rattle.forest_audit.specs.declared.verdict.Verdict as verdicts;
@@ -36,6 +37,8 @@ pub fn audit<T: Site>(alloc: Global, site: &mut T) -> Result<Verdict, AuditStop>
     ensures states { IsTrue T.tells → IfOk result (AnswersState (T.disk site.old).files) }
     ensures disk { IsTrue T.tells → Settles Stays (T.disk site.old) (T.disk site.new) result }
     ensures calls { CallsOnly T.Site (HasCauseWhere AuditStop.Disk) (1 + 2 ^ 36 + 2 ^ 50) 0 site.old site.new result }
+    // One read of the root file, and one for each page of the names that count and of the trees.
+    ensures cost { IsTrue T.tells → CostsAudit (T.disk site.old).files (T.reads site.old) (T.reads site.new) }
     ensures writes { T.writes site.new ≡ T.writes site.old }
 {
     audit_files(alloc, site)
@@ -46,6 +49,8 @@ fn audit_files<T: Site>(alloc: Global, site: &mut T) -> Result<Verdict, AuditSto
     ensures verdict { IsTrue T.tells → IfOk result (IsVerdict (T.disk site.old).files) }
     ensures disk { IsTrue T.tells → Settles Stays (T.disk site.old) (T.disk site.new) result }
     ensures calls { CallsOnly T.Site (HasCauseWhere AuditStop.Disk) (1 + 2 ^ 36 + 2 ^ 50) 0 site.old site.new result }
+    ensures reads { IsTrue T.tells → (names trees : ℕ) → HaveFewPages (T.disk site.old).files names trees
+        → T.reads site.new ≤ T.reads site.old + (1 + names + trees) }
     ensures writes { T.writes site.new ≡ T.writes site.old }
 {
     match open_store(alloc, site) {

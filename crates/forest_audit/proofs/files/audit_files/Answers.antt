@@ -40,3 +40,15 @@ returns-in-Err-Damaged-clause-verdict g c = λ tells.
     let files = (g.T.Site.disk c.args.site.now).files in
     let broken : BreaksAt files (c.in-Err-Damaged.file, c.in-Err-Damaged.offset) = subst (TellsBreak files) c.in-Err-Damaged.field-0-is (c.in-Err-Damaged.ensures.damaged tells) in
     inl (subst (BreaksAt files) (λ i. (sym c.in-Err-Damaged.file-is i, sym c.in-Err-Damaged.offset-is i)) broken)
+
+pub returns-in-Ok-Some-clause-reads : goal.returns-in-Ok-Some-clause-reads
+returns-in-Ok-Some-clause-reads g c = λ tells names trees few.
+    let store = c.in-Ok-Some.store in
+    let files = (g.T.Site.disk c.args.site.now).files in
+    let found : IsFound files (Some store) = subst (IsFound files) c.in-Ok-Some.field-0-is (c.in-Ok-Some.ensures.found tells) in
+    omega (
+      arith,
+      c.in-Ok-Some.ensures.live_reads tells names few.names_few,
+      few.trees_few store.forest.body store.forest.schema store.dicts (record { live = found.0; opened = found.1 }),
+      c.audit_store.ensures.looks.reads,
+    )
