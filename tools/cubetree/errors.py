@@ -14,7 +14,11 @@ class Fault(Exception):
     """What ends a call, told in words."""
 
 
-class Busy(Fault):
+class Stopped(Fault):
+    """What ends a tool, and not a call of it alone."""
+
+
+class Busy(Stopped):
     """Another run is in the folder, and this one is not to wait."""
 
 
@@ -38,7 +42,7 @@ class Refused(Fault):
         self.name: Optional[str] = named.get("name")
 
 
-class Ended(Fault):
+class Ended(Stopped):
     """The program has ended early, with this status and with what it said on standard error."""
 
     def __init__(self, status: int, said: str) -> None:

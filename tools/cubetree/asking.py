@@ -1,0 +1,134 @@
+"""What a tool that asks does with its questions: it takes them from its words or from standard input, prints the answers, and tells refusals in words."""
+import os
+import re
+import select
+import stat
+import sys
+from typing import Callable, Iterator, List, Optional
+
+from .errors import Fault, Refused, Stopped
+from .schema import Schema
+from .words import shown
+
+MEANINGS = {
+    "syntax": "something else is due here: a slice is COLUMNS by NAMES where NAME=VALUE and ..",
+    "measure": "no measure has this name; there are",
+    "attribute": "no attribute has this name; there are",
+    "repeated": "this one is grouped by already, or has a condition already",
+    "value": "no such value can be: a text is quoted where it has more than letters, digits and _.-+, and a number or a range a..b is not",
+    "notcovered": "no view has all attributes that are grouped by or have a condition; the views are of",
+    "no": "no schema is declared in the folder",
+    "unknown": "the program does not know the command: it is older than this tool",
+    "level name": "a level has a name as in a schema, which no attribute, measure or other level has",
+    "level attribute": "no attribute has this name; there are",
+    "level many": "there are at most 16 attributes and levels together",
+    "fields": "a row of a level has a value and its parent",
+    "number": "the value is no whole number, or is out of range",
+    "long": "a text has at most 255 bytes",
+    "block": "a level has at most 67,108,864 bytes",
+    "rows": "a level has at most 262,144 rows",
+    "sql syntax": "something else is due here: a query is SELECT ITEMS FROM facts WHERE TESTS GROUP BY NAMES",
+    "sql table": "there is one table, facts",
+    "sql name": "no attribute or measure that can stand here has this name; there are",
+    "sql group": "an attribute that is asked for stands in GROUP BY, and stands there once",
+    "sql value": "no such value can be: a text stands in '..', a number does not, and texts have no order",
+}
+
+
+class Asked:
+    """What is asked: it answers a question by lines, and has a schema, and levels that stand beside its attributes."""
+
+    def __init__(self, answered: "Callable[[str], List[str]]", schema: "Callable[[], Optional[Schema]]", levels: "Callable[[], List[str]]", pause: "Callable[[], None]") -> None:
+        self.answered, self.schema, self.levels, self.pause = answered, schema, levels, pause
+
+
+def refusal(asked: Asked, text: str, refused: Refused) -> str:
+    """A refusal in words, below it the slice with a mark at the byte."""
+    lines = [meaning(asked.schema(), asked.levels(), refused)]
+    if refused.byte:
+        front = text.encode("utf-8", "surrogateescape")[: refused.byte - 1].decode("utf-8", "surrogateescape")
+        lines += [f"  {shown(text)}", f"  {' ' * len(shown(front))}^"]
+    return "\n".join(lines)
+
+
+def meaning(schema: Optional[Schema], levels: "list[str]", refused: Refused) -> str:
+    """A refusal, with what it says, and the names that there are."""
+    words = refused.reply.split()[1:]
+    word = " ".join(words[:2]) if words[0] in ("sql", "level") else words[2] if words[0] == "row" else words[0]
+    lists = {"measure": "measures", "attribute": "attributes", "level attribute": "own", "notcovered": "views", "sql name": "columns"}
+    names = ("; " if word == "notcovered" else ", ").join(listed(schema, levels, lists[word]) if word in lists else [])
+    means = "an earlier row has this value" if refused.row and word == "repeated" else MEANINGS.get(word, "")
+    return f"{refused.reply}: {means} {names}".rstrip(" :")
+
+
+def listed(schema: Optional[Schema], levels: "list[str]", what: str) -> "list[str]":
+    """The names of some things in the schema, and those of levels beside attributes."""
+    if schema is None:
+        return []
+    lists = {"attributes": schema.attributes + levels, "own": schema.attributes, "measures": schema.measures, "views": schema.views}
+    return lists.get(what, schema.columns())
+
+
+def questions(words: "list[str]") -> Iterator[Optional[str]]:
+    """The slices that are asked, without the word before them, and None before a wait for the next one."""
+    lines = iter([" ".join(words)]) if words else typed() if sys.stdin and sys.stdin.isatty() else piped()
+    for line in lines:
+        text = line and re.sub("^(slice|sql|rollup) ", "", line.rstrip("\r\n").strip(" "))
+        if text != "":
+            yield text
+
+
+def piped() -> Iterator[Optional[str]]:
+    """The lines of standard input, and None where none is there yet."""
+    is_open, front = sys.stdin is not None, b""
+    while is_open:
+        if not select.select([0], [], [], 0)[0]:
+            yield None
+        piece = os.read(0, 1 << 16)
+        is_open = piece != b""
+        *lines, front = (front + piece + (b"" if is_open else b"\n")).split(b"\n")
+        for line in lines:
+            yield line.decode("utf-8", "surrogateescape")
+
+
+def typed() -> Iterator[Optional[str]]:
+    """What is typed at a terminal, with lines that can be edited, and None before each."""
+    import readline
+
+    while True:
+        yield None
+        try:
+            yield input("slice ")
+        except EOFError:
+            print()
+            return
+
+
+def is_taken_at_once(text: str) -> bool:
+    """Whether standard output takes a text without waiting for whoever reads it."""
+    if stat.S_ISREG(os.fstat(1).st_mode):
+        return True
+    return len(text.encode("utf-8", "replace")) <= select.PIPE_BUF and bool(select.select([], [1], [], 0)[1])
+
+
+def answer_all(tool: str, asked: Asked, texts: Iterator[Optional[str]]) -> int:
+    """Prints the answers to all slices, and gives the status."""
+    status, first = 0, True
+    for text in texts:
+        if text is None:
+            asked.pause()
+            continue
+        try:
+            lines = asked.answered(text)
+        except Stopped:
+            raise
+        except Fault as fault:
+            print(f"{tool}: {refusal(asked, text, fault) if isinstance(fault, Refused) else fault}", file=sys.stderr)
+            status = 1
+            continue
+        printed = "".join(["" if first else "\n"] + [line + "\n" for line in lines])
+        if not is_taken_at_once(printed):
+            asked.pause()
+        print(printed, end="", flush=True)
+        first = False
+    return status
