@@ -8,6 +8,16 @@ PARTS = re.compile(r"(?P<columns>[^ ]+)(?: by (?P<groups>[^ ]+))?(?: where (?P<c
 COLUMN = re.compile(r"count|(?:sum|min|max)\((?P<measure>[^()]+)\)")
 CONDITION = re.compile(r'(?P<name>[^= ]+)=(?:"(?P<quoted>(?:[^"]|"")*)"|(?P<plain>[A-Za-z0-9_.+-]+))(?: and (?!$)|$)', re.DOTALL)
 
+LONGEST_SLICE = 65_000  # bytes
+
+
+def sent(text: str) -> bytes:
+    """The bytes of a slice or a query, as they are sent."""
+    line = text.encode("utf-8", "surrogateescape")
+    if b"\n" in line or len(line) > LONGEST_SLICE:
+        raise Fault(f"a slice is one line of at most {LONGEST_SLICE:,} bytes, and so is a query")
+    return line
+
 
 class Condition(NamedTuple):
     """What an attribute has to be: a text, a number, or a range of numbers."""

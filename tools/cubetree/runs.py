@@ -5,6 +5,7 @@ import re
 import shutil
 import signal
 import subprocess
+from contextlib import suppress
 from typing import Sequence
 
 from .errors import Fault, ended
@@ -13,12 +14,13 @@ TOP = os.path.dirname(os.path.dirname(os.path.dirname(os.path.realpath(__file__)
 SHIELDED = {signal.SIGINT, signal.SIGTERM}
 
 
-def program() -> str:
-    """The program: that of $CUBETREE, or the one that the repository of this package has built, or `cubetree` as it is found in the PATH."""
-    built = os.path.join(TOP, "crates", "cubetree", "out", "cubetree")
-    found = os.environ.get("CUBETREE") or (built if os.access(built, os.X_OK) else shutil.which("cubetree"))
+def program(name: str = "cubetree") -> str:
+    """The program of this name: that of $CUBETREE, or the one that the repository of this package has built, or `cubetree` as it is found in the PATH; and
+    in the same way `cubefold`."""
+    built, variable = os.path.join(TOP, "crates", name, "out", name), name.upper()
+    found = os.environ.get(variable) or (built if os.access(built, os.X_OK) else shutil.which(name))
     if not found:
-        raise Fault("no program `cubetree` in the PATH, and none that is named by $CUBETREE")
+        raise Fault(f"no program `{name}` in the PATH, and none that is named by ${variable}")
     return os.path.abspath(found)
 
 
@@ -66,6 +68,15 @@ class Run:
                 return records, record[0]
             records.append(record)
         raise AssertionError("a reply has a last line")
+
+    def last_answer(self, command: bytes) -> bytes:
+        """The whole reply to a command that is the last one of the run, as it was printed; a fault where the run does not end well."""
+        self.send(command)
+        with suppress(BrokenPipeError):
+            self.input.close()
+        reply = self.output.read()
+        self.end()
+        return reply
 
     def close(self) -> int:
         """The status with which it ends, its script being at an end."""

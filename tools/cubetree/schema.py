@@ -51,10 +51,15 @@ def declared_lines(lines: Union[str, Iterable[str]]) -> "list[str]":
     return ["" if line.startswith("#") else line for line in parted if line not in ("schema", "end")]
 
 
-def kept_schema(folder: str) -> Schema:
-    """The schema that the folder keeps, which is declared: its text stands at the front of the file `names`, and behind it names, each of
+def kept_lines(folder: str) -> "list[str]":
+    """The lines of the schema that the folder keeps, which is declared: its text stands at the front of the file `names`, and behind it names, each of
     which begins with the number of an attribute, below 16."""
     with open(os.path.join(folder, "names"), "rb") as file:
         text = file.read(1 << 16)
     lines = re.match(rb"(?:(?:attr|measure|view)[a-z0-9_, ]*\n)*", text)
-    return Schema(lines[0].decode().splitlines() if lines else [])
+    return lines[0].decode().splitlines() if lines else []
+
+
+def kept_schema(folder: str) -> Schema:
+    """The schema that the folder keeps, which is declared."""
+    return Schema(kept_lines(folder))

@@ -26,7 +26,7 @@ class Table:
         text = io.TextIOWrapper(self.file, encoding="utf-8-sig", errors="surrogateescape", newline="")
         csv.field_size_limit(1 << 26)
         self.reader = csv.reader(text, delimiter=delimiter, strict=True)
-        self.row = 0
+        self.row, self.lines = 0, 0
         self.names = names_of(next(self.records(), []))
         if not self.names:
             raise Fault("there is no header line")
@@ -36,7 +36,7 @@ class Table:
         try:
             yield from filter(None, self.reader)
         except csv.Error as error:
-            raise Fault(f"line {self.reader.line_num}, behind row {self.row}, is no csv: {error}")
+            raise Fault(f"line {self.lines + self.reader.line_num}, behind row {self.row}, is no csv: {error}")
 
     def rows(self) -> "Iterator[list[str]]":
         """The rows behind the header, which have as many fields."""
@@ -47,9 +47,13 @@ class Table:
                 raise Fault(f"{self.place()} has {counted(len(row), 'field')}, and the header has {width}")
             yield row
 
+    def go_on(self, row: int, lines: int) -> None:
+        """Counts on from rows, and from lines behind the header, that were read elsewhere."""
+        self.row, self.lines = row, lines
+
     def place(self) -> str:
         """Which row was read last."""
-        return f"row {self.row} (line {self.reader.line_num})"
+        return f"row {self.row} (line {self.lines + self.reader.line_num})"
 
     def part(self) -> float:
         """The part of the file that was read."""

@@ -10,7 +10,7 @@ from .errors import Fault, Refused
 from .levels import Level, Pairs, level_in_file, level_of
 from .pages import Visits, visits
 from .queries import Query
-from .questions import question_of
+from .questions import question_of, sent
 from .rows import Answer, GivenRow, answer_of, block_of
 from .schema import Schema, declared_lines
 from .sessions import Asking, Loading, Session
@@ -19,7 +19,6 @@ from .views import Choice, views_of
 
 LONGEST_RUN = 1.0  # seconds of a run that only asks, after which others get their turn
 LONGEST_PAUSE = 0.1  # seconds between two of its questions
-LONGEST_SLICE = 65_000  # bytes
 
 
 class Status(NamedTuple):
@@ -92,13 +91,13 @@ class Warehouse:
 
     def slice(self, text: str) -> Answer:
         """The answer to a slice, in the words of the program without `slice` before them."""
-        schema, records = self._rows(b"slice " + _line(text))
+        schema, records = self._rows(b"slice " + sent(text))
         return answer_of(question_of(text), schema, records)
 
     def sql(self, text: str) -> Answer:
         """The answer to a query in SQL of the table `facts`. The columns are called as they are written."""
         query = Query(text)
-        line = _line(query.sent())
+        line = sent(query.sent())
         with self._question() as session:
             records, last = session.answer(b"sql " + line)
         if session.schema is None or last.startswith("refused "):
@@ -116,7 +115,7 @@ class Warehouse:
 
     def rollup(self, text: str) -> Answer:
         """The answer to a slice in which the names of levels may stand where those of attributes of texts may; a value without a parent has the empty text."""
-        schema, records = self._rows(b"rollup " + _line(text), self._levels)
+        schema, records = self._rows(b"rollup " + sent(text), self._levels)
         return answer_of(question_of(text), schema, records)
 
     @property
@@ -126,14 +125,14 @@ class Warehouse:
 
     def explain(self, text: str) -> Choice:
         """The view that answers a slice; what `slice` refuses is refused."""
-        command = b"explain " + _line(text) + b"\n"
+        command = b"explain " + sent(text) + b"\n"
         with self._question() as session:
             reply = session.ask(command)
         return _choice(reply, session.schema)
 
     def visits(self, text: str) -> Visits:
         """The same, with how many pages the slice goes to."""
-        command = b"explain " + _line(text) + b"\n"
+        command = b"explain " + sent(text) + b"\n"
         with self._question() as session:
             reply = session.ask(command)
             if session.schema and not reply.startswith("refused "):
@@ -229,14 +228,6 @@ class Warehouse:
             with self._lock, suppress(Fault):  # All that was asked has been answered.
                 if not over.is_set() and time.monotonic() > self._asked + LONGEST_PAUSE:
                     self.pause()
-
-
-def _line(text: str) -> bytes:
-    """The bytes of a slice or a query."""
-    line = text.encode("utf-8", "surrogateescape")
-    if b"\n" in line or len(line) > LONGEST_SLICE:
-        raise Fault(f"a slice is one line of at most {LONGEST_SLICE:,} bytes, and so is a query")
-    return line
 
 
 def _choice(reply: str, schema: Optional[Schema]) -> Choice:

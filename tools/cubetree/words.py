@@ -50,14 +50,15 @@ class Progress:
             print("\r\x1b[K", end="", file=sys.stderr, flush=True)
 
 
-def version(tool: str) -> str:
-    """Which package a tool is of, and which program it runs."""
+def version(tool: str, *others: str) -> str:
+    """Which package a tool is of, and which program it runs, with others beside."""
     try:
         with open(os.path.join(os.path.dirname(os.path.abspath(__file__)), "VERSION"), encoding="ascii") as file:
             package = f"of the package cubetree {file.read().strip()}"
     except FileNotFoundError:
         package = "of a checkout, and of no package"
     try:
-        return f"{tool}, {package}; the program is {program()}"
+        beside = "".join(f", and {program(name)}" for name in others)
+        return f"{tool}, {package}; the program is {program()}{beside}"
     except Fault as fault:
         return f"{tool}, {package}; {fault}"
