@@ -1,0 +1,352 @@
+"""Tests of shards."""
+import csv
+import fcntl
+import io
+import json
+import os
+import random
+import shutil
+import signal
+import sqlite3
+import subprocess
+import sys
+import tempfile
+import threading
+import time
+import unittest
+from typing import Any, List, Optional
+from zlib import crc32
+
+from cubetree.errors import Fault
+from cubetree.pieces import Pieces
+from cubetree.runs import program
+from cubetree.schema import Schema
+from cubetree.shards import Cutter, shards_in
+from test_cubetree import SCHEMA, Room
+from tests.case import Case, TOOLS, ask, load, run, wait_too_long
+from tests.load_csv import LoadCsv
+from tests.machines import Machines, has_engine
+
+SLICES = ["count,sum(qty),min(qty),max(qty)", "sum(qty),count by part", "max(qty) by part,year where year=1999..2003", "min(qty) by year where part=p7", "sum(qty) by part where year=7"]
+
+
+def rows_of(seed: int, count: int) -> "list[tuple[str, int, int]]":
+    """Facts that are drawn, the same ones each time."""
+    draw = random.Random(seed)
+    return [(draw.choice(["a,b", 'say "x"', "größe"]) if draw.random() < 0.01 else f"p{draw.randrange(40)}", draw.randrange(1990, 2020), draw.randrange(-99, 1000)) for _ in range(count)]
+
+
+def lines_of(rows: "list[tuple[str, int, int]]") -> str:
+    """Their lines as csv."""
+    text = io.StringIO()
+    csv.writer(text, lineterminator="\n").writerows(rows)
+    return text.getvalue()
+
+
+def sums_in_sqlite(rows: "list[tuple[str, int, int]]") -> "list[list[list[str]]]":
+    """What SQLite answers to the slices, over the same rows."""
+    base = sqlite3.connect(":memory:")
+    base.execute("create table facts (part text, year int, qty int)")
+    base.executemany("insert into facts values (?, ?, ?)", rows)
+    queries = [
+        "select count(*), sum(qty), min(qty), max(qty) from facts",
+        "select part, sum(qty), count(*) from facts group by part order by part",
+        "select part, year, max(qty) from facts where year between 1999 and 2003 group by part, year order by part, year",
+        "select year, min(qty) from facts where part = 'p7' group by year order by year",
+        "select part, sum(qty) from facts where year = 7 group by part order by part",
+    ]
+    return [[[str(cell) for cell in row] for row in base.execute(query)] for query in queries]
+
+
+class Cut(Case):
+    """What needs no engine: the rows of a file, and the batches that they go into."""
+
+    def flat(self, name: str, delimiter: str = ",", lines: "tuple[str, ...]" = ("attr part text", "measure qty", "view part")) -> "list[bytes]":
+        return [row for piece in Pieces(name, delimiter).rows(Schema(lines)) for row in piece]
+
+    def test_odd_files(self) -> None:
+        """The rows are those that load-csv makes of the file."""
+        self.put("schema", "attr part text\nmeasure qty\nview part\n")
+        for content, _ in LoadCsv.ODD:
+            with self.subTest(content[:40]):
+                words = ["--delimiter", ";"] if b";" in content else []
+                script = load("--schema", "schema", *words, self.put("file", content))[0].encode("utf-8", "surrogateescape")
+                wanted = script.partition(b"load\n")[2].rpartition(b"end\n")[0].lstrip(b"\n")
+                self.assertEqual(b"".join(row + b"\n" for row in self.flat("file", *words[1:])), wanted)
+
+    def test_long_file(self) -> None:
+        """What is read as it stands, in pieces, with a quote far behind, is as if read by csv."""
+        rows = [(f"p{number}", number, 1) for number in range(150_000)] + [('a"b', 1, 1), ("end of it", 2, 2)] + [(f"q{number}", number, 1) for number in range(1000)]
+        self.put("file", "part,year,qty\n" + lines_of(rows).replace("p7,", "\n\np7,"))
+        self.put("odd", 'part,year,"qty"\n' + lines_of(rows))
+        lines = tuple(SCHEMA.splitlines())
+        self.assertEqual(self.flat("file", ",", lines), self.flat("odd", ",", lines))
+        self.assertEqual(len(self.flat("file", ",", lines)), len(rows))
+        self.put("short", "part,year,qty\n" + lines_of(rows) + "x,1\n")
+        with self.assertRaisesRegex(Fault, r"row 151003 \(line 151004\) has 2 fields, and the header has 3"):
+            self.flat("short", ",", lines)
+
+    def test_batches_are_the_same_in_all_pieces(self) -> None:
+        """However a file comes in pieces, its batches are the same, each of a shard of its own, and no row is lost."""
+        rows = [line.encode() for line in lines_of(rows_of(4, 5000)).splitlines()]
+        wanted = sorted(Cutter([1, 5, 1], 100).batches([rows]))
+        for size in (1, 7, 1000):
+            self.assertEqual(sorted(Cutter([1, 5, 1], 100).batches(rows[first : first + size] for first in range(0, len(rows), size))), wanted)
+        for shard in range(3):
+            batches = [batch for batch in wanted if batch.shard == shard]
+            self.assertEqual([batch.number for batch in batches], list(range([1, 5, 1][shard], [1, 5, 1][shard] + len(batches))))
+            self.assertEqual(b"".join(batch.rows for batch in batches).splitlines(), [row for row in rows if crc32(row) % 3 == shard])
+            self.assertGreater(len(batches), 10)
+        for batch in wanted:
+            self.assertEqual(batch.rows.splitlines(), [rows[place - 1] for place in batch.places])
+
+    def test_batches_of_long_rows(self) -> None:
+        """A batch is cut by its bytes as well, the same in all pieces, and a row that would end its block is named."""
+        rows = [b"x" * 40_000 + b",%d" % number for number in range(4000)]
+        wanted = list(Cutter([1], 100_000).batches([rows]))
+        self.assertEqual([len(batch.places) for batch in wanted], [1677, 1677, 646])
+        self.assertEqual(list(Cutter([1], 100_000).batches([row] for row in rows)), wanted)
+        for row in (b"end", b'"a\nend\nb",1', b'"a\r\nend\r\nb",1'):
+            with self.assertRaisesRegex(Fault, "row 2 has a line that is `end`"):
+                list(Cutter([1], 10).batches([[b"a,1", row, b"b,1"]]))
+
+    def test_files_of_shards(self) -> None:
+        self.put("shards", "# mine\nscheduler tcp://h:1\n\ntcp://a:2 /x y\ntcp://b:2\t/x\n")
+        self.assertEqual(shards_in("shards"), ("tcp://h:1", [(1, "tcp://a:2", "/x y"), (2, "tcp://b:2", "/x")]))
+        for text, wanted in [
+            ("tcp://a:2 /x\n", "there is no line `scheduler ADDRESS`"),
+            ("scheduler tcp://h:1\n", "no shard is named"),
+            ("scheduler tcp://h:1\ntcp://a:2\n", "line 2 is neither"),
+            ("scheduler tcp://h:1\nscheduler tcp://h:2\ntcp://a:2 /x\n", "line 1 is neither"),
+            ("scheduler tcp://h:1\na:2 /x\n", "line 2 is neither"),
+            ("scheduler tcp://h:1\ntcp://a:2 /x\ntcp://a:2 /x\n", "a folder is named twice"),
+        ]:
+            self.put("shards", text)
+            with self.assertRaisesRegex(Fault, wanted):
+                shards_in("shards")
+
+
+def passed_over() -> bool:
+    """Whether there is no engine, of which a line says so."""
+    if not hasattr(passed_over, "told"):
+        passed_over.told = not has_engine()  # type: ignore[attr-defined]
+        if passed_over.told:  # type: ignore[attr-defined]
+            print("test-tools: python3-distributed is not there and cannot be installed: what needs it of the tests of shards is passed over", file=sys.stderr)
+    return bool(passed_over.told)  # type: ignore[attr-defined]
+
+
+class WithEngine(Case):
+    """Tests with the engine."""
+
+    def setUp(self) -> None:
+        super().setUp()
+        if passed_over():
+            self.skipTest("no python3-distributed")
+        signal.signal(signal.SIGALRM, wait_too_long)
+        signal.alarm(600)
+        self.addCleanup(signal.alarm, 0)
+        self.put("schema", SCHEMA)
+
+    where: "list[str]" = []
+
+    def shards(self, command: str, *words: str, **more: Any) -> "tuple[str, str]":
+        return run(os.path.join(TOOLS, "shards"), command, *self.where, *words, **more)
+
+    def answers(self) -> "list[list[list[str]]]":
+        """The rows of the answers to all slices."""
+        told = self.shards("ask", "--csv", given="".join(text + "\n" for text in SLICES).encode())[0]
+        return [list(csv.reader(io.StringIO(text)))[1:] for text in told.split("\n\n")]
+
+
+class LocalShards(WithEngine):
+    def test_local_cluster(self) -> None:
+        """Four shards on this machine answer as one folder does, in each form; a file that is loaded again counts once."""
+        self.where = ["--local", "s"]
+        rows = rows_of(57, 6000)
+        self.put("file", "part,year,qty\n" + lines_of(rows))
+        self.assertEqual(self.shards("init", "--count", "4", "schema"), ("", "shards: 4 shards, which keep 0 facts\n"))
+        said = self.shards("load", "--batch", "400", "file")[1]
+        self.assertRegex(said, r"shards: --number 1,1,1,1 goes on where this load is cut off\nshards: 6,000 rows loaded; the shards keep 6,000 facts; the next numbers are 5,5,5,5\n")
+        self.assertIn("0 rows loaded, 6,000 were there already; the shards keep 6,000 facts", self.shards("load", "--batch", "400", "--number", "1", "file")[1])
+        self.assertRegex(self.shards("status")[0], r"shard 4 \(.*/s/4 on tcp://127.0.0.1:\d+\): 1,\d+ facts, the next batch is 5\n4 shards: 6,000 facts, the next batches are 5,5,5,5\n")
+        self.assertEqual(self.answers(), sums_in_sqlite(rows))
+        load("--into", "w", "--schema", "schema", "file")
+        asked = "".join(text + "\n" for text in [*SLICES, "count by part,part", "sum(cost)"]).encode()
+        for form in ([], ["--json"]):
+            told, said = self.shards("ask", *form, given=asked, status=1)
+            self.assertEqual((told, said.replace("shards: ", "ask: ")), ask("--in", "w", *form, given=asked, status=1))
+
+
+class ManyMachines(WithEngine):
+    """Shards by a scheduler that runs beside."""
+
+    COUNT, APART, DEATHS = 4, False, 1
+    machines: Machines
+    # What the workers run in the place of the program: it does what a file beside it says.
+    STUB = '#!/bin/sh\nif [ -e "$ROOM/die" ]; then kill -9 $PPID; exit 1; fi\nif [ -e "$ROOM/early" ]; then exit 7; fi\nexec "$PROGRAM"\n'
+
+    def setUp(self) -> None:
+        super().setUp()
+        self.put("stub", self.STUB)
+        os.chmod("stub", 0o755)
+        self.machines = Machines(self.room, self.COUNT, self.APART, self.DEATHS, CUBETREE=os.path.join(self.room, "stub"), ROOM=self.room, PROGRAM=program())
+        self.addCleanup(self.machines.stop)
+        self.where = ["--shards", "shards"]
+        self.name()
+
+    def name(self, *order: int, folders: str = "f{}", scheduler: Optional[str] = None) -> None:
+        """Writes the file of shards."""
+        lines = [f"scheduler {scheduler or f'tcp://127.0.0.1:{self.machines.port}'}"]
+        lines += [f"{self.machines.addresses[number]} {os.path.join(self.room, folders.format(number))}" for number in order or range(self.COUNT)]
+        self.put("shards", "\n".join(lines))
+
+
+class Messages(ManyMachines):
+    COUNT = 2
+
+    def failed(self, status: int, wanted: str, command: str, *words: str) -> None:
+        """A command ends with this status, and says this, with nothing on standard output."""
+        told, said = self.shards(command, *words, status=status)
+        self.assertEqual(told, "")
+        self.assertRegex(said.splitlines()[-1], wanted)
+        self.assertLess(said.count("\n"), 4)
+
+    def row(self, shard: int, number: str) -> str:
+        """A row that goes to this shard."""
+        return next(row for row in (f"p{part},1,{number}" for part in range(100)) if crc32(row.encode()) % 2 == shard)
+
+    def test_messages(self) -> None:
+        """Each thing that can be wrong is named, with a status of its own."""
+        self.unknown()
+        self.refused()
+        self.changed_and_damaged()
+        self.missing()
+        self.dying()
+        self.words()
+
+    def unknown(self) -> None:
+        self.failed(7, r"shard 1 \(.*/f0 on tcp://127.0.0.1:\d+\): there is no such folder", "status")
+        os.mkdir("f0")
+        self.failed(7, "shard 1 .*: the folder is no shard: `shards init` makes it one", "ask", "count")
+        self.put("bad", "attr part\n")
+        self.failed(1, "the schema was refused: refused schema line 1: attr part", "init", "bad")
+        self.shards("init", "schema")
+        self.name(1, 0)
+        self.failed(7, "shard 1 .*: the folder is shard 2 of 2, and is named as shard 1 of 2", "status")
+        self.name(0)
+        self.failed(7, "shard 1 .*: the folder is shard 1 of 2, and is named as shard 1 of 1", "load", self.put("file", "part,year,qty\na,1,1\n"))
+        self.name()
+        self.put("other", SCHEMA + "view part\n")
+        self.failed(9, "shard 1 .*: the folder has another schema", "init", "other")
+        os.mkdir("w/x")
+        run(program(), given=f"schema\n{SCHEMA}end\nload\na,1,1\nend\n".encode(), cwd="w/x")
+        self.name(folders="w/x")
+        with open("shards") as file:
+            first = file.read().splitlines()
+        self.put("shards", "\n".join(first[:2]))
+        self.failed(7, "shard 1 .*: the folder has facts that no shard has loaded", "init", "schema")
+        self.name()
+
+    def refused(self) -> None:
+        first, second = self.row(0, "1"), self.row(1, "2")
+        self.put("file", f"part,year,qty\n{first}\n{second}\np1,x,1\n{second}\n")
+        self.failed(1, "row 3 was refused: year is no whole number, or is out of range; take it out of the file, and the same words go on", "load", "file")
+        self.put("file", f"part,year,qty\n{first}\n{second}\n{second}\n")
+        self.shards("load", "--number", "1", "file")
+        self.assertEqual(self.answers()[0], [["3", "5", "1", "2"]])
+        self.failed(1, "the shards have facts already: --number tells the first batches", "load", "file")
+        self.failed(1, "--number has 3 numbers, and there are 2 shards", "load", "--number", "1,2,3", "file")
+        self.failed(1, "shard [12] .*: batch 5 was refused: the shard has no batch before it", "load", "--number", "5", "file")
+        self.failed(1, "row 1 has a line that is `end`", "load", "--number", "2", self.put("ends", 'part,year,qty\n"a\nend\nb",1,1\n'))
+        self.failed(1, "the header has no column for `year`; its columns are part, qty", "load", "--number", "2", self.put("narrow", "part,qty\na,1\n"))
+        self.failed(1, "nothing: No such file", "load", "--number", "2", "nothing")
+        self.failed(1, r" +\^", "ask", "sum(cost)")
+        self.failed(1, "a query in SQL is for one folder", "ask", "select count(*) from facts")
+        self.failed(1, "a slice is one line", "ask", "count\nstatus")
+
+    def changed_and_damaged(self) -> None:
+        changed = f"part,year,qty\n{self.row(0, '7')}\n"
+        self.failed(12, "shard 1 .*: batch 1 was loaded with other rows", "load", "--number", "1", self.put("file", changed))
+        half = str(1 << 126)
+        self.put("file", f"part,year,qty\n{self.row(0, half)}\n{self.row(1, half)}\n")
+        self.shards("load", "--number", "2", "file")
+        self.failed(11, r"the numbers of a column add up to more than 2\^127 - 1 over all shards", "ask", "sum(qty)")
+        self.assertEqual(self.shards("ask", "--csv", "count")[0], "count\n5\n")
+        with open("f1/root", "rb") as file:
+            root = file.read()
+        with open("f1/root", "r+b") as file:
+            for slot in range(2):  # the number of the format in each body
+                file.seek(1024 * slot + 8)
+                file.write(b"xx")
+        self.failed(6, r"shard 2 .*: the program ended with the status 6: cubetree: damaged file 0 at \d+", "ask", "count")
+        self.failed(6, "shard 2 .*: the program ended with the status 6", "load", "--number", "3", "file")
+        with open("f1/root", "wb") as file:
+            file.write(root)
+        with open("f0/.turns/writer") as lock:
+            fcntl.flock(lock, fcntl.LOCK_EX)
+            self.failed(4, "shard 1 .*: another run is in ", "load", "--no-wait", "--number", "3", "file")
+
+    def missing(self) -> None:
+        self.put("early", "")
+        self.failed(3, "shard 1 .*: the program ended with the status 7", "status")
+        os.remove("early")
+        with open("shards") as file:
+            lines = file.read().splitlines()
+        self.put("shards", "\n".join([*lines[:2], f"tcp://127.0.0.1:9 {self.room}/f1"]))
+        self.failed(8, "shard 2 .*/f1 on tcp://127.0.0.1:9.: the scheduler has had no worker of this address for 1 second", "status", "--patience", "1")
+        self.name(scheduler="tcp://127.0.0.1:9")
+        self.failed(5, "no scheduler answers at tcp://127.0.0.1:9", "ask", "--patience", "1", "count")
+        self.name()
+        os.mkdir("no")
+        self.put("no/distributed.py", "raise ImportError\n")
+        self.put("no/sitecustomize.py", f"import sys\nsys.path.insert(0, {os.path.join(self.room, 'no')!r})\n")
+        told, said = self.shards("status", status=5, env=dict(os.environ, PYTHONPATH="no"))
+        self.assertEqual((told, said), ("", "shards: /usr/bin/python3 has no package `distributed`: apt install python3-distributed, which is for /usr/bin/python3\n"))
+        fold = self.put("fold", "#!/bin/sh\ncat > none\necho 'cubefold: no whole reply' >&2\nexit 11\n")
+        os.chmod(fold, 0o755)
+        told, said = self.shards("ask", "count", status=11, env=dict(os.environ, CUBEFOLD=os.path.abspath(fold)))
+        self.assertEqual((told, said), ("", "shards: the replies cannot be folded: cubefold: no whole reply\n"))
+
+    def dying(self) -> None:
+        self.put("die", "")
+        self.failed(10, "shard [12] .*: its worker has died 2 times in one task", "ask", "count")
+        os.remove("die")
+        self.assertEqual(self.shards("ask", "--csv", "count")[0], "count\n5\n")
+
+    def words(self) -> None:
+        for words in (["status"], ["status", "--local", "x", "--shards", "y"], ["load", "--local", "x"], ["init", "--shards", "x", "--count", "2", "s"], ["never"], []):
+            run(os.path.join(TOOLS, "shards"), *words, status=2)
+        for words in (["--batch", "0"], ["--number", "0"], ["--number", "x"], ["--delimiter", "xx"], ["--patience", "-1"]):
+            run(os.path.join(TOOLS, "shards"), "load", "--local", "x", *words, "file", status=2)
+        self.assertIn("s has no shards: `shards init` makes them", run(os.path.join(TOOLS, "shards"), "status", "--local", "s", status=7)[1])
+        self.assertIn("usage", run(os.path.join(TOOLS, "shards"), "--help")[0])
+
+
+class KilledWorkers(ManyMachines):
+    """A load during which workers are killed."""
+
+    APART, DEATHS, KILLS = True, 100, 20
+
+    def test_killed_at_random(self) -> None:
+        """Twenty times a worker is killed at a random moment; the sums are those of SQLite in the end, and each fact counts once."""
+        draw, rows = random.Random(time.time_ns()), rows_of(58, 40_000)
+        self.shards("init", "schema")
+        os.mkfifo("pipe")
+        begun = subprocess.Popen([os.path.join(TOOLS, "shards"), "load", *self.where, "--batch", "250", "pipe"], stderr=subprocess.PIPE)
+        self.addCleanup(begun.communicate)
+        self.addCleanup(begun.kill)
+        with open("pipe", "wb", buffering=0) as pipe:
+            pipe.write(b"part,year,qty\n")
+            part = len(rows) // (self.KILLS + 1)
+            for kill in range(self.KILLS):
+                # The pipe takes what the load has room for, so the rows before are on their way when the worker dies.
+                pipe.write(lines_of(rows[kill * part : (kill + 1) * part]).encode())
+                time.sleep(draw.random())
+                self.machines.kill_worker(draw.randrange(self.COUNT))
+            self.assertIsNone(begun.poll(), "the load has ended early")
+            pipe.write(lines_of(rows[self.KILLS * part :]).encode())
+        said = begun.communicate(timeout=300)[1].decode()
+        self.assertEqual(begun.returncode, 0, said)
+        self.assertRegex(said, r"shards: [\d,]+ rows loaded(, [\d,]+ were there already)?; the shards keep 40,000 facts; the next numbers are ")
+        self.assertIn("4 shards: 40,000 facts, the next batches are ", self.shards("status")[0])
+        self.assertEqual(self.answers(), sums_in_sqlite(rows))
