@@ -9,6 +9,7 @@ import socket
 import sys
 import tempfile
 import time
+import warnings
 from typing import Any, Callable, Dict, Iterator, Sequence, TypeVar, Union, cast
 
 from . import parts
@@ -39,7 +40,8 @@ def need_engine() -> None:
     """Ends where there is no engine."""
     if distributed is None:
         raise ShardFault(ENGINE, f"{sys.executable} has no package `distributed`: apt install python3-distributed, which is for /usr/bin/python3")
-    logging.getLogger("distributed").setLevel(logging.CRITICAL)
+    logging.disable(logging.CRITICAL)
+    warnings.filterwarnings("ignore", "Large object of size", UserWarning)  # A batch stands in its task, which the engine may have to repeat.
 
 
 class Engine:
@@ -62,16 +64,26 @@ class Engine:
     def result(self, shard: Shard, future: Any, _: "Task[Result]") -> Result:
         """What a task has found, which is done; what went wrong is raised."""
         try:
-            found: Union[Trouble, Result] = self.client.gather(future, direct=True)
+            found: Union[Trouble, Result] = self.gathered(future)
         except distributed.scheduler.KilledWorker as error:
             raise shard.fault(DIED, f"its worker has died {error.allowed_failures + 1} times in one task") from error
         except (distributed.CancelledError, OSError) as error:
-            raise ShardFault(ENGINE, f"the scheduler was lost: {error}") from error
+            raise ShardFault(ENGINE, "the scheduler was lost") from error
         except (ImportError, AttributeError) as error:
             raise shard.fault(UNREACHABLE, f"its worker has no package `cubetree` like this one: {error}") from error
         if isinstance(found, Trouble):
             raise Refused(found.words) if found.kind == parts.REFUSED else shard.fault(STATUSES.get(found.kind, 1), found.words)
         return found
+
+    def gathered(self, future: Any) -> Any:
+        """What a task has found. Where it was lost with its worker the task is repeated, and so is a wait that was too short."""
+        timeout = 4 * LOOK
+        while True:
+            try:
+                return future.result(timeout=timeout)
+            except distributed.TimeoutError:
+                self.look_for_workers()
+                timeout *= 2
 
     def each(self, task: "Task[Result]", *words: Any) -> "list[Result]":
         """What a task finds for each shard."""
@@ -89,6 +101,8 @@ class Engine:
             distributed.wait(left, timeout=LOOK, return_when="FIRST_COMPLETED" if any_of else "ALL_COMPLETED")
         except distributed.TimeoutError:
             self.look_for_workers()
+        except distributed.CancelledError as error:
+            raise ShardFault(ENGINE, "the scheduler was lost") from error
         return [future for future in futures if not future.done()]
 
     # ---- workers
@@ -123,7 +137,7 @@ def cluster_at(scheduler: str, shards: Sequence[Shard], waits: bool, patience: f
     """An engine that runs already."""
     need_engine()
     try:
-        client = distributed.Client(scheduler, timeout=max(patience, 1))
+        client = distributed.Client(scheduler, timeout=max(patience, 1), direct_to_workers=True)
     except (OSError, ValueError) as error:
         raise ShardFault(ENGINE, f"no scheduler answers at {scheduler}") from error
     try:
@@ -154,7 +168,7 @@ def local_cluster(folders: Sequence[str], waits: bool, patience: float) -> Itera
         of_each: Dict[str, Any] = {"host": HOST, "nthreads": 1, "memory_limit": 0, "local_directory": room, "dashboard": False, "silence_logs": logging.CRITICAL}
         workers = {shard.number: {"cls": distributed.Nanny, "options": {**of_each, "worker_port": port}} for shard, port in zip(shards, ports)}
         with distributed.SpecCluster(workers=workers, scheduler=scheduler, silence_logs=logging.CRITICAL) as cluster:
-            with distributed.Client(cluster) as client:
+            with distributed.Client(cluster, direct_to_workers=True) as client:
                 engine = Engine(client, shards, waits, patience)
                 engine.wait_for_workers()
                 yield engine

@@ -6,7 +6,7 @@ import signal
 import socket
 import subprocess
 import time
-from typing import Dict, List, Optional
+from typing import List, Optional
 
 from tests.case import TOOLS, until
 
@@ -86,17 +86,19 @@ class Machines:
 
     def worker_of(self, number: int) -> Optional[int]:
         """The process of a worker, which its nanny has begun; None between two of them."""
-        for process, parent in parents().items():
-            if parent == self.nannies[number].pid and b"spawn_main" in command_of(process):
-                return process
-        return None
+        return next((process for process in children_of(self.nannies[number].pid) if b"spawn_main" in command_of(process)), None)
 
-    def kill_worker(self, number: int) -> None:
-        """Kills a worker, once there is one."""
+    def kill_worker(self, number: int, patience: float) -> bool:
+        """Kills a worker once there is one, in the midst of a batch where it comes to one so soon; whether it was."""
         until(lambda: self.worker_of(number) is not None)
-        worker = self.worker_of(number)
-        if worker is not None:
-            os.kill(worker, signal.SIGKILL)
+        worker, end = self.worker_of(number), time.monotonic() + patience
+        if worker is None:
+            return self.kill_worker(number, patience)
+        while not children_of(worker) and time.monotonic() < end:
+            time.sleep(0.002)
+        is_busy = bool(children_of(worker))
+        os.kill(worker, signal.SIGKILL)
+        return is_busy
 
     def stop(self) -> None:
         """Ends all processes, and takes the namespaces away."""
@@ -112,12 +114,13 @@ class Machines:
             tried("ip", "netns", "del", name)
 
 
-def parents() -> "Dict[int, int]":
-    """The parent of each process."""
-    found = {}
+def children_of(process: int) -> "List[int]":
+    """The processes that one has begun."""
+    found = []
     for name in filter(str.isdigit, os.listdir("/proc")):
         with contextlib.suppress(OSError), open(f"/proc/{name}/stat", "rb") as file:
-            found[int(name)] = int(file.read().rpartition(b")")[2].split()[1])
+            if int(file.read().rpartition(b")")[2].split()[1]) == process:
+                found.append(int(name))
     return found
 
 

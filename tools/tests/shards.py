@@ -143,10 +143,11 @@ class WithEngine(Case):
         if passed_over():
             self.skipTest("no python3-distributed")
         signal.signal(signal.SIGALRM, wait_too_long)
-        signal.alarm(600)
+        signal.alarm(self.MOST_SECONDS)
         self.addCleanup(signal.alarm, 0)
         self.put("schema", SCHEMA)
 
+    MOST_SECONDS = 600
     where: "list[str]" = []
 
     def shards(self, command: str, *words: str, **more: Any) -> "tuple[str, str]":
@@ -328,25 +329,38 @@ class KilledWorkers(ManyMachines):
     APART, DEATHS, KILLS = True, 100, 20
 
     def test_killed_at_random(self) -> None:
-        """Twenty times a worker is killed at a random moment; the sums are those of SQLite in the end, and each fact counts once."""
-        draw, rows = random.Random(time.time_ns()), rows_of(58, 40_000)
+        """Twenty times a worker is killed, in the midst of a batch where it has one; the sums are those of SQLite in the end, and each fact counts once."""
+        signal.alarm(300 + 10 * self.KILLS)
+        draw, rows, is_over = random.Random(time.time_ns()), rows_of(58, 100), threading.Event()
         self.shards("init", "schema")
         os.mkfifo("pipe")
         begun = subprocess.Popen([os.path.join(TOOLS, "shards"), "load", *self.where, "--batch", "250", "pipe"], stderr=subprocess.PIPE)
         self.addCleanup(begun.communicate)
         self.addCleanup(begun.kill)
-        with open("pipe", "wb", buffering=0) as pipe:
-            pipe.write(b"part,year,qty\n")
-            part = len(rows) // (self.KILLS + 1)
-            for kill in range(self.KILLS):
-                # The pipe takes what the load has room for, so the rows before are on their way when the worker dies.
-                pipe.write(lines_of(rows[kill * part : (kill + 1) * part]).encode())
-                time.sleep(draw.random())
-                self.machines.kill_worker(draw.randrange(self.COUNT))
-            self.assertIsNone(begun.poll(), "the load has ended early")
-            pipe.write(lines_of(rows[self.KILLS * part :]).encode())
+
+        def write() -> None:
+            """Writes facts until the last worker was killed, as fast as the load takes them."""
+            with open("pipe", "w", newline="") as pipe:
+                pipe.write("part,year,qty\n" + lines_of(rows))
+                for seed in range(1 << 30):
+                    if is_over.is_set():
+                        return
+                    some = rows_of(seed, 1000)
+                    rows.extend(some)
+                    pipe.write(lines_of(some))
+
+        writer = threading.Thread(target=write, daemon=True)
+        writer.start()
+        were_busy = 0
+        for _ in range(self.KILLS):
+            time.sleep(draw.random())
+            were_busy += self.machines.kill_worker(draw.randrange(self.COUNT), 2)
+        self.assertIsNone(begun.poll(), "the load has ended early")
+        is_over.set()
         said = begun.communicate(timeout=300)[1].decode()
         self.assertEqual(begun.returncode, 0, said)
-        self.assertRegex(said, r"shards: [\d,]+ rows loaded(, [\d,]+ were there already)?; the shards keep 40,000 facts; the next numbers are ")
-        self.assertIn("4 shards: 40,000 facts, the next batches are ", self.shards("status")[0])
+        writer.join()
+        self.assertGreater(were_busy, self.KILLS // 2)
+        self.assertRegex(said, rf"rows loaded(, [\d,]+ were there already)?; the shards keep {len(rows):,} facts; the next numbers are ")
+        self.assertIn(f"4 shards: {len(rows):,} facts, the next batches are ", self.shards("status")[0])
         self.assertEqual(self.answers(), sums_in_sqlite(rows))
