@@ -10,6 +10,8 @@ import sys
 import tempfile
 import time
 import warnings
+from concurrent.futures import ThreadPoolExecutor
+from itertools import repeat
 from typing import Any, Callable, Dict, Iterator, Sequence, TypeVar, Union, cast
 
 from . import parts
@@ -31,6 +33,7 @@ distributed, progressbar = loaded("distributed"), loaded("distributed.diagnostic
 Result = TypeVar("Result")
 Task = Callable[..., Union[Trouble, Result]]
 HOST, LOOK = "127.0.0.1", 0.5  # seconds between two looks at the workers
+MOST_AT_ONCE = 32  # replies that are fetched
 # A task whose worker dies again and again is given up by the engine; a cluster of this tool bears more than its default of 3.
 DEATHS = 100
 STATUSES = {parts.UNKNOWN: UNKNOWN, parts.DAMAGED: DAMAGED, parts.SCHEMA: SCHEMA, parts.CHANGED: CHANGED, parts.BUSY: 4, parts.ENDED: 3}
@@ -90,7 +93,8 @@ class Engine:
         futures = [self.submit(shard, task, *words) for shard in self.shards]
         while self.wait(futures):
             pass
-        return [self.result(shard, future, task) for shard, future in zip(self.shards, futures)]
+        with ThreadPoolExecutor(min(len(futures), MOST_AT_ONCE)) as pool:
+            return list(pool.map(self.result, self.shards, futures, repeat(task)))
 
     def wait(self, futures: "list[Any]", any_of: bool = False) -> "list[Any]":
         """The tasks that are not done, behind a wait for all of them, or for any, that ends now and then to look for the workers."""

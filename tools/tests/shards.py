@@ -1,20 +1,17 @@
 """Tests of shards."""
+import contextlib
 import csv
 import fcntl
 import io
-import json
 import os
 import random
-import shutil
 import signal
 import sqlite3
 import subprocess
 import sys
-import tempfile
 import threading
 import time
-import unittest
-from typing import Any, List, Optional
+from typing import Any, Optional
 from zlib import crc32
 
 from cubetree.errors import Fault
@@ -22,7 +19,7 @@ from cubetree.pieces import Pieces
 from cubetree.runs import program
 from cubetree.schema import Schema
 from cubetree.shards import Cutter, shards_in
-from test_cubetree import SCHEMA, Room
+from test_cubetree import SCHEMA
 from tests.case import Case, TOOLS, ask, load, run, wait_too_long
 from tests.load_csv import LoadCsv
 from tests.machines import Machines, has_engine
@@ -161,7 +158,7 @@ class WithEngine(Case):
 
 class LocalShards(WithEngine):
     def test_local_cluster(self) -> None:
-        """Four shards on this machine answer as one folder does, in each form; a file that is loaded again counts once."""
+        """Four shards on this machine answer as one folder does; a file that is loaded again counts once."""
         self.where = ["--local", "s"]
         rows = rows_of(57, 6000)
         self.put("file", "part,year,qty\n" + lines_of(rows))
@@ -173,9 +170,8 @@ class LocalShards(WithEngine):
         self.assertEqual(self.answers(), sums_in_sqlite(rows))
         load("--into", "w", "--schema", "schema", "file")
         asked = "".join(text + "\n" for text in [*SLICES, "count by part,part", "sum(cost)"]).encode()
-        for form in ([], ["--json"]):
-            told, said = self.shards("ask", *form, given=asked, status=1)
-            self.assertEqual((told, said.replace("shards: ", "ask: ")), ask("--in", "w", *form, given=asked, status=1))
+        told, said = self.shards("ask", given=asked, status=1)
+        self.assertEqual((told, said.replace("shards: ", "ask: ")), ask("--in", "w", given=asked, status=1))
 
 
 class ManyMachines(WithEngine):
@@ -255,6 +251,7 @@ class Messages(ManyMachines):
         self.put("file", f"part,year,qty\n{first}\n{second}\n{second}\n")
         self.shards("load", "--number", "1", "file")
         self.assertEqual(self.answers()[0], [["3", "5", "1", "2"]])
+        self.assertEqual(self.shards("ask", "--json", "count,sum(qty)")[0], '{"count": 3, "sum(qty)": 5}\n')
         self.failed(1, "the shards have facts already: --number tells the first batches", "load", "file")
         self.failed(1, "--number has 3 numbers, and there are 2 shards", "load", "--number", "1,2,3", "file")
         self.failed(1, "shard [12] .*: batch 5 was refused: the shard has no batch before it", "load", "--number", "5", "file")
@@ -313,6 +310,40 @@ class Messages(ManyMachines):
         self.failed(10, "shard [12] .*: its worker has died 2 times in one task", "ask", "count")
         os.remove("die")
         self.assertEqual(self.shards("ask", "--csv", "count")[0], "count\n5\n")
+
+    def test_lost_in_a_load(self) -> None:
+        """A worker that does not come back, and a scheduler that is lost, end a load that is under way."""
+        self.shards("init", "schema")
+        self.cut_off(8, "shard 1 .*: the scheduler has had no worker of this address for 1 second", self.lose_worker)
+        self.cut_off(5, "the scheduler was lost", self.machines.scheduler.kill)
+
+    def lose_worker(self) -> None:
+        """Ends the first worker for good."""
+        worker = self.machines.worker_of(0)
+        assert worker is not None
+        self.machines.nannies[0].kill()
+        with contextlib.suppress(ProcessLookupError):
+            os.kill(worker, signal.SIGKILL)
+
+    def cut_off(self, status: int, wanted: str, lose: Any) -> None:
+        """A load ends so when something is lost in its midst."""
+        os.mkfifo("pipe")
+        words = ["load", *self.where, "--patience", "1", "--number", "1", "--batch", "100", "pipe"]
+        begun = subprocess.Popen([os.path.join(TOOLS, "shards"), *words], stderr=subprocess.PIPE)
+        with contextlib.suppress(BrokenPipeError), open("pipe", "w") as pipe:
+            pipe.write("part,year,qty\n" + lines_of(rows_of(1, 2000)))
+            pipe.flush()
+            time.sleep(1)
+            lose()
+            pipe.write(lines_of(rows_of(2, 30_000)))
+        said = begun.communicate(timeout=100)[1].decode()
+        self.assertEqual(begun.returncode, status, said)
+        self.assertRegex(said, wanted)
+        os.remove("pipe")
+        if status == 8:
+            self.machines.start_worker(0)
+            self.machines.addresses[0] = self.machines.addresses.pop()
+            self.name()
 
     def words(self) -> None:
         for words in (["status"], ["status", "--local", "x", "--shards", "y"], ["load", "--local", "x"], ["init", "--shards", "x", "--count", "2", "s"], ["never"], []):
