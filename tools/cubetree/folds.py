@@ -1,9 +1,15 @@
-"""Replies of parts to a slice, folded by the program `cubefold` to the reply of the whole."""
+"""Replies of parts to a slice, folded by the program `cubefold` to the reply of the whole.
+
+Long replies are cut at the same keys, and what lies between two of these is folded by a run of its own, beside the others: the rows with keys in a range are
+the reply over the facts with keys in that range, and the rows of one range stand before those of the next.
+"""
 import csv
 import io
+import os
 import re
 import subprocess
-from typing import NamedTuple, Sequence
+from concurrent.futures import ThreadPoolExecutor
+from typing import List, NamedTuple, Sequence, Tuple, Union
 
 from .errors import Ended, Fault, Refused
 from .questions import question_of, sent
@@ -11,6 +17,8 @@ from .rows import Answer, answer_of, line_writer
 from .runs import program
 from .schema import Schema
 
+LONG = 1 << 19  # bytes of replies for which a further run is worth its start
+Key = Tuple[Union[bytes, int], ...]
 OVERFLOW = 13  # the status of sums that pass the type
 LAST = re.compile(rb"(?:\A|\n)(rows (\d+)|refused [^\n]*)\n\Z")
 
@@ -32,14 +40,62 @@ def reply_of(printed: bytes) -> Reply:
 
 def folded(lines: Sequence[str], text: str, replies: Sequence[bytes]) -> Reply:
     """The reply over all parts to the slice of this text, by the schema of these lines. What `cubefold` refuses ends it."""
-    front = "".join(line + "\n" for line in [*lines, "end"]).encode()
-    run = subprocess.run([program("cubefold")], input=b"".join([front, sent(text), b"\n", *replies]), stdout=subprocess.PIPE, stderr=subprocess.PIPE)
+    front = b"".join([*(line.encode() + b"\n" for line in lines), b"end\n", sent(text), b"\n"])
+    ranges = ranges_of(Schema(lines), text, [reply_of(each) for each in replies])
+    if len(ranges) < 2:
+        return one_fold(front, replies)
+    with ThreadPoolExecutor(len(ranges)) as pool:
+        made = list(pool.map(lambda each: one_fold(front, each), ranges))
+    return Reply(b"".join(each.rows for each in made), f"rows {sum(int(each.last.split()[1]) for each in made)}")
+
+
+def one_fold(front: bytes, replies: Sequence[bytes]) -> Reply:
+    """The same by one run of the program."""
+    run = subprocess.run([program("cubefold")], input=b"".join([front, *replies]), stdout=subprocess.PIPE, stderr=subprocess.PIPE)
     if run.returncode:
         raise Ended(run.returncode, run.stderr.decode("utf-8", "replace").strip())
     reply = reply_of(run.stdout)
     if reply.last.startswith("refused "):
         raise Refused(reply.last)
     return reply
+
+
+# ---- ranges of keys
+
+
+class Keys:
+    """The keys of the rows of a slice, in which no field is quoted."""
+
+    def __init__(self, schema: Schema, text: str) -> None:
+        self.are_numbers = [name in schema.numbers for name in question_of(text).groups]
+
+    def at(self, rows: bytes, place: int) -> Key:
+        """The key of the row that begins at a place."""
+        fields = rows[place : rows.index(b"\n", place)].split(b",")
+        return tuple(int(field) if is_number else field for field, is_number in zip(fields, self.are_numbers))
+
+    def first_from(self, rows: bytes, key: Key) -> int:
+        """Where the first row begins whose key is not below this one, behind the last row where there is none."""
+        low, high = 0, len(rows)
+        while low < high:
+            begins = rows.rfind(b"\n", 0, (low + high) // 2) + 1
+            if self.at(rows, begins) < key:
+                low = rows.index(b"\n", begins) + 1
+            else:
+                high = begins
+        return low
+
+
+def ranges_of(schema: Schema, text: str, replies: Sequence[Reply]) -> "list[list[bytes]]":
+    """The replies for each range of keys, where they are so long that more than one run is worth its start."""
+    count = min(os.cpu_count() or 1, sum(len(reply.rows) for reply in replies) // LONG)
+    if count < 2 or any(not reply.last.startswith("rows ") or b'"' in reply.rows for reply in replies):
+        return []
+    keys, longest = Keys(schema, text), max((reply.rows for reply in replies), key=len)
+    bounds = sorted({keys.at(longest, longest.rfind(b"\n", 0, len(longest) * number // count) + 1) for number in range(1, count)})
+    ends: List[List[int]] = [[0, *(keys.first_from(reply.rows, bound) for bound in bounds), len(reply.rows)] for reply in replies]
+    parted = [[reply.rows[begin:end] for begin, end in zip(places, places[1:])] for reply, places in zip(replies, ends)]
+    return [[rows + b"rows %d\n" % rows.count(b"\n") for rows in each] for each in zip(*parted)]
 
 
 def answer_in(schema: Schema, text: str, reply: Reply) -> Answer:

@@ -66,6 +66,7 @@ def telling(work: "Callable[..., Union[Trouble, Result]]") -> "Callable[..., Uni
 
     @functools.wraps(work)
     def tried(*words: object) -> "Union[Trouble, Result]":
+        """The same, whatever it raises."""
         try:
             return work(*words)
         except Refused as fault:

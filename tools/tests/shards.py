@@ -5,6 +5,7 @@ import fcntl
 import io
 import os
 import random
+import shutil
 import signal
 import sqlite3
 import subprocess
@@ -12,8 +13,10 @@ import sys
 import threading
 import time
 from typing import Any, Optional
+from unittest import mock
 from zlib import crc32
 
+from cubetree import folds
 from cubetree.errors import Fault
 from cubetree.pieces import Pieces
 from cubetree.runs import program
@@ -121,6 +124,33 @@ class Cut(Case):
             self.put("shards", text)
             with self.assertRaisesRegex(Fault, wanted):
                 shards_in("shards")
+
+
+class Ranges(Case):
+    """Replies that are folded range by range."""
+
+    FOLDED = ["sum(qty),count by part,year", "min(qty) by year,part", "count by part", "max(qty) by year where year=5..100000", "count", "sum(qty) by part where year=7"]
+
+    def reply(self, rows: "list[tuple[str, int, int]]", text: str) -> bytes:
+        """That of a folder with these facts."""
+        shutil.rmtree("w")
+        os.mkdir("w")
+        script = f"schema\n{SCHEMA}view part\nend\nload\n{lines_of(rows)}end\nstatus\nslice {text}\n".encode("utf-8", "surrogateescape")
+        return run(program(), given=script, cwd="w")[0].encode("utf-8", "surrogateescape").partition(b"facts %d\n" % len(rows))[2]
+
+    def test_ranges(self) -> None:
+        """They make the reply of the whole, to the byte, however long the ranges are, and so do texts that are quoted, by one run."""
+        draw, lines = random.Random(57), [*SCHEMA.splitlines(), "view part"]
+        for texts in (["", "a", "a b", "b", "10", "9", "-5", "\udcff", "é", "z" * 200], ["a", 'a"b', "a,b", "a\nrows 1"]):
+            parts = [[(draw.choice(texts) + str(draw.randrange(9)), draw.choice([1, 9, 10, 99, 1 << 62, draw.randrange(5000)]), draw.randrange(-9, 9)) for _ in range(400)] for _ in range(3)]
+            for text in self.FOLDED:
+                replies, whole = [self.reply(part, text) for part in parts], self.reply(sum(parts, []), text)
+                for long in (1, 40, 1000, 1 << 19):
+                    with self.subTest(text), mock.patch.object(folds, "LONG", long), mock.patch.object(os, "cpu_count", lambda: 7):
+                        made = folds.folded(lines, text, replies)
+                        self.assertEqual(made.rows + made.last.encode() + b"\n", whole)
+                        ranges = folds.ranges_of(Schema(lines), text, [folds.reply_of(each) for each in replies])
+                        self.assertEqual(len(ranges) > 1, all(b'"' not in each for each in replies) and sum(map(len, replies)) >= 2 * long + 30)
 
 
 def passed_over() -> bool:
