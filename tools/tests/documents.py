@@ -53,9 +53,9 @@ class Documents(Case):
         run("dpkg-deb", "-x", package, "root")
         clean = {"PATH": os.path.join(self.room, "root/usr/bin") + ":/usr/bin:/bin", "HOME": self.room}
         self.assertEqual(run("root/usr/lib/cubetree/run-tour", env=clean), ("", ""))
-        self.assertEqual(sorted(os.listdir("root/usr/bin")), sorted(["cubetree", *(f"cubetree-{tool}" for tool in INSTALLED)]))
+        self.assertEqual(sorted(os.listdir("root/usr/bin")), sorted(["cubefold", "cubetree", *(f"cubetree-{tool}" for tool in INSTALLED)]))
         self.assertEqual(sorted(os.listdir("root/usr/share/man/man1")), sorted(f"{name}.1.gz" for name in os.listdir("root/usr/bin")))
         for tool in INSTALLED:
             self.assertIn("usage", run(f"cubetree-{tool}", "--help", env=clean, cwd="w")[0])
-            wanted = rf"{tool}, of the package cubetree 0\.\d+; the program is .*/root/usr/bin/cubetree\n"
+            wanted = rf"{tool}, of the package cubetree 0\.\d+; the program is .*/root/usr/bin/cubetree(, and .*/root/usr/bin/cubefold)?\n"
             self.assertRegex(run(f"cubetree-{tool}", "--version", env=clean)[0], wanted)
