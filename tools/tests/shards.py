@@ -7,6 +7,7 @@ import os
 import random
 import shutil
 import signal
+import socket
 import sqlite3
 import subprocess
 import sys
@@ -187,6 +188,12 @@ class WithEngine(Case):
 
 
 class LocalShards(WithEngine):
+    def setUp(self) -> None:
+        super().setUp()
+        with contextlib.suppress(OSError):  # where it is taken already
+            of_another_engine = socket.create_server(("", 8787))
+            self.addCleanup(of_another_engine.close)
+
     def test_local_cluster(self) -> None:
         """Four shards on this machine answer as one folder does; a file that is loaded again counts once."""
         self.where = ["--local", "s"]
