@@ -78,7 +78,7 @@ def declaring(schema, views):
 
 def printed_by(script):
     with tempfile.TemporaryDirectory() as folder:
-        return subprocess.run([PROGRAM], input=script, stdout=subprocess.PIPE, cwd=folder, check=True).stdout
+        return subprocess.run([PROGRAM], input=script, stdout=subprocess.PIPE, cwd=folder, check=True, timeout=300).stdout
 
 
 def kind_of(reply):

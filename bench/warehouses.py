@@ -106,7 +106,7 @@ def try_runs(kind, seed, runs):
         warehouse = drawn(kind, draw)
         script, want = (b"".join(each + b"\n" for each in lines) for lines in (warehouse.script, warehouse.want))
         with tempfile.TemporaryDirectory() as folder:
-            done = subprocess.run([PROGRAM], input=script, stdout=subprocess.PIPE, cwd=folder, check=True)
+            done = subprocess.run([PROGRAM], input=script, stdout=subprocess.PIPE, cwd=folder, check=True, timeout=300)
         seen["asked"] += sum(each.startswith(kind.command) for each in warehouse.script)
         seen["not covered"] += want.count(b"refused notcovered\n")
         seen["lines"] += want.count(b"\n")
