@@ -12,6 +12,8 @@ from tests.case import TOOLS, until
 
 PYTHON = "/usr/bin/python3"  # Debian's packages are for this one.
 PORT = 40_101
+# Without a network apt gives up at once.
+QUICK = ["-o", "Acquire::Retries=0", "-o", "Acquire::http::Timeout=10", "-o", "Acquire::https::Timeout=10"]
 
 
 def has_engine() -> bool:
@@ -20,7 +22,7 @@ def has_engine() -> bool:
     if subprocess.run(found, stderr=subprocess.DEVNULL).returncode == 0:
         return True
     if os.getuid() == 0 and shutil.which("apt-get"):
-        subprocess.run(["apt-get", "install", "-y", "--no-install-recommends", "python3-distributed"], stdout=subprocess.DEVNULL, stderr=subprocess.DEVNULL)
+        subprocess.run(["apt-get", "install", "-y", "--no-install-recommends", *QUICK, "python3-distributed"], stdout=subprocess.DEVNULL, stderr=subprocess.DEVNULL)
     return subprocess.run(found, stderr=subprocess.DEVNULL).returncode == 0
 
 
