@@ -168,7 +168,7 @@ def local_cluster(folders: Sequence[str], waits: bool, patience: float) -> Itera
     ports = free_ports(len(folders))
     shards = [Shard(number, f"tcp://{HOST}:{port}", folder) for number, (port, folder) in enumerate(zip(ports, folders), 1)]
     # Without an address it takes port 8787 for its pages, and warns where another has it.
-    ports_of_its_own = {"host": HOST, "port": 0, "dashboard": False, "dashboard_address": f"{HOST}:0"}
+    ports_of_its_own: Dict[str, Any] = {"host": HOST, "port": 0, "dashboard": False, "dashboard_address": f"{HOST}:0"}
     scheduler = {"cls": distributed.Scheduler, "options": {**ports_of_its_own, "allowed_failures": DEATHS}}
     with tempfile.TemporaryDirectory(prefix="shards-") as room:
         of_each: Dict[str, Any] = {"host": HOST, "nthreads": 1, "memory_limit": 0, "local_directory": room, "dashboard": False, "silence_logs": logging.CRITICAL}
