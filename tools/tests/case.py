@@ -42,7 +42,7 @@ def until(is_so: Callable[[], bool]) -> None:
 
 def wait_too_long(*_: Any) -> None:
     """Ends a test whose tools wait for each other."""
-    raise AssertionError("the test took more than five minutes")
+    raise AssertionError("the test took too long")
 
 
 class Case(Room):

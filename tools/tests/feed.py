@@ -24,12 +24,12 @@ from tests.case import Case, TOOLS, run, until, wait_too_long
 class Feeding(Case):
     """tools/feed: rows that come one by one."""
 
-    KILLS = int(os.environ.get("FEED_KILLS", "20"))
+    KILLS = 20
 
     def setUp(self) -> None:
         super().setUp()
         signal.signal(signal.SIGALRM, wait_too_long)
-        signal.alarm(300)
+        signal.alarm(300 + 3 * self.KILLS)
         self.addCleanup(signal.alarm, 0)
         run(program(), given=f"schema\n{SCHEMA}end\n".encode(), cwd="w")
 

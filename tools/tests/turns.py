@@ -12,6 +12,7 @@ import time
 from typing import Any
 from unittest import mock
 
+import cubetree
 from cubetree import Busy, Fault, turns
 from cubetree.runs import program
 from tests.case import Case, TOOLS, ask, load, run, until, wait_too_long
@@ -245,8 +246,10 @@ done | "$PROGRAM"
         self.put("file", "part,qty\na,1\n")
         self.put("rows", "a,1\n")
         self.put("w/.turns", "")
-        for tool, words in [("ask", ["--in", "w", "count"]), ("load-csv", [*self.into, "file"]), ("refresh-slowly", ["--in", "w", "rows"])]:
+        for tool, words in [("ask", ["--in", "w", "count"]), ("load-csv", [*self.into, "file"]), ("refresh-slowly", ["--in", "w", "rows"]), ("feed", ["--into", "w"])]:
             self.assertIn("the folder w cannot be locked: w/.turns: File exists", run(os.path.join(TOOLS, tool), *words, status=1)[1])
+        with cubetree.open("w") as warehouse, self.assertRaisesRegex(Fault, "the folder w cannot be locked: w/.turns: File exists"):
+            warehouse.status()
         os.remove("w/.turns")
         self.assertIn("no such folder: nowhere", load("--into", "nowhere", "file", status=1)[1])
         os.chmod("w", 0o555)
