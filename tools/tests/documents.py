@@ -9,6 +9,9 @@ from cubetree.runs import TOP
 from tests.case import Case, TOOLS, run
 
 
+INSTALLED = ("ask", "load-csv", "refresh-slowly", "feed", "run-tour")
+
+
 class Documents(Case):
     def test_man_page_has_each_refusal_and_status(self):
         with open(os.path.join(TOP, "docs", "cubetree.1"), encoding="utf-8") as page:
@@ -29,7 +32,7 @@ class Documents(Case):
             self.assertEqual(run("man", "--warnings", "-l", page)[1], "")
 
     def test_man_pages_are_those_of_the_tools(self):
-        for tool in ("ask", "load-csv", "refresh-slowly", "feed"):
+        for tool in INSTALLED:
             with open(os.path.join(TOP, "docs", f"cubetree-{tool}.1"), encoding="utf-8") as page:
                 self.assertEqual(run(os.path.join(TOOLS, "make-man"), tool)[0], page.read())
             self.assertIn(f"{tool}, of a checkout, and of no package; the program is ", run(os.path.join(TOOLS, tool), "--version")[0])
@@ -37,7 +40,7 @@ class Documents(Case):
     @unittest.skipUnless(shutil.which("mypy"), "no mypy")
     def test_types(self):
         words = ["mypy", "--strict", "--python-version", "3.9", "--cache-dir", os.path.join(self.room, "cache")]
-        for script in ("cubetree", "ask", "load-csv", "refresh-slowly", "feed", "run-tour", "make-man", "test_cubetree.py"):
+        for script in ("cubetree", *INSTALLED, "make-man", "test_cubetree.py"):
             run(*words, script, cwd=TOOLS, env=dict(os.environ, MYPYPATH=TOOLS))
 
     def test_tour(self):
@@ -50,5 +53,9 @@ class Documents(Case):
         run("dpkg-deb", "-x", package, "root")
         clean = {"PATH": os.path.join(self.room, "root/usr/bin") + ":/usr/bin:/bin", "HOME": self.room}
         self.assertEqual(run("root/usr/lib/cubetree/run-tour", env=clean), ("", ""))
-        self.assertIn("usage", run("cubetree-ask", "--help", env=clean, cwd="w")[0])
-        self.assertRegex(run("cubetree-feed", "--version", env=clean)[0], r"feed, of the package cubetree 0\.\d+; the program is .*/root/usr/bin/cubetree\n")
+        self.assertEqual(sorted(os.listdir("root/usr/bin")), sorted(["cubetree", *(f"cubetree-{tool}" for tool in INSTALLED)]))
+        self.assertEqual(sorted(os.listdir("root/usr/share/man/man1")), sorted(f"{name}.1.gz" for name in os.listdir("root/usr/bin")))
+        for tool in INSTALLED:
+            self.assertIn("usage", run(f"cubetree-{tool}", "--help", env=clean, cwd="w")[0])
+            wanted = rf"{tool}, of the package cubetree 0\.\d+; the program is .*/root/usr/bin/cubetree\n"
+            self.assertRegex(run(f"cubetree-{tool}", "--version", env=clean)[0], wanted)
