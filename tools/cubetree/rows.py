@@ -1,8 +1,10 @@
 """Rows as they go to the program and come from it: lines of csv, and tuples of str and int."""
 import csv
 import operator
+import re
 from typing import Callable, Iterable, Iterator, List, Sequence, SupportsIndex, Tuple, Union
 
+from .errors import Fault, Refused
 from .questions import Question
 from .schema import Schema
 
@@ -10,6 +12,7 @@ Value = Union[str, int]
 GivenRow = Sequence[Union[str, SupportsIndex]]
 MOST_ROWS, MOST_BYTES = 262_144, (1 << 26) - 64  # of a block
 MARK = "\ufeff".encode()
+END = re.compile(rb"^end\r?$", re.MULTILINE)
 
 
 class Echo:
@@ -46,6 +49,24 @@ def block(command: bytes, rows: Sequence[bytes]) -> bytes:
     # A byte order mark at the front of a block would be dropped, but for an empty line before it, which is no row.
     mark = b"\n" if rows and rows[0].startswith(MARK) else b""
     return command + b"\n" + mark + b"".join(rows) + b"end\n"
+
+
+def block_of(command: bytes, given: Iterable[GivenRow]) -> bytes:
+    """A command with rows of str and int; a refusal where a text has a line that would end the block."""
+    rows = list(encoded(given))
+    for number, row in enumerate(rows, 1):
+        if has_end(row):
+            raise Refused(f"refused row {number} end")
+    return block(command, rows)
+
+
+def rows_of_file(path: str) -> bytes:
+    """The rows of a file, as they stand in a block."""
+    with open(path, "rb") as file:
+        rows = file.read()
+    if END.search(rows):
+        raise Fault(f"{path} has a line that is `end`, which would end the block")
+    return rows if rows.endswith(b"\n") or not rows else rows + b"\n"
 
 
 class Answer(List[Tuple[Value, ...]]):

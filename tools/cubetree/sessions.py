@@ -1,7 +1,8 @@
 """Runs of the program in their turns: one that only asks, and those of a writer, one after the other."""
 import time
-from typing import Optional
+from typing import Optional, Sequence
 
+from .levels import PROBE, Level
 from .runs import Run
 from .schema import Schema, kept_schema
 from .turns import Reader, Turns, Writer
@@ -13,7 +14,7 @@ class Session:
     """A run of the program in a folder, with the schema that it has found there."""
 
     def __init__(self, turns: Turns, is_shielded: bool = False) -> None:
-        self.turns, self.is_shielded, self.sent = turns, is_shielded, 0
+        self.turns, self.is_shielded = turns, is_shielded
         self.schema: Optional[Schema] = None
         turns.enter()
         try:
@@ -25,7 +26,7 @@ class Session:
     def start(self) -> None:
         """Begins a run, which tells its status."""
         self.run = Run(self.turns.folder, self.turns.descriptors(), self.is_shielded)
-        self.began, self.sent = time.monotonic(), 0
+        self.began, self.sent, self.levels = time.monotonic(), 0, 0
         self.status = self.run.ask(b"status\n")
         self.schema = None if self.status == "no schema" else kept_schema(self.turns.folder)
 
@@ -33,8 +34,8 @@ class Session:
         """The seconds that the run lasts already."""
         return time.monotonic() - self.began
 
-    def make_room(self, size: int) -> None:
-        """Counts what is sent."""
+    def make_room(self, size: int, more: int = 0) -> None:
+        """Counts what is sent, and has room for what may follow it."""
         self.sent += size
 
     def ask(self, command: bytes) -> str:
@@ -46,6 +47,19 @@ class Session:
         """The records of the reply to a command that asks for rows, and its last line."""
         self.make_room(len(command) + 1)
         return self.run.answer(command)
+
+    def tell(self, levels: Sequence[Level], more: int = 0) -> str:
+        """Tells the run those of these levels that it does not have yet, with room for what follows; a refusal, or the last reply."""
+        self.make_room(0, sum(len(level.command) for level in levels) + len(PROBE) + more)
+        reply = "" if self.levels or not levels else self.ask(PROBE)
+        if reply == "refused unknown":
+            return reply
+        for level in levels[self.levels :]:
+            reply = self.ask(level.command)
+            if reply.startswith("refused "):
+                return reply
+            self.levels += 1
+        return reply
 
     def end(self) -> None:
         """Ends the run, and lets others into the folder."""
@@ -79,9 +93,9 @@ class Loading(Session):
         with self.writer.batch():
             super().start()
 
-    def make_room(self, size: int) -> None:
+    def make_room(self, size: int, more: int = 0) -> None:
         """Begins a new run where the script of this one would be too long."""
-        if self.sent + size > MOST_OF_A_SCRIPT - 64 and not self.is_pending:
+        if self.sent + size + more > MOST_OF_A_SCRIPT - 64 and not self.is_pending:
             self.run.end()
             self.start()
         super().make_room(size)

@@ -4,13 +4,14 @@ import threading
 import time
 from contextlib import contextmanager, suppress
 from types import TracebackType
-from typing import Iterable, Iterator, NamedTuple, Optional, Union, overload
+from typing import Iterable, Iterator, List, NamedTuple, Optional, Sequence, Union, overload
 
 from .errors import Fault, Refused
+from .levels import Level, Pairs, level_in_file, level_of
 from .pages import Visits, visits
 from .queries import Query
 from .questions import question_of
-from .rows import Answer, GivenRow, answer_of, block, encoded, has_end
+from .rows import Answer, GivenRow, answer_of, block_of
 from .schema import Schema, declared_lines
 from .sessions import Asking, Loading, Session
 from .turns import Reader, Writer
@@ -39,6 +40,7 @@ class Warehouse:
     def __init__(self, folder: "Union[str, os.PathLike[str]]" = ".", *, wait: bool = True, tool: str = "cubetree") -> None:
         self.folder, self.wait, self.tool = os.fspath(folder), wait, tool
         self._session: Optional[Session] = None
+        self._levels: List[Level] = []
         self._lock, self._over, self._asked = threading.RLock(), threading.Event(), 0.0
         if not os.path.isdir(self.folder):
             raise Fault(f"no such folder: {self.folder}")
@@ -63,12 +65,12 @@ class Warehouse:
 
     def load(self, rows: Iterable[GivenRow], number: Optional[int] = None) -> Optional[int]:
         """Appends a batch, and gives how many facts there are then; None where the batch of this number was there already."""
-        reply = self._write(_block(b"load" if number is None else b"load %d" % number, rows))
+        reply = self._write(block_of(b"load" if number is None else b"load %d" % number, rows))
         return None if reply.startswith("already ") else int(reply.split()[1])
 
     def begin(self, rows: Iterable[GivenRow]) -> None:
         """Makes a batch pending: other runs wait until `finish` or `abandon`."""
-        self._write(_block(b"begin", rows))
+        self._write(block_of(b"begin", rows))
 
     def step(self, moves: int) -> None:
         """Makes so many moves of the refresh that takes in the pending batch, or all that are left."""
@@ -102,6 +104,25 @@ class Warehouse:
         if session.schema is None or last.startswith("refused "):
             raise query.refused(last)
         return query.answer(session.schema, records)
+
+    def level(self, name: str, attribute: str, pairs: Pairs) -> int:
+        """Gives values of an attribute a parent each, by a mapping or pairs of both, and gives how many. No folder keeps a level: it is there for `rollup`
+        as long as this object is."""
+        return self._tell(level_of(name, attribute, pairs))
+
+    def level_file(self, name: str, attribute: str, path: "Union[str, os.PathLike[str]]") -> int:
+        """The same, where the pairs are the rows of a csv file without a header."""
+        return self._tell(level_in_file(name, attribute, os.fspath(path)))
+
+    def rollup(self, text: str) -> Answer:
+        """The answer to a slice in which the names of levels may stand where those of attributes of texts may; a value without a parent has the empty text."""
+        schema, records = self._rows(b"rollup " + _line(text), self._levels)
+        return answer_of(question_of(text), schema, records)
+
+    @property
+    def levels(self) -> "list[str]":
+        """The names of the levels."""
+        return [level.name for level in self._levels]
 
     def explain(self, text: str) -> Choice:
         """The view that answers a slice; what `slice` refuses is refused."""
@@ -159,10 +180,20 @@ class Warehouse:
             raise Refused(reply)
         return reply
 
-    def _rows(self, command: bytes) -> "tuple[Schema, list[list[str]]]":
-        """The records of the reply to a command that asks for rows, with the schema; a fault where it is a refusal."""
+    def _tell(self, level: Level) -> int:
+        """Keeps a level that the program takes, and gives how many values have a parent by it."""
         with self._question() as session:
-            records, last = session.answer(command)
+            reply = session.tell([*self._levels, level])
+            if reply.startswith("leveled "):
+                self._levels.append(level)
+                return int(reply.split()[1])
+        raise Refused(reply)
+
+    def _rows(self, command: bytes, levels: Sequence[Level] = ()) -> "tuple[Schema, list[list[str]]]":
+        """The records of the reply to a command that asks for rows over these levels, with the schema; a fault where it is a refusal."""
+        with self._question() as session:
+            told = session.tell(levels, len(command) + 1)
+            records, last = ([], told) if told.startswith("refused ") else session.answer(command)
         if session.schema is None or last.startswith("refused "):
             raise Refused(last)
         return session.schema, records
@@ -214,15 +245,6 @@ def _choice(reply: str, schema: Optional[Schema]) -> Choice:
         raise Refused(reply)
     words = reply.split()
     return Choice(views_of(schema)[int(words[1]) - 1], int(words[3]), words[5] == "yes")
-
-
-def _block(command: bytes, given: Iterable[GivenRow]) -> bytes:
-    """A command with its rows."""
-    rows = list(encoded(given))
-    for number, row in enumerate(rows, 1):
-        if has_end(row):
-            raise Refused(f"refused row {number} end")
-    return block(command, rows)
 
 
 def open(folder: "Union[str, os.PathLike[str]]" = ".", *, wait: bool = True) -> Warehouse:
