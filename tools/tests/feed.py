@@ -13,10 +13,13 @@ import sys
 import time
 import unittest
 from typing import Any
+from unittest import mock
 
 from cubetree import Schema, turns
 from cubetree.records import row_fault
-from cubetree.runs import program
+from cubetree.runs import Run, program
+from cubetree.sender import Sender
+from cubetree.spool import Place, Spool, spool_folder
 from test_cubetree import SCHEMA
 from tests.case import Case, TOOLS, run, until, wait_too_long
 
@@ -375,6 +378,65 @@ runpy.run_path(sys.argv[0], run_name="__main__")
         with open("log", "rb") as log:
             said = self.feed("--spool", "small", stdin=log)
         self.assertIn("feed: 20,000 rows sent; the folder keeps 20,000 facts", said)
+
+    def test_several_sources(self) -> None:
+        """Files and a pipe together, over a kill: the rows of each count once."""
+        os.mkfifo("pipe")
+        self.put("one", "a,1,1\na,1,2\n")
+        self.put("two", "b,1,4\nb,1,")
+        words = ["--every", "0.05", "one", "pipe", "two"]
+        pipe = os.open("pipe", os.O_RDWR)
+        self.addCleanup(os.close, pipe)
+        feed = self.start(*words)
+        os.write(pipe, b"c,1,16\nc,1,")
+        until(lambda: self.kept() == [["a", "3"], ["b", "4"], ["c", "16"]] and self.is_spooled(b'"c,1,"'))
+        feed.kill()
+        feed.communicate()
+        self.append("two", "8")
+        os.write(pipe, b"32\n")
+        feed = self.start(*words)
+        until(lambda: self.kept() == [["a", "3"], ["b", "12"], ["c", "48"]])
+        self.append("one", "a,1,64")
+        until(lambda: self.kept() == [["a", "67"], ["b", "12"], ["c", "48"]])
+        self.assertIn("; the folder keeps 7 facts\n", self.stop(feed))
+
+    def test_two_signals(self) -> None:
+        """By the first one a feed ends once all is sent, and by the second one at once: the rows stay in the spool."""
+        writer = turns.Writer("load-csv", "w")
+        feed = self.start("--every", "0")
+        until(lambda: os.path.exists("w/.feed/gathered"))
+        writer.enter()
+        self.addCleanup(writer.leave)
+        feed.stdin.write(b"a,1,1\nb,1,1\n")
+        feed.stdin.flush()
+        self.assertEqual(feed.stderr.readline(), b"feed: waits for another run in w\n")
+        feed.terminate()
+        time.sleep(0.5)
+        self.assertIsNone(feed.poll())
+        feed.terminate()
+        self.assertRegex(feed.communicate(timeout=60)[1].decode(), "feed: ended at once; 0 rows and the batch under way stand in the spool .*/w/.feed\n")
+        self.assertEqual(feed.returncode, 1)
+        writer.leave()
+        self.assertIn("feed: 2 rows sent; the folder keeps 2 facts", self.feed(given=b""))
+
+    def test_synced_before_it_is_sent(self) -> None:
+        """A batch and its number are on disk before the program has a byte of it, and the file goes once it is acknowledged."""
+        calls: "list[str]" = []
+        spool = Spool(spool_folder("w", None))
+        sender = Sender("w", spool, "w/.feed/refused.csv", True)
+        self.addCleanup(sender.drop)
+        spool.recover(sender.owner)
+        spool.add(Place("log", 7, 12), [b"a,1,1", b"a,1,2"])
+        inode = os.fstat(spool.gathered or 0).st_ino
+        fsync, rename, remove, send = os.fsync, os.rename, os.remove, Run.send
+        kept = lambda descriptor: "batch" if os.fstat(descriptor).st_ino == inode else "spool" if os.path.samestat(os.fstat(descriptor), os.stat("w/.feed")) else "next"
+        with mock.patch("os.fsync", lambda each: (fsync(each), calls.append(f"sync {kept(each)}"))[0]), \
+             mock.patch("os.rename", lambda one, other: (rename(one, other), calls.append(f"rename {os.path.basename(other)}"))[0]), \
+             mock.patch("os.remove", lambda path: (remove(path), calls.append(f"remove {os.path.basename(path)}"))[0]), \
+             mock.patch.object(Run, "send", lambda run, command: (calls.append(command.decode().split("\n")[0]), send(run, command))[1]):
+            sender.send(spool.seal())
+        self.assertEqual(calls, ["sync batch", "rename sealed", "rename gathered", "sync next", "rename sending.1", "sync spool", "load 1", "remove sending.1"])
+        self.assertEqual(self.kept(), [["a", "3"]])
 
     def test_spool_of_another(self) -> None:
         """A spool belongs to one folder and its schema, and a folder has one spool."""
