@@ -14,6 +14,9 @@ surrogates, as in names of files (os.fsencode has the bytes).
 The same rows come of a query in SQL, by warehouse.sql("SELECT part, SUM(qty) FROM facts GROUP BY part"), or by cubetree.connect("folder"), which is the interface
 of databases to Python (PEP 249).
 
+A level gives values of an attribute a parent each, as long as the warehouse is open: behind warehouse.level("kind", "part", {"bolt": "steel"}) one may ask
+warehouse.rollup("count by kind").
+
 What goes wrong is a Fault: Refused has the reply of the program and the place that it names, Busy is another run in the way of one that is not to wait,
 Ended has the status of a program that ended early, and Damaged the file and the offset as well.
 """
