@@ -4,6 +4,7 @@ import csv
 import fcntl
 import os
 import random
+import re
 import resource
 import shutil
 import signal
@@ -84,6 +85,7 @@ class Feeding(Case):
         self.assertEqual(feed.returncode, 0, said)
         self.assertIn("feed: 8 rows sent; the folder keeps 8 facts\n", said)
         self.assertRegex(said, r"feed: \d rows?, \d+ a second, \d batch(es)? sent, the oldest that waits for 0\.\d s\n")
+        self.assertLess(max(map(float, re.findall(r"that waits for (\S+) s\n", said))), 0.3 + 1.5)
 
     def test_batches(self) -> None:
         """A batch is sent by its rows or its bytes, and the end of a feed sends the rest."""
