@@ -440,6 +440,25 @@ runpy.run_path(sys.argv[0], run_name="__main__")
         self.assertEqual(calls, ["sync batch", "rename sealed", "rename gathered", "sync next", "rename sending.1", "sync spool", "load 1", "remove sending.1"])
         self.assertEqual(self.kept(), [["a", "3"]])
 
+    def test_torn_piece(self) -> None:
+        """What a stop of the machine has left of the last piece is read again: of a file that was cut, or one whose last bytes are zeros."""
+        self.put("log", "")
+        for number, has_zeros in enumerate([False, True]):
+            feed = self.start("--every", "1000", "log")
+            for qty in (1, 2):
+                self.append("log", f"p{number},1,{qty}")
+                until(lambda: self.is_spooled(b"p%d,1,%d\n" % (number, qty)))
+            feed.kill()
+            feed.communicate()
+            with open("w/.feed/gathered", "r+b") as gathered:
+                gathered.truncate(len(gathered.read().rstrip(b"\0")) - 3)
+                gathered.seek(0, os.SEEK_END)
+                gathered.write(bytes(3 * has_zeros))
+            feed = self.start("--every", "0", "log")
+            until(lambda: len(self.kept()) > number and self.kept()[number] == [f"p{number}", "3"])
+            self.stop(feed)
+        self.assertEqual(self.rows("count,sum(qty)"), [["4", "6"]])
+
     def test_spool_of_another(self) -> None:
         """A spool belongs to one folder and its schema, and a folder has one spool."""
         self.put("rows", "a,1,1\n")
