@@ -5,6 +5,7 @@ import select
 import stat
 import sys
 import termios
+import time
 import zlib
 from typing import Callable, Mapping, Optional, Sequence, Union
 
@@ -13,6 +14,7 @@ from .records import Rows
 from .spool import INPUT, Place
 
 PIECE, FIRST = 1 << 16, 1 << 10  # bytes that are read at once, and by which a file is known
+MOMENT = 0.01  # seconds until the system has noted the time of a write whose bytes are there
 Places = Mapping["tuple[str, int]", Place]
 Aside = Callable[[str, bytes], None]
 Take = Callable[[Place, "list[bytes]"], None]
@@ -29,16 +31,24 @@ class Stream:
 
     def __init__(self, path: str, places: Places, put_aside: Aside) -> None:
         self.path, self.is_over, self.put_aside = path, False, put_aside
+        last_write = 0 if path == INPUT else os.stat(path).st_mtime_ns
         self.descriptor = 0 if path == INPUT else os.open(path, os.O_RDONLY | os.O_NONBLOCK)
         self.inode = os.fstat(self.descriptor).st_ino
         kept = places.get((path, self.inode))
         self.rows = Rows(kept.rest.encode("latin-1") if kept else b"")
-        # A named pipe that is empty may have a new writer, who does not go on with the row of the former one.
-        self.is_doubtful = path != INPUT and self.rows.front != b"" and self.waiting() == 0
+        # A named pipe may have a new writer, who does not go on with the row of the former one.
+        self.is_doubtful = path != INPUT and self.rows.front != b"" and not self.has_rest(last_write)
 
     def waiting(self) -> int:
         """How many bytes wait to be read."""
         return int.from_bytes(fcntl.ioctl(self.descriptor, termios.FIONREAD, bytes(4)), sys.byteorder)
+
+    def has_rest(self, last_write: int) -> bool:
+        """Whether something waits in a named pipe that was there before it was opened: a writer that waits for a reader may write at that moment."""
+        if self.waiting() == 0:
+            return False
+        time.sleep(MOMENT)
+        return os.fstat(self.descriptor).st_mtime_ns == last_write
 
     def place(self) -> Place:
         """The front of the row that is not whole yet."""

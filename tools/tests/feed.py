@@ -20,6 +20,7 @@ from cubetree import Schema, turns
 from cubetree.records import row_fault
 from cubetree.runs import Run, program
 from cubetree.sender import Sender
+from cubetree.sources import Stream
 from cubetree.spool import Place, Spool, spool_folder
 from test_cubetree import SCHEMA
 from tests.case import Case, TOOLS, run, until, wait_too_long
@@ -310,6 +311,35 @@ runpy.run_path(sys.argv[0], run_name="__main__")
         self.stop(feed, status=1)
         self.assertEqual(self.kept()[5:], [["f", "1"], ["i", "1"]])
         self.assertEqual(self.refused(), [["its end was not read", "e,1,"], ["a stop has parted it", "gh,1,1"]])
+
+    def test_writer_at_the_opening(self) -> None:
+        """A new writer that writes as soon as its pipe is opened does not go on with the row of the former one."""
+        for was_there in (True, False):
+            os.mkfifo("pipe")
+            kept = Place("pipe", os.stat("pipe").st_ino, rest="g")
+            time.sleep(0.05)
+            pipe, opened, aside = -1, os.open, []
+            if was_there:
+                pipe = os.open("pipe", os.O_RDWR)
+                os.write(pipe, b"h,1,1\n")
+                time.sleep(0.05)
+
+            def open_and_write(path: str, flags: int) -> int:
+                nonlocal pipe
+                descriptor = opened(path, flags)
+                if not was_there:
+                    pipe = opened(path, os.O_WRONLY)
+                    os.write(pipe, b"h,1,1\n")
+                return descriptor
+
+            with mock.patch("os.open", open_and_write):
+                stream = Stream("pipe", {("pipe", kept.inode): kept}, lambda why, row: aside.append((why, row)))
+            taken: "list[bytes]" = []
+            self.assertTrue(stream.read(lambda place, rows: taken.extend(rows)))
+            self.assertEqual((taken, aside), ([b"gh,1,1"], []) if was_there else ([], [("a stop has parted it", b"gh,1,1")]))
+            for descriptor in (pipe, stream.descriptor):
+                os.close(descriptor)
+            os.remove("pipe")
 
     def is_spooled(self, text: bytes) -> bool:
         """Whether something stands among what was gathered."""
