@@ -397,7 +397,7 @@ class KilledWorkers(ManyMachines):
     APART, DEATHS, KILLS = True, 100, 20
 
     def test_killed_at_random(self) -> None:
-        """Twenty times a worker is killed, in the midst of a batch where it has one; the sums are those of SQLite in the end, and each fact counts once."""
+        """Workers are killed until twenty had a batch; the sums are those of SQLite in the end, and each fact counts once."""
         signal.alarm(300 + 10 * self.KILLS)
         draw, rows, is_over = random.Random(time.time_ns()), rows_of(58, 100), threading.Event()
         self.shards("init", "schema")
@@ -420,7 +420,7 @@ class KilledWorkers(ManyMachines):
         writer = threading.Thread(target=write, daemon=True)
         writer.start()
         were_busy = 0
-        for _ in range(self.KILLS):
+        while were_busy < self.KILLS:
             time.sleep(draw.random())
             were_busy += self.machines.kill_worker(draw.randrange(self.COUNT), 2)
         self.assertIsNone(begun.poll(), "the load has ended early")
@@ -428,7 +428,6 @@ class KilledWorkers(ManyMachines):
         said = begun.communicate(timeout=300)[1].decode()
         self.assertEqual(begun.returncode, 0, said)
         writer.join()
-        self.assertGreater(were_busy, self.KILLS // 2)
         self.assertRegex(said, rf"rows loaded(, [\d,]+ were there already)?; the shards keep {len(rows):,} facts; the next numbers are ")
         self.assertIn(f"4 shards: {len(rows):,} facts, the next batches are ", self.shards("status")[0])
         self.assertEqual(self.answers(), sums_in_sqlite(rows))
