@@ -1,8 +1,8 @@
 -- How a session goes on from command to command, up to a stop or to where no command is whole.
-use Rattle.std.proofs.Common.{◌≡◌, ◌∙◌, ◌++◌, length, ℕ, IsTrue, false, Option, Some, None, option_to_list, List, [], ◌∷◌, Result, Ok, Err, IfSome, ap, refl, sym, subst, append-nil, append_assoc}
+use Rattle.std.proofs.Common.{◌≡◌, ◌∙◌, ◌++◌, length, ℕ, IsTrue, false, Option, Some, None, option_to_list, List, [], ◌∷◌, Result, Ok, Err, IfSome, ap, refl, sym, subst, subst₂, append-nil, append_assoc}
 use Rattle.std.proofs.Common.{length-append, arith}
 use Rattle.cube_run.proofs.Names.{Answers, AnswersByWorld, Cache, CarriesOn, Command, Cost, CostTogether, Costs, Disk, Files, Finished, Ghosts, Gives, HasGone, HasMovedTo, HasReplied, HasStopped}
-use Rattle.cube_run.proofs.Names.{IsErrAnd, IsFirstWhole, IsLeft, IsWithin, Keeps, OnlyNow, Onward, Reading, Reads, Replied, RepliesTo, Runs, Spends, StandsFor, Held, Stop, World, act, at_rest}
+use Rattle.cube_run.proofs.Names.{IsErrAnd, IsFirstWhole, IsLeft, IsWithin, Keeps, Leads, OnlyNow, Onward, Reading, Reads, Replied, RepliesTo, Runs, Spends, StandsFor, Held, Stop, World, act, at_rest}
 use Rattle.cube_run.proofs.Names.{carried_command, carried_start, carried_then, during, joined, one_costs, ready, stands_left, stands_moved, stands_read, started, to_come, whole_with, wider}
 use Rattle.cube_state.proofs.Giving.{gives_some}
 use Rattle.cube_state.specs.declared.stop.Stop.TheVariants as stops
@@ -21,23 +21,23 @@ stood (Some held) d w is = (stands_read held.state d w is.stands, stands_left he
 
 -- ---- replies
 
-both_replied : (first second : List Command) (one two : List ℕ) → Replied first one → Replied second two → Replied (first ++ second) (one ++ two)
-both_replied [] second one two is then = subst (λ (l : List ℕ). Replied second (l ++ two)) (sym is) then
-both_replied (c ∷ cs) second one two is then =
-    (is.0, is.1 ++ two, ap (λ (l : List ℕ). l ++ two) is.2 ∙ append_assoc is.0 is.1 two, is.3, is.4, both_replied cs second is.1 two is.5 then)
+both_replied : (first second : List Command) (a b c : Files) (one two : List ℕ) → Replied first a one b → Replied second b two c → Replied (first ++ second) a (one ++ two) c
+both_replied [] second a b c one two is then = subst₂ (λ (l : List ℕ) (files : Files). Replied second files (l ++ two) c) (sym is.0) is.1 then
+both_replied (command ∷ rest) second a b c one two is then =
+    (is.0, is.1 ++ two, is.2, ap (λ (l : List ℕ). l ++ two) is.3 ∙ append_assoc is.0 is.1 two, is.4, is.5, is.6, both_replied rest second is.2 b c is.1 two is.7 then)
 
-then_replied : (first second : List Command) (before mid now : List ℕ) → HasReplied first before mid → HasReplied second mid now → HasReplied (first ++ second) before now
+then_replied : (first second : List Command) (before mid now : Disk) → HasReplied first before mid → HasReplied second mid now → HasReplied (first ++ second) before now
 then_replied first second before mid now one two = record {
   replies = one.replies ++ two.replies;
-  told = two.told ∙ ap (λ (l : List ℕ). l ++ two.replies) one.told ∙ append_assoc before one.replies two.replies;
-  each = both_replied first second one.replies two.replies one.each two.each;
+  told = two.told ∙ ap (λ (l : List ℕ). l ++ two.replies) one.told ∙ append_assoc before.told one.replies two.replies;
+  each = both_replied first second before.files mid.files now.files one.replies two.replies one.each two.each;
 }
 
-one_replied : (c : Command) (held : Held) (files : Files) (before now : List ℕ) → RepliesTo held files c before now → HasReplied (c ∷ []) before now
-one_replied c held files before now is = record {
+one_replied : (c : Command) (held : Held) (before now : Disk) → RepliesTo held before.files c before.told now.told → Leads c before.files now.files → HasReplied (c ∷ []) before now
+one_replied c held before now is leads = record {
   replies = is.reply;
   told = is.told;
-  each = (is.reply, [], sym (append-nil is.reply), gives_some held.levels held.state files c is.reply is.right, (held, files, is.right), refl);
+  each = (is.reply, [], now.files, sym (append-nil is.reply), gives_some held.levels held.state before.files c is.reply is.right, (held, is.right), leads, (refl, refl));
 }
 
 module _ {S : Type 0} (T : Ghosts S) where
@@ -139,7 +139,7 @@ module _ {S : Type 0} (T : Ghosts S) where
   pub gone_none : (site : S) (had : Option Held) (cache : Cache) → (IsTrue T.tells → OnlyNow (T.disk site)) → Runs T site had cache → HasGone T had had [] site site cache
   gone_none site had cache only runs = record {
     onward = λ t world stands rest. onward_none site had world rest stands (only t);
-    replied = λ t. record { replies = []; told = sym (append-nil _); each = refl };
+    replied = λ t. record { replies = []; told = sym (append-nil _); each = (refl, refl) };
     runs = runs;
     quiet = (refl, refl);
   }
@@ -149,7 +149,7 @@ module _ {S : Type 0} (T : Ghosts S) where
     gone_one None x runs is = absurd runs
     gone_one (Some held) x runs is = record {
       onward = λ t world stands rest. onward_one c world held then old new before after rest x (is.by_world t world stands);
-      replied = λ t. one_replied c held _ _ _ (is.any_files t).answered;
+      replied = λ t. one_replied c held _ _ (is.any_files t).answered (is.any_files t).settles;
       runs = is.goes_on.runs;
       quiet = (is.goes_on.stops.disk_faults, is.goes_on.stops.told_faults);
     }

@@ -3,7 +3,7 @@ pub use Rattle.cube_run.specs.Ends.{EndsUnpulled, EndsUntouched, Faults, IsDoneO
 pub use Rattle.cube_run.{specs.Carrying.CarriesOn, specs.Carrying.HasGone, specs.Carrying.HasStopped, specs.Carrying.Reads, specs.Costs.CostsRun, specs.Costs.opening_and, specs.Damage.EndsAt}
 pub use Rattle.cube_run.{specs.Damage.EndsForBreak, specs.Headline.AfterRun, specs.Headline.Finished, specs.Headline.Headline, specs.Headline.Opened, specs.Histories.HistoriesGoOn}
 pub use Rattle.cube_run.{specs.Onward.IsLeft, specs.Onward.IsWithin, specs.Onward.Onward, specs.Pulls.Gave, specs.Pulls.GaveAtMost, specs.Pulls.KeepsLimit, specs.Pulls.PullsInto}
-pub use Rattle.cube_run.{specs.Replied.HasReplied, specs.Replied.Replied, specs.Runs.RunsScript, specs.Serving.ByEnd, specs.Serving.Outcome, specs.Serving.Serves, specs.declared.exit.Status.Status}
+pub use Rattle.cube_run.{specs.Replied.HasReplied, specs.Replied.Leads, specs.Replied.Replied, specs.Runs.RunsScript, specs.Serving.ByEnd, specs.Serving.Outcome, specs.Serving.Serves, specs.declared.exit.Status.Status}
 pub use Rattle.cube_session.specs.Session.{Answers, AnswersByWorld, RepliesTo, Runs, StandsFor, Starts}
 pub use Rattle.cube_state.{proofs.Answering.OnlyNow, proofs.Moves.stands_moved, proofs.SliceCosts.query_costs, proofs.SliceCosts.rollup_costs, proofs.SliceCosts.slice_costs, proofs.Standing.stands_left, proofs.Standing.stands_read, specs.Commands.CostTogether}
 pub use Rattle.cube_state.{specs.Commands.Costs, specs.Commands.none_cost, specs.Commands.one_costs, specs.Costs.Cost, specs.Costs.Spends, specs.Costs.both, specs.Moves.HasMovedTo}
@@ -17,7 +17,7 @@ pub use Rattle.script_lang.{specs.Script.whole, specs.declared.command.Command.C
 pub use Rattle.site_core.{proofs.Run.Changes-refl, proofs.Run.each_moment, proofs.Run.joined, proofs.Run.started, proofs.Run.wider, specs.Calls.Stays, specs.Calls.TellsFront}
 pub use Rattle.site_core.{specs.Calls.TellsNothing, specs.Causes.Rose, specs.Causes.RoseOnce, specs.Disk.Disk, specs.Disk.Files, specs.Moments.Elapses, specs.Moments.LeavesOnly}
 pub use Rattle.site_core.{specs.declared.site.Site.Ghosts, specs.declared.site.Site.Ghosts as Sites, specs.declared.source.Source.Ghosts as Sources}
-pub use Rattle.{cube_session.specs.Costs.open_cost, cube_session.specs.Damage.StopsAt, cube_session.specs.Damage.TellsBreak, cube_session.specs.declared.session.Session.Session}
+pub use Rattle.{cube_state.specs.Audits.open_cost, cube_session.specs.Damage.StopsAt, cube_session.specs.Damage.TellsBreak, cube_session.specs.declared.session.Session.Session}
 pub use Rattle.{cube_words.specs.Words.AreValid, cube_words.specs.declared.words.WordsStop.WordsStop, forest_open.specs.Breaks.BreaksAt, forest_open.specs.Opening.Place}
 pub use Rattle.{page_cache.specs.Giving.Cache, std.specs.Option.IsSomeAnd, std.specs.Result.IsErrAnd}
 pub use Rattle.cube_session.specs.declared.held.Held.{Held}

@@ -1,7 +1,7 @@
 -- How a run goes: it ends before the first pull, or as the script is served.
-use Rattle.std.proofs.Common.{◌≡◌, ◌≤◌, ◌+◌, ◌∷◌, ℕ, IsTrue, inl, inr, List, [], Option, IfSome, Ok, Err, ap, refl, sym, subst, arith}
+use Rattle.std.proofs.Common.{◌≡◌, ◌≤◌, ◌+◌, ◌∙◌, ◌++◌, ◌∷◌, ℕ, IsTrue, inl, inr, List, [], Option, IfSome, Ok, Err, ap, refl, sym, subst, arith}
 use Rattle.cube_run.proofs.Names.{AreValid, BreaksAt, ByEnd, Changes-refl, Command, Cost, CostTogether, Costs, CostsRun, Elapses, EndsAt, EndsForBreak, EndsUnpulled, EndsUntouched, Faults, Files}
-use Rattle.cube_run.proofs.Names.{Gave, Ghosts, HasReplied, Headline, IsNoDamage, IsPastOpening, IsSomeAnd, IsUndamaged, IsUsageOrMemory, Keeps, KeepsLimit, Kept, OnlyNow, Outcome, Place}
+use Rattle.cube_run.proofs.Names.{Gave, Ghosts, HasReplied, Headline, IsNoDamage, IsPastOpening, IsSomeAnd, IsUndamaged, IsUsageOrMemory, Keeps, KeepsLimit, Kept, OnlyNow, Outcome, Place, Replied}
 use Rattle.cube_run.proofs.Names.{RunsScript, Serves, Session, Sites, Sources, Spends, Starts, Status, StatusCause, Stays, Stop, StopsAt, TellsBreak, TellsNothing, WordsStop, World, act, bare, both}
 use Rattle.cube_run.proofs.Names.{commands, faults, none_cost, one_costs, open_cost, opening_and, query_costs, rollup_costs, slice_costs, status_of, stop_of, words_status}
 use Rattle.cube_run.proofs.Moments.{histories_go_on, moments_then, opened_behind, opened_moments, opening_moments, told_front}
@@ -134,7 +134,7 @@ module _ {A B : Type 0} {S : Sources A} {T : Sites B} (laws : Laws T) (given : L
       (subst (λ (told : List ℕ). Outcome (T.disk now) (bare kept) (reached_for session.held) (S.left source) (S.left next) most told end) (is.disk t).told
       (subst (Outcome (T.disk now) (bare kept) (reached_for session.held) (S.left source) (S.left next) most (T.disk mid).told) same (serves.outcome s t (bare kept) (is.opened t kept keeps))))
 
-  done : IsTrue S.tells → status ≡ Done → (S.left next ≡ []) × (IsTrue T.tells → HasReplied (commands (S.left source)) (T.disk mid).told (T.disk now).told)
+  done : IsTrue S.tells → status ≡ Done → (S.left next ≡ []) × (IsTrue T.tells → HasReplied (commands (S.left source)) (T.disk mid) (T.disk now))
   done s same = subst (ByEnd _ _ (Unit {0})) same serves.pulled s
 
   no_usage : status ≡ Usage → ⊥
@@ -189,7 +189,11 @@ module _ {A B : Type 0} {S : Sources A} {T : Sites B} (laws : Laws T) (given : L
     });
     broken = λ t fine place breaks. absurd (is.broken t place breaks).1;
     damaged = λ s t none. none_told (T.disk site).files (stop_of status) (serves.unpulled s none);
-    replied = λ s t same. subst (λ (told : List ℕ). HasReplied (commands (S.left source)) told (T.disk now).told) (is.disk t).told ((done s same).1 t);
+    replied = λ s t same. (let since = (done s same).1 t in record {
+      replies = since.replies;
+      told = since.told ∙ ap (λ (l : List ℕ). l ++ since.replies) (is.disk t).told;
+      each = subst (λ (files : Files). Replied (commands (S.left source)) files since.replies (T.disk now).files) (is.disk t).files since.each;
+    });
     usage = λ same. absurd (no_usage same);
     faulty = λ invalid. absurd (invalid valid);
     read = λ s same. (done s same).0;

@@ -7,7 +7,7 @@ use Rattle.plain_machine.specs.World.{Kept, bare}
 use Rattle.cube_state.specs.Commands.{CostTogether}
 use Rattle.cube_state.specs.Costs.{Cost, Spends, both}
 use Rattle.cube_state.specs.Moves.{unmoved}
-use Rattle.cube_session.specs.Costs.{open_cost}
+use Rattle.cube_state.specs.Audits.{open_cost}
 
 -- opening files that keep this, and something else
 abbrev pub opening_and : Kept → Cost → Cost

@@ -37,7 +37,7 @@ pub record Serves {A B : Type 0} (S : Sources A) (T : Sites B) (had : Option Hel
   pub undamaged : IsTrue T.tells → (world : World) → StandsFor had (T.disk site) world → IsUndamaged status
   pub unpulled : IsTrue S.tells → Gave (S.left source) (S.left source_now) 0 → IsUndamaged status
   pub few : IsTrue S.tells → GaveAtMost (S.left source) (S.left source_now) most ⊎ (status ≡ TooLong)
-  pub pulled : ByEnd (IsTrue S.tells → (S.left source_now ≡ []) × (IsTrue T.tells → HasReplied (commands (S.left source)) (T.disk site).told (T.disk site_now).told))
+  pub pulled : ByEnd (IsTrue S.tells → (S.left source_now ≡ []) × (IsTrue T.tells → HasReplied (commands (S.left source)) (T.disk site) (T.disk site_now)))
       (IsTrue S.tells → Gave (S.left source) (S.left source_now) (most + 1)) (Unit {0}) status
   pub asked : S.ends source_now ≤ S.ends source + 1
   pub cause : StatusCause (faults (S.faults source) (T.disk_faults site) (T.told_faults site)) (faults (S.faults source_now) (T.disk_faults site_now) (T.told_faults site_now)) status

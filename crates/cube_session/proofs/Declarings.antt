@@ -90,9 +90,25 @@ module _ {S : Type 0} (T : Ghosts S) (schema : Schema) (lawful : IsSchema schema
   fails : (next : State) (stop : Stop) → IsNoDamage stop → IsQuiet {A = Vec ℕ Global} T old new (Err stop) → CarriesOut T its Empty next old new cache cache (Err stop)
   fails next stop no_damage quiet levels = record {
     by_world = λ t world known stands. assumption (no_damage, moment t world stands, spends t world stands, no_pages (λ numbers. Saves cache 2 numbers (T.reads old) (T.reads new)) world);
-    any_files = λ t. search (no_damage, spares_none None (T.disk old).files (T.disk new).files stop no_damage, vain);
+    any_files = λ t. record {
+      damage = no_damage;
+      answered = tt;
+      spared = spares_none None (T.disk old).files (T.disk new).files stop no_damage;
+      looks = λ no dry. vain no;
+      settles = λ no. vain no;
+      fits = tt;
+    };
     goes_on = search (quiet, vain);
-    leaves = search (no_damage, vain, absurd);
+    leaves = record {
+      made = λ no. tt;
+      live = λ same. tt;
+      harmless = λ none. no_damage;
+      said = λ alone files. tt;
+      unasked = λ no nothing. vain no;
+      fits = λ t no dry. vain no;
+      side = λ t same. tt;
+      step_side = λ t step. absurd step;
+    };
   }
 
   by_said : (next : State) (result : Reply) → CarriesOut T its Empty next old new cache cache result → CarriesOut T command state next old new cache cache result
@@ -142,9 +158,25 @@ module _ {S : Type 0} (T : Ghosts S) (schema : Schema) (lawful : IsSchema schema
                 no_pages (λ numbers. Saves cache 2 numbers (T.reads old) (T.reads new)) world,
                 no_pages (KeepsUp cache cache 2) world,
               );
-          any_files = λ t. search (gives, none_fit (Some store.forest.body) (T.disk new).files cache ((subst (IsReadyFor T old cache) was ready).fits t), vain);
+          any_files = λ t. record {
+            damage = tt;
+            answered = gives;
+            spared = tt;
+            looks = λ no dry. vain no;
+            settles = λ no. vain no;
+            fits = none_fit (Some store.forest.body) (T.disk new).files cache ((subst (IsReadyFor T old cache) was ready).fits t);
+          };
           goes_on = search (runs, cached, quiet reply, vain, undeclared);
-          leaves = search (gives, vain, absurd);
+          leaves = record {
+            made = λ no. refl;
+            live = λ same. absurd same;
+            harmless = λ none. tt;
+            said = λ alone files. absurd alone;
+            unasked = λ no nothing. vain no;
+            fits = λ t no dry. vain no;
+            side = λ t same. absurd same;
+            step_side = λ t step. absurd step;
+          };
         }
 
     -- and memory may run out for the reply

@@ -1,3 +1,4 @@
+pub mod Audits
 pub mod Declarings
 pub mod Names
 pub mod Openings

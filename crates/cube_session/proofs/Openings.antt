@@ -3,7 +3,7 @@ use Rattle.cube_session.proofs.Names.{Option, Result, List, sym, subst, ap, Some
 use Rattle.cube_session.proofs.Names.{stable_holds, Settles, Stays, HasCauseWhere, Files, CallsOnly, IsStable, Ghosts, Fact, IsSchema, Schema, Keeps, BreaksAt, IsWarehouse, MayBeOpened, NamesPlace}
 use Rattle.cube_session.proofs.Names.{Place, names_pages, OpenStop, NoneRaised, Store, AreAccepted, KeepsFacts, names_text, IsStoreOf, IsWhole, Kept, bare, none_fit, live_of, RunsOn, moves_made}
 use Rattle.cube_session.proofs.Names.{Stands, open_stop, Stop, IsOpenUndamaged, TellsOpenBreak}
-use Rattle.cube_session.specs.Costs.{open_cost}
+use Rattle.cube_state.specs.Audits.{open_cost}
 use Rattle.cube_session.specs.Session.{Runs, StandsFor, Starts, moves_for, opened_held, opened_state}
 use Rattle.cube_session.specs.declared.held.Held.{Held}
 use Rattle.cube_state.specs.Levels.{FitSchema}

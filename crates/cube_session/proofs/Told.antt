@@ -5,7 +5,7 @@ use Rattle.cube_session.proofs.Names.{stands_left, tells_none, Saves, Fits, live
 use Rattle.cube_session.proofs.Names.{State, Stop}
 use Rattle.cube_session.specs.Session.{Answers, IsGoing, StandsAs}
 use Rattle.cube_session.specs.declared.held.Held.{Held}
-use Rattle.cube_state.specs.Carried.{CarriesOutWith}
+use Rattle.cube_state.specs.Carried.{CarriesOutWith, Syncs}
 use Rattle.cube_state.specs.Levels.{FitSchema}
 use Rattle.cube_state.specs.Visits.{schema_of}
 use Rattle.cube_state.proofs.Levels.{fit_behind, schema_stands}
@@ -107,7 +107,7 @@ module _ {S : Type 0} (T : Ghosts S) (command : Command) (held then : Held) (old
     by_world = λ t world stands.
         let known = is.by_world t world stands.levels stands.stands in
         assumption (known, untold world command state (T.disk old) (T.disk mid) known.any_moment, untold_formats world command state (T.disk old) (T.disk mid) known.any_moment);
-    any_files = λ t. assumption (is.any_files t, λ (none : MayWrite command → ⊥). ((is.any_files t).looks none).files);
+    any_files = λ t. assumption (is.any_files t, λ (none : MayWrite command → ⊥) (dry : Syncs command → ⊥). ((is.any_files t).looks none dry).files, λ (none : MayWrite command → ⊥). tt {0});
     goes_on = assumption is.goes_on;
   }
 
@@ -122,7 +122,7 @@ module _ {S : Type 0} (T : Ghosts S) (command : Command) (held then : Held) (old
     unwritten_on none = writes ∙ is.goes_on.unwritten none
 
     looks_on : IsTrue T.tells → (MayWrite command → ⊥) → (T.disk new).files ≡ (T.disk old).files
-    looks_on t none = (emits t).files ∙ ((is.any_files t).looks none).files
+    looks_on t none = (emits t).files ∙ ((is.any_files t).settles none).files
 
     module _ (t : IsTrue T.tells) (world : World) (stands : StandsAs held (T.disk old) world) where
       known : ByWorld T command world state next old mid before after (Ok reply)
@@ -161,7 +161,7 @@ module _ {S : Type 0} (T : Ghosts S) (command : Command) (held then : Held) (old
             costs t world stands,
             saves t world stands,
           );
-      any_files = λ t. record { damage = tt; answered = record { reply = reply.items; told = told_on t (told t); right = (is.any_files t).answered }; spared = tt; looks = looks_on t };
+      any_files = λ t. record { damage = tt; answered = record { reply = reply.items; told = told_on t (told t); right = (is.any_files t).answered }; spared = tt; looks = λ none dry. looks_on t none; settles = looks_on t };
       goes_on =
           let running : RunsOn T new next = record {
             running = is.goes_on.runs.running;
@@ -179,7 +179,11 @@ module _ {S : Type 0} (T : Ghosts S) (command : Command) (held then : Held) (old
     pub unheard : RoseOnce (T.told_faults mid) (T.told_faults new) → Answers T command held None old new before after (Err Stop.Output)
     unheard rose = record {
       by_world = λ t world stands. assumption (moment t world stands, formats t world stands, costs t world stands, saves t world stands);
-      any_files = λ t. assumption (tells_none levels state (T.disk old).files command Stop.Output tt, looks_on t);
+      any_files = λ t. assumption (
+        tells_none levels state (T.disk old).files command Stop.Output tt,
+        λ (none : MayWrite command → ⊥) (dry : Syncs command → ⊥). looks_on t none,
+        λ (none : MayWrite command → ⊥). tt {0},
+      );
       goes_on = assumption (
         is.goes_on,
         unwritten_on,

@@ -1,3 +1,3 @@
-pub mod Costs
+pub mod Auditing
 pub mod Damage
 pub mod Session

@@ -17,7 +17,8 @@ use Rattle.roll_up.specs.declared.level.Level.{Level}
 use Rattle.plain_machine.specs.Stages.{Meanwhile}
 use Rattle.plain_machine.specs.World.{Kept, World, bare}
 use Rattle.cube_state.specs.Cached.{KeepsUp, Saves, kept_over, live_file, live_of}
-use Rattle.cube_state.specs.Carried.{IsReadyFor, MayWrite, Spares}
+use Rattle.cube_state.specs.Audits.{open_cost}
+use Rattle.cube_state.specs.Carried.{IsReadyFor, MayWrite, Spares, Syncs}
 use Rattle.cube_state.specs.Commands.{Costs, Gives, TellsDamage}
 use Rattle.cube_state.specs.Costs.{Cost, Spends}
 use Rattle.cube_state.specs.Frames.{IsQuiet, StopsFor}
@@ -30,7 +31,6 @@ use Rattle.cube_state.specs.declared.state.State.{State}
 use Rattle.cube_state.specs.declared.state.State.TheVariants.{Empty, Idle}
 use Rattle.cube_state.specs.declared.stop.Stop.{Stop}
 use Rattle.cube_state.specs.declared.stop.Stop.TheVariants as stops
-use Rattle.cube_session.specs.Costs.{open_cost}
 use Rattle.cube_session.specs.Damage.{StopsAt, TellsBreak}
 use Rattle.cube_session.specs.declared.held.Held.{Held}
 use Rattle.cube_session.specs.declared.session.Session.{Session}
@@ -138,8 +138,9 @@ pub record AnswersAnyFiles {S : Type 0} (T : Ghosts S) (command : Command) (held
   pub damage : IfErr result (TellsDamage held.levels held.state (T.disk old).files command)
   pub answered : OnOk result (RepliesTo held (T.disk old).files command (T.disk old).told (T.disk new).told)
   pub spared : IfErr result (Spares (live_of held.state) (T.disk old).files (T.disk new).files)
-  -- what writes nothing changes nothing
-  pub looks : (MayWrite command → ⊥) → (T.disk new).files ≡ (T.disk old).files
+  -- what writes nothing changes nothing, unless a sync of it fails
+  pub looks : (MayWrite command → ⊥) → (Syncs command → ⊥) → (T.disk new).files ≡ (T.disk old).files
+  pub settles : (MayWrite command → ⊥) → OnOk result ((T.disk new).files ≡ (T.disk old).files)
 
 -- whatever the site tells
 pub record AnswersOn {S : Type 0} (T : Ghosts S) (command : Command) (held : Held) (has : Option Held) (old new : S) (before after : Cache) (result : Result (Unit {0}) Stop) : Type 0 where

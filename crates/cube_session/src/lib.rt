@@ -2,6 +2,7 @@
 #![tactic(auto)]
 
 mod answering;
+mod auditing;
 mod declaring;
 mod held;
 mod machine;

@@ -6,6 +6,7 @@ ghost use Rattle.cube_state.specs.Levels.{FitSchema};
 ghost use Rattle.cube_state.specs.Visits.{schema_of};
 
 use crate::answering::{plain, status};
+use crate::auditing::audit;
 use crate::declaring::declare;
 use crate::held::Held;
 use cube_batches::{abandon, begin, finish, load, step, upgrade};
@@ -56,6 +57,7 @@ pub fn act<T: Site>(
         Command::Finish => finish(alloc, pages, state, site),
         Command::Abandon => abandon(alloc, state, site),
         Command::Upgrade => upgrade(alloc, pages, state, site),
+        Command::Audit => audit(alloc, site),
         Command::LongLine => plain(alloc, "refused long line"),
         Command::OpenBlock => plain(alloc, "refused open block"),
         Command::Unknown => plain(alloc, "refused unknown"),

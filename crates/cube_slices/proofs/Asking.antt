@@ -8,6 +8,8 @@ use Rattle.cube_slices.proofs.Names.{attends_belongs, spares_same, AreLive, Keep
 use Rattle.cube_slices.proofs.Names.{Spares, Gives, Cost, Spends, IsQuiet, Belongs, Stands, IsAnswer, IsNoDamage, GoesFrom, GoesOver, GoesTo}
 use Rattle.cube_slices.proofs.Names.{ReadsFor, ReadsFrom, asked_from, asks_pages, is_asked, store_of, State, Empty, Idle, Hollow, Pending, Stop, subst₂}
 use Rattle.cube_state.proofs.SliceCosts.{picked-one, some-covers}
+use Rattle.site_core.specs.Calls.{Stays}
+use Rattle.site_core.proofs.Run.{Changes-settles}
 use Rattle.slice_exec.specs.Answering.{AnswersFrom}
 use Rattle.slice_exec.specs.Searching.{SearchesView}
 use Rattle.cube_state.specs.Moves.{format_in, format_of}
@@ -284,7 +286,8 @@ module _ {S : Type 0} (T : Ghosts S) (old new : S) (state : State) (store : Stor
       damage = ends.damage t (fitting t).agree;
       answered = ends.answered t (fitting t).agree;
       spared = subst (λ (f : Files). IfErr result (Spares (live_of state) (T.disk old).files f)) (sym (found.tree.looks.disk t).files) (spared_all result (live_of state) (T.disk old).files);
-      looks = λ none. found.tree.looks.disk t;
+      looks = λ none dry. found.tree.looks.disk t;
+      settles = λ none. Changes-settles Stays (T.disk old) (T.disk new) result (found.tree.looks.disk t);
       fits = holds result (fits t);
     }
 
@@ -309,7 +312,7 @@ module _ {S : Type 0} (T : Ghosts S) (old new : S) (state : State) (store : Stor
         harmless = λ none. absurd (never_silent its asking none);
         said = λ alone files. absurd (never_alone its asking alone);
         unasked = λ none nothing. asks nothing;
-        fits = λ t none. fits t;
+        fits = λ t none dry. fits t;
         side = λ t same. holds result (side_stays t);
         step_side = λ t step. absurd (never_steps its asking step);
       };

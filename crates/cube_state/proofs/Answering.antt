@@ -2,7 +2,8 @@
 use Rattle.std.proofs.Common.{◌≡◌, inl, ℕ, List, sym, subst}
 use Rattle.site_core.specs.Disk.{Files, Disk}
 use Rattle.site_core.proofs.Run.{each_moment, started}
-use Rattle.site_core.specs.Calls.{Rests, Stays}
+use Rattle.site_core.specs.Calls.{Rests, Stays, TellsNothing}
+use Rattle.site_core.specs.Moments.{Elapses}
 use Rattle.plain_machine.specs.World.{World}
 use Rattle.plain_machine.specs.Keeps.{IsFrom, Keeps}
 use Rattle.cube_state.specs.declared.state.State.{State}
@@ -21,15 +22,18 @@ pub quiet : (state : State) (disk : Disk) (world next : World) → Stands state 
 quiet state disk world next is only = started disk (λ told files. (told ≡ disk.told) × KeepsEither world next files × IsFrom (format_of state) files)
     (λ told files left. let now = only told files left in (now.0, inl (stands_left state disk world is files now.1), stands_from state disk world is files now.1))
 
--- calls that change nothing
-pub resting : (state : State) (old new : Disk) (world next : World) → Stands state old world → OnlyNow old → Rests old new → Between (format_of state) old new world next
-resting state old new world next is only rests = each_moment Stays old new (λ told files. (told ≡ old.told) × KeepsEither world next files × IsFrom (format_of state) files)
+-- calls that change nothing, unless a sync fails
+pub settling : (state : State) (old new : Disk) (world next : World) → Stands state old world → OnlyNow old → Elapses TellsNothing Stays old new → Between (format_of state) old new world next
+settling state old new world next is only time = each_moment Stays old new (λ told files. (told ≡ old.told) × KeepsEither world next files × IsFrom (format_of state) files)
     (λ told files left. let now = only told files left in (now.0, inl (stands_left state old world is files now.1), stands_from state old world is files now.1))
     (λ told files same after. (
       same,
       inl (subst (λ (f : Files). Keeps f world.kept) (sym after.2) (stands_left state old world is after.0 after.1)),
       subst (IsFrom (format_of state)) (sym after.2) (stands_from state old world is after.0 after.1),
-    )) rests.time
+    )) time
+
+pub resting : (state : State) (old new : Disk) (world next : World) → Stands state old world → OnlyNow old → Rests old new → Between (format_of state) old new world next
+resting state old new world next is only rests = settling state old new world next is only rests.time
 
 -- a session stands after such calls
 pub fit_rests : (state : State) (old new : Disk) → Rests old new → IsFit state old → IsFit state new

@@ -20,7 +20,7 @@ use Rattle.cube_state.specs.Visits.{GoesTo}
 use Rattle.cube_state.proofs.Answering.{OnlyNow, quiet}
 use Rattle.cube_state.proofs.Cached.{kept_same}
 use Rattle.cube_state.proofs.Costs.{spends_none}
-use Rattle.cube_state.proofs.Looking.{quiet_here, quiet_nowhere, rests_here}
+use Rattle.cube_state.proofs.Looking.{quiet_here, quiet_nowhere, rests_here, settled_here}
 use Rattle.cube_state.proofs.Standing.{stands_as}
 use Rattle.cube_state.proofs.Told.{spares_none, tells_none}
 
@@ -62,7 +62,8 @@ module _ {S : Type 0} (T : Ghosts S) (command : Command) (state : State) (site :
       damage = tells_none levels state (T.disk site).files command stops.Memory tt;
       answered = tt;
       spared = spares_none (live_of state) (T.disk site).files (T.disk site).files stops.Memory tt;
-      looks = λ none. rests_here (T.disk site);
+      looks = λ none dry. rests_here (T.disk site);
+      settles = λ none. settled_here (T.disk site) (Err stops.Memory);
       fits = tt;
     };
     goes_on = record { runs = tt; schema = λ declared has. tt; cache = λ none. tt; capacity = refl; unwritten = λ none. refl; quiet = quiet_nowhere T site };
@@ -72,7 +73,7 @@ module _ {S : Type 0} (T : Ghosts S) (command : Command) (state : State) (site :
       harmless = λ none. tt;
       said = λ alone files. tt;
       unasked = λ none nothing. refl;
-      fits = λ t none. ready.fits t;
+      fits = λ t none dry. ready.fits t;
       side = λ t same. tt;
       step_side = λ t step. refl;
     };
@@ -103,7 +104,8 @@ module _ {S : Type 0} (T : Ghosts S) (command : Command) (state : State) (site :
       damage = tt;
       answered = subst (Gives levels state (T.disk site).files command) (sym said) (is.gives (T.disk site).files);
       spared = tt;
-      looks = λ none. rests_here (T.disk site);
+      looks = λ none dry. rests_here (T.disk site);
+      settles = λ none. settled_here (T.disk site) (Ok reply);
       fits = ready.fits t;
     };
     goes_on = record { runs = ready.runs; schema = λ declared has. has; cache = λ none. sym (kept_same (live_of state) (live_of state) cache refl); capacity = refl; unwritten = λ none. refl; quiet = quiet_here T site };
@@ -113,7 +115,7 @@ module _ {S : Type 0} (T : Ghosts S) (command : Command) (state : State) (site :
       harmless = λ none. tt;
       said = λ alone files. subst (Gives levels state files command) (sym said) (is.gives files);
       unasked = λ none nothing. refl;
-      fits = λ t none. ready.fits t;
+      fits = λ t none dry. ready.fits t;
       side = λ t same. refl;
       step_side = λ t step. refl;
     };

@@ -12,7 +12,10 @@ use Rattle.forest_refresh.specs.Begun.{batch_size}
 use Rattle.forest_refresh.specs.declared.stop.BeginStop.{BeginStop}
 use Rattle.forest_refresh.specs.declared.stop.BeginStop.TheVariants as begins
 use Rattle.forest_root.specs.declared.forest.Store.{Store}
-use Rattle.reply_text.specs.Replies.{abandoned_text, begun_text, is_declared, is_pending, is_unknown, line, long_line, no_schema, none_pending, not_covered, open_block, stepped_text, too_many_facts, unopened, upgraded_text}
+use Rattle.forest_audit.specs.declared.verdict.Verdict.{Verdict}
+use Rattle.forest_audit.specs.declared.verdict.Verdict.TheVariants as verdicts
+use Rattle.cube_state.specs.Audits.{verdict_text}
+use Rattle.reply_text.specs.Replies.{abandoned_text, audited_text, begun_text, is_declared, is_pending, is_unknown, line, long_line, no_schema, none_pending, not_covered, open_block, stepped_text, too_many_facts, unopened, upgraded_text}
 use Rattle.script_lang.specs.declared.command.Command.TheVariants as says
 use Rattle.slice_lang.specs.declared.refusal.SliceRefusal.{SliceRefusal}
 use Rattle.slice_lang.specs.Reading.{slice_of}
@@ -122,6 +125,11 @@ pending_some (Hollow store) text = some_line text
 pending_some (Pending r) text = some_line text
 pending_some _ text = some_line none_pending
 
+verdict_some : (found : Verdict) → 0 < length (verdict_text found)
+verdict_some verdicts.Empty = some_line unopened
+verdict_some verdicts.Yes = some_line audited_text
+verdict_some (verdicts.No file offset) = behind (codes "audit no ") _ (behind (decimal file) _ (some_number (codes " ") offset))
+
 pub gives_some : (levels : List Level) (state : State) (files : Files) (command : Command) (reply : List ℕ) → Gives levels state files command reply → 0 < length reply
 gives_some levels Empty files (says.Schema block) reply is = as_text _ reply is (declare_some (bare None) None block)
 gives_some levels state files (says.Schema block) reply is = as_line is_declared reply is
@@ -142,6 +150,7 @@ gives_some levels (Pending r) files says.Status reply is =
 gives_some levels Empty files says.Upgrade reply is = as_line no_schema reply is
 gives_some levels (Idle store) files says.Upgrade reply is = as_line upgraded_text reply is.said
 gives_some levels state files says.Upgrade reply is = as_line is_pending reply is
+gives_some levels state files says.Audit reply is = as_text _ reply is.said (verdict_some is.found)
 gives_some levels Empty files (says.Begin block) reply is = as_line no_schema reply is
 gives_some levels (Idle store) files (says.Begin block) reply is = begun_some store (given_to store (Rows block)) reply (source_has store.forest.schema store.forest.body.last (Rows block)) is
 gives_some levels state files (says.Begin block) reply is = as_line is_pending reply is

@@ -49,6 +49,7 @@ each_behind P schema levels stays more (says.Sql text) = stays
 each_behind P schema levels stays more (says.Rollup text) = stays
 each_behind P schema levels stays more says.Status = stays
 each_behind P schema levels stays more says.Upgrade = stays
+each_behind P schema levels stays more says.Audit = stays
 each_behind P schema levels stays more says.LongLine = stays
 each_behind P schema levels stays more says.OpenBlock = stays
 each_behind P schema levels stays more says.Unknown = stays

@@ -1,4 +1,5 @@
 pub mod Answering
+pub mod Audits
 pub mod BatchCosts
 pub mod Cached
 pub mod Carried

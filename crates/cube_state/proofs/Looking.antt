@@ -1,9 +1,9 @@
 -- Calls that only look, one after another.
-use Rattle.std.proofs.Common.{Ok, Err, inl, refl}
-use Rattle.site_core.specs.Calls.{Rests}
+use Rattle.std.proofs.Common.{Result, Ok, Err, inl, refl}
+use Rattle.site_core.specs.Calls.{Rests, Settles, Stays}
 use Rattle.site_core.specs.Disk.{Disk}
 use Rattle.site_core.specs.declared.site.Site.{Ghosts}
-use Rattle.site_core.proofs.Run.{GoesOn-refl}
+use Rattle.site_core.proofs.Run.{Changes-settles, GoesOn-refl}
 use Rattle.cube_state.specs.declared.stop.Stop.{Stop}
 use Rattle.cube_state.specs.declared.stop.Stop.TheVariants as stops
 use Rattle.cube_state.specs.Frames.{IsQuiet, OnlyLooks}
@@ -15,6 +15,9 @@ rests_here disk = record {
   told = refl;
   time = record { clock = GoesOn-refl disk; now = λ files left. (files, left, refl); since = λ t told files le left. inl left };
 }
+
+pub settled_here : {A E : Type 0} (disk : Disk) (result : Result A E) → Settles Stays disk disk result
+settled_here disk result = Changes-settles Stays disk disk result (rests_here disk)
 
 pub quiet_here : {S A : Type 0} (T : Ghosts S) (site : S) {x : A} → IsQuiet T site site (Ok x)
 quiet_here T site = record { told = λ t. refl; cause = tt; disk_faults = refl; told_faults = refl }

@@ -108,6 +108,7 @@ reached_more world reached (says.Sql text) known = omega arith
 reached_more world reached (says.Level name attr block) known = omega arith
 reached_more world reached (says.Rollup text) known = omega arith
 reached_more world reached says.Status known = omega arith
+reached_more world reached says.Audit known = omega arith
 reached_more world reached says.LongLine known = omega arith
 reached_more world reached says.OpenBlock known = omega arith
 reached_more world reached says.Unknown known = omega arith

@@ -96,6 +96,7 @@ tells_none levels state files (says.Sql text) stop is = fold_none levels (store_
 tells_none levels state files (says.Rollup text) stop is = fold_none levels (store_of state) files (says.Rollup text) stop is
 tells_none levels state files (says.Level name attr block) stop is = is
 tells_none levels state files says.Status stop is = is
+tells_none levels state files says.Audit stop is = is
 tells_none levels state files says.LongLine stop is = is
 tells_none levels state files says.OpenBlock stop is = is
 tells_none levels state files (says.Begin block) stop is = is

@@ -1,7 +1,7 @@
 -- A command that goes to no page is carried out: what all such commands have alike is filled in here.
 use Rattle.std.proofs.Common.{◌≡◌, ◌∙◌, ◌==◌, ◌+◌, Bool, true, false, cond, IsTrue, Global, Vec, ℕ, List, Option, Some, None, Result, Ok, Err, refl, sym, ap, subst}
 use Rattle.std.specs.Result.{IsErrAnd}
-use Rattle.site_core.specs.Calls.{Rests}
+use Rattle.site_core.specs.Calls.{Rests, Settles, Stays}
 use Rattle.site_core.specs.Disk.{Files}
 use Rattle.site_core.specs.declared.site.Site.{Ghosts}
 use Rattle.cube_schema.specs.declared.schema.Schema.{Schema}
@@ -26,7 +26,7 @@ use Rattle.cube_state.specs.Visits.{GoesFrom, GoesOver, GoesTo, schema_of}
 use Rattle.cube_state.proofs.Answering.{OnlyNow, quiet}
 use Rattle.cube_state.proofs.Cached.{emptied_fits, kept_none, kept_same, side_fits}
 use Rattle.cube_state.proofs.Costs.{spends_none}
-use Rattle.cube_state.proofs.Looking.{quiet_here, rests_here}
+use Rattle.cube_state.proofs.Looking.{quiet_here, rests_here, settled_here}
 use Rattle.cube_state.proofs.Told.{spares_none, tells_none}
 
 -- what holds of an error holds of a result that is this error
@@ -109,7 +109,8 @@ module _ {S : Type 0} (T : Ghosts S) (command : Command) (none_asked : (schema :
       damage = tt;
       answered = is.answered t levels;
       spared = tt;
-      looks = λ no. subst (λ (s : S). Rests (T.disk old) (T.disk s)) (sym (leaves.still no).0) (rests_here (T.disk old));
+      looks = λ no dry. subst (λ (s : S). Rests (T.disk old) (T.disk s)) (sym (leaves.still no).0) (rests_here (T.disk old));
+      settles = λ no. subst (λ (s : S). Settles {E = Stop} Stays (T.disk old) (T.disk s) (Ok reply)) (sym (leaves.still no).0) (settled_here (T.disk old) (Ok reply));
       fits = leaves.fits t;
     };
     goes_on = record {
@@ -126,7 +127,7 @@ module _ {S : Type 0} (T : Ghosts S) (command : Command) (none_asked : (schema :
       harmless = λ none. tt;
       said = λ alone files. is.said alone files levels;
       unasked = λ no nothing. (leaves.still no).1;
-      fits = leaves.stays;
+      fits = λ t no dry. leaves.stays t no;
       side = leaves.side;
       step_side = leaves.step_side;
     };
@@ -146,7 +147,7 @@ module _ {S : Type 0} (T : Ghosts S) (command : Command) (none_asked : (schema :
       saves = λ numbers goes. absurd (goes_nowhere command none_asked (format_of state) world numbers goes);
       keeps = λ numbers goes. tt;
     };
-    any_files = λ t. record { damage = is.damage t levels; answered = tt; spared = is.spared t; looks = λ no. absurd (no may); fits = tt };
+    any_files = λ t. record { damage = is.damage t levels; answered = tt; spared = is.spared t; looks = λ no dry. absurd (no may); settles = λ no. absurd (no may); fits = tt };
     goes_on = record { runs = tt; schema = λ declared has. tt; cache = λ none. tt; capacity = same; unwritten = λ no. absurd (no may); quiet = quiet };
     leaves = record {
       made = λ no. tt;
@@ -154,7 +155,7 @@ module _ {S : Type 0} (T : Ghosts S) (command : Command) (none_asked : (schema :
       harmless = is.harmless;
       said = λ alone files. tt;
       unasked = λ no nothing. absurd (no may);
-      fits = λ t no. absurd (no may);
+      fits = λ t no dry. absurd (no may);
       side = λ t same. tt;
       step_side = is.step_side;
     };

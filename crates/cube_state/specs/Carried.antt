@@ -2,7 +2,7 @@
 use Rattle.std.specs.Prelude.{◌≡◌, ℕ, Bool, IsTrue, true, false, cond, List, Option, Some, None, Result, IfOk, IfErr, OnOk}
 use Rattle.std.specs.declared.alloc.Global.{Global}
 use Rattle.std.specs.declared.vec.Vec.{Vec}
-use Rattle.site_core.specs.Calls.{Rests}
+use Rattle.site_core.specs.Calls.{Rests, Settles, Stays}
 use Rattle.site_core.specs.Disk.{Files}
 use Rattle.site_core.specs.declared.site.Site.{Ghosts}
 use Rattle.forest_root.specs.declared.body.Body.{Body}
@@ -36,6 +36,8 @@ pub record IsReadyFor {S : Type 0} (T : Ghosts S) (site : S) (cache : Cache) (st
 pub record Effect : Type 0 where
   -- it may write to files
   pub writes : Bool
+  -- it writes nothing, but it syncs
+  pub syncs : Bool
   -- it makes moves that the pending batch tells
   pub moves : Bool
   -- behind it no batch is pending
@@ -49,7 +51,7 @@ pub record Effect : Type 0 where
 
 -- it only answers, by what the session has
 abbrev pub answers : Effect
-answers = record { writes = false; moves = false; ends = false; renews = false; tells = false; looks = false }
+answers = record { writes = false; syncs = false; moves = false; ends = false; renews = false; tells = false; looks = false }
 
 -- it answers from pages
 abbrev pub asks : Effect
@@ -57,7 +59,7 @@ asks = record answers { tells = true; looks = true }
 
 -- it may write all points anew
 abbrev pub rewrites : Effect
-rewrites = record { writes = true; moves = false; ends = false; renews = true; tells = true; looks = true }
+rewrites = record { writes = true; syncs = false; moves = false; ends = false; renews = true; tells = true; looks = true }
 
 abbrev pub effect_of : Command → Effect
 effect_of (says.Schema block) = record rewrites { tells = false }
@@ -69,6 +71,7 @@ effect_of (says.Step n) = record answers { writes = true; moves = true; tells = 
 effect_of says.Finish = record rewrites { ends = true }
 effect_of says.Abandon = record answers { ends = true }
 effect_of says.Upgrade = rewrites
+effect_of says.Audit = record answers { syncs = true; looks = true }
 effect_of (says.Slice text) = asks
 effect_of (says.Explain text) = answers
 effect_of (says.Sql text) = asks
@@ -89,6 +92,9 @@ DoesNot false = Unit {0}
 
 abbrev pub MayWrite : Command → Type 0
 MayWrite command = Does (effect_of command).writes
+
+abbrev pub Syncs : Command → Type 0
+Syncs command = Does (effect_of command).syncs
 
 abbrev pub IsStep : Command → Type 0
 IsStep command = Does (effect_of command).moves
@@ -144,8 +150,9 @@ pub record OverAnyFiles {S : Type 0} (T : Ghosts S) (levels : List Level) (comma
   pub damage : IfErr result (TellsDamage levels state (T.disk old).files command)
   pub answered : IfOk result (λ reply. Gives levels state (T.disk old).files command reply.items)
   pub spared : IfErr result (Spares (live_of state) (T.disk old).files (T.disk new).files)
-  -- what writes nothing changes nothing
-  pub looks : (MayWrite command → ⊥) → Rests (T.disk old) (T.disk new)
+  -- what writes nothing changes nothing, unless a sync of it fails
+  pub looks : (MayWrite command → ⊥) → (Syncs command → ⊥) → Rests (T.disk old) (T.disk new)
+  pub settles : (MayWrite command → ⊥) → Settles Stays (T.disk old) (T.disk new) result
   pub fits : OnOk result (Fits next (T.disk new).files after)
 
 -- whatever the site tells
@@ -169,8 +176,8 @@ pub record LeavesAlone {S : Type 0} (T : Ghosts S) (levels : List Level) (comman
   pub said : RepliesAlone command → (files : Files) → IfOk result (λ reply. Gives levels state files command reply.items)
   -- no page is kept or let go but by a slice that is answered, and by what writes
   pub unasked : (MayWrite command → ⊥) → asks_pages levels state command ≡ false → after ≡ before
-  -- what only looks leaves kept pages that fit, however it ends
-  pub fits : IsTrue T.tells → (MayWrite command → ⊥) → Fits state (T.disk new).files after
+  -- what only reads leaves kept pages that fit, however it ends
+  pub fits : IsTrue T.tells → (MayWrite command → ⊥) → (Syncs command → ⊥) → Fits state (T.disk new).files after
   pub side : IsTrue T.tells → LeavesLive command → OnOk result (SideStays (live_of state) (T.disk old).files (T.disk new).files)
   -- a step leaves the live side as it was however it ends
   pub step_side : IsTrue T.tells → IsStep command → SideStays (live_of state) (T.disk old).files (T.disk new).files

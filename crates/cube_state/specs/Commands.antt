@@ -14,6 +14,7 @@ use Rattle.plain_machine.specs.World.{World, bare}
 use Rattle.cube_state.specs.declared.state.State.{State}
 use Rattle.cube_state.specs.declared.state.State.TheVariants.{Empty, Idle, Hollow, Pending}
 use Rattle.cube_state.specs.declared.stop.Stop.{Stop}
+use Rattle.cube_state.specs.Audits.{AuditGives, audit_cost}
 use Rattle.cube_state.specs.BatchCosts.{begin_cost, begins, finish_cost, load_cost, remakes, schema_cost, step_cost, upgrade_cost}
 use Rattle.cube_state.specs.BatchDamage.{FinishTells, LoadTells, UpgradeTells}
 use Rattle.cube_state.specs.Batches.{BeginGives, FinishGives, LoadGives, UpgradeGives, pending_line}
@@ -46,6 +47,7 @@ Costs world reached (says.Step n) cost = cost ≡ step_cost world reached n
 Costs world reached says.Finish cost = cost ≡ finish_cost world reached
 Costs world reached says.Abandon cost = cost ≡ free
 Costs world reached says.Upgrade cost = cost ≡ upgrade_cost reached.format world
+Costs world reached says.Audit cost = cost ≡ audit_cost reached.format world.kept
 Costs world reached (says.Explain text) cost = cost ≡ free
 Costs world reached (says.Sql text) cost = ReadsFor reached.format world (says.Sql text) cost
 Costs world reached (says.Rollup text) cost = ReadsFor reached.format world (says.Rollup text) cost
@@ -68,7 +70,7 @@ HasNoFact (Some []) = Unit {0}
 HasNoFact (Some (x ∷ xs)) = ⊥
 
 -- What makes no call at all: a batch that is refused, empty or accepted before, a step or a finish where no row is pending, an upgrade that is
--- refused or of pages that have the greatest format, and what only answers. A slice makes none where it is refused.
+-- refused or of pages that have the greatest format, and what only answers. A slice makes none where it is refused, and an audit always makes one.
 abbrev pub MakesNoCall : World → Reached → Command → Type 0
 MakesNoCall world reached (says.Slice text) = asked_slice world (says.Slice text) ≡ None
 MakesNoCall world reached (says.Schema block) = (act world (says.Schema block)).0.kept ≡ world.kept
@@ -79,6 +81,7 @@ MakesNoCall world reached (says.Begin block) = begins world block ≡ 0
 MakesNoCall world reached (says.Step n) = HasNoFact world.pending
 MakesNoCall world reached says.Finish = HasNoFact world.pending
 MakesNoCall world reached says.Upgrade = remakes world reached.format ≡ false
+MakesNoCall world reached says.Audit = ⊥
 MakesNoCall world reached says.Abandon = Unit {0}
 MakesNoCall world reached (says.Explain text) = Unit {0}
 MakesNoCall world reached (says.Sql text) = asked_slice world (says.Sql text) ≡ None
@@ -111,6 +114,7 @@ Gives levels state files (says.Rollup text) reply = RollupGives levels (store_of
 Gives levels state files (says.Level name attr block) reply = reply ≡ leveled_by levels (store_of state) name attr block
 Gives levels state files says.Status reply = reply ≡ state_text state
 Gives levels state files says.Upgrade reply = UpgradeGives state files reply
+Gives levels state files says.Audit reply = AuditGives files reply
 Gives levels state files (says.Begin block) reply = BeginGives state block reply
 Gives levels state files (says.Step n) reply = reply ≡ pending_line state stepped_text
 Gives levels state files says.Finish reply = FinishGives state files reply
@@ -130,6 +134,7 @@ TellsDamage levels state files (says.Generate start rows) stop = LoadTells state
 TellsDamage levels state files (says.Step n) stop = FinishTells state files stop
 TellsDamage levels state files says.Finish stop = FinishTells state files stop
 TellsDamage levels state files says.Upgrade stop = UpgradeTells state files stop
+TellsDamage levels state files says.Audit stop = IsNoDamage stop
 TellsDamage levels state files (says.Schema block) stop = IsNoDamage stop
 TellsDamage levels state files (says.Explain text) stop = IsNoDamage stop
 TellsDamage levels state files (says.Sql text) stop = FoldTells levels (store_of state) files (says.Sql text) stop

@@ -1,3 +1,4 @@
+pub mod Audits
 pub mod BatchCosts
 pub mod BatchDamage
 pub mod Batches

@@ -70,6 +70,7 @@ reached_behind world reached (says.Step n) = record reached { made = min (reache
 reached_behind world reached says.Finish = unmoved (format_behind world reached.format says.Finish)
 reached_behind world reached says.Abandon = unmoved reached.format
 reached_behind world reached says.Upgrade = record reached { format = format_upgraded world.kept world.pending reached.format }
+reached_behind world reached says.Audit = reached
 reached_behind world reached (says.Slice text) = reached
 reached_behind world reached (says.Explain text) = reached
 reached_behind world reached (says.Sql text) = reached

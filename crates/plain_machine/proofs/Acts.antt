@@ -39,7 +39,7 @@ use Rattle.sql_slice.specs.SqlRows.{records_text, sql_reply, sqlrows}
 use Rattle.plain_machine.specs.declared.batch_source.BatchSource.{BatchSource}
 use Rattle.plain_machine.specs.declared.batch_source.BatchSource.TheVariants.{Rows, Numbered, Generator}
 use Rattle.plain_machine.specs.World.{Kept, World, Warehouse}
-use Rattle.plain_machine.specs.Machine.{Answer, Given, abandon, accepted, act, batch_from, begin, begun, begun_or_refused, block_read, committed, declare, declare_over, declared, explain, explain_over, explain_reply, fact_limit, facts_or_refusal, finish, first_full, first_heavy, full_refusal, base_slice, heavy_refusal, is_covered, level, level_over, level_reply, lifted_reply, load, pending_over, picked_reply, query, query_over, query_reply, read_by, refusal_of, replies_with, read_reply, rollup, rollup_over, rollup_reply, rows_reply, slice, slice_over, slice_reply, status_over, status_text, step, take_over, unless, unread_reply, upgrade, upgrade_over, with_last, with_number}
+use Rattle.plain_machine.specs.Machine.{Answer, Given, abandon, accepted, act, audit_over, batch_from, begin, begun, begun_or_refused, block_read, committed, declare, declare_over, declared, explain, explain_over, explain_reply, fact_limit, facts_or_refusal, finish, first_full, first_heavy, full_refusal, base_slice, heavy_refusal, is_covered, level, level_over, level_reply, lifted_reply, load, pending_over, picked_reply, query, query_over, query_reply, read_by, refusal_of, replies_with, read_reply, rollup, rollup_over, rollup_reply, rows_reply, slice, slice_over, slice_reply, status_over, status_text, step, take_over, unless, unread_reply, upgrade, upgrade_over, with_last, with_number}
 use Rattle.plain_machine.specs.Stages.{size, makes_stage}
 use Rattle.plain_machine.specs.Histories.{Batch, batch_by}
 use Rattle.plain_machine.proofs.Outcomes.{Outcome, stays, declares, commits, counts, outcome}
@@ -288,6 +288,10 @@ upgrade_some None pending = some_line (codes "refused no schema")
 upgrade_some (Some warehouse) None = some_line (codes "upgraded")
 upgrade_some (Some warehouse) (Some batch) = some_line (codes "refused pending")
 
+audit_some : (kept : Kept) → 0 < length (audit_over kept)
+audit_some None = some_line (codes "no schema")
+audit_some (Some warehouse) = some_line (codes "audit yes")
+
 pub reply_some : (world : World) (command : Command) → 0 < length (act world command).1
 unfolding act
 reply_some world (says.Schema block) = declare_some world world.kept block
@@ -306,6 +310,7 @@ reply_some world (says.Level name attr block) = level_some world.kept world.leve
 reply_some world (says.Rollup text) = rollup_some world.kept world.levels text
 reply_some world says.Status = status_some world.kept world.pending
 reply_some world says.Upgrade = upgrade_some world.kept world.pending
+reply_some world says.Audit = audit_some world.kept
 reply_some world says.LongLine = some_line (codes "refused long line")
 reply_some world says.OpenBlock = some_line (codes "refused open block")
 reply_some world says.Unknown = some_line (codes "refused unknown")
@@ -374,6 +379,10 @@ act_status world = refl
 pub act_upgrade : (world : World) → act world says.Upgrade ≡ upgrade world
 unfolding act
 act_upgrade world = refl
+
+pub act_audit : (world : World) → act world says.Audit ≡ (world, audit_over world.kept)
+unfolding act
+act_audit world = refl
 
 pub act_long_line : (world : World) → act world says.LongLine ≡ replies_with world (codes "refused long line")
 unfolding act

@@ -71,6 +71,7 @@ act_levels world (says.Sql text) = refl
 act_levels world (says.Rollup text) = refl
 act_levels world says.Status = refl
 act_levels world says.Upgrade = refl
+act_levels world says.Audit = refl
 act_levels world says.LongLine = refl
 act_levels world says.OpenBlock = refl
 act_levels world says.Unknown = refl

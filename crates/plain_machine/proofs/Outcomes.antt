@@ -146,6 +146,7 @@ outcome world (says.Level name attr block) = stays
 outcome world (says.Rollup text) = stays
 outcome world says.Status = stays
 outcome world says.Upgrade = stays
+outcome world says.Audit = stays
 outcome world says.LongLine = stays
 outcome world says.OpenBlock = stays
 outcome world says.Unknown = stays

@@ -81,6 +81,7 @@ batch_by world (says.Level name attr block) = None
 batch_by world (says.Rollup text) = None
 batch_by world says.Status = None
 batch_by world says.Upgrade = None
+batch_by world says.Audit = None
 batch_by world says.LongLine = None
 batch_by world says.OpenBlock = None
 batch_by world says.Unknown = None

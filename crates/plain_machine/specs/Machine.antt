@@ -22,7 +22,7 @@ use Rattle.script_lang.specs.declared.command.Command.TheVariants as says
 use Rattle.forest_pages.specs.Forest.{body_counts}
 use Rattle.replica_route.specs.Picked.{picked}
 use Rattle.replica_route.specs.declared.picking.Choice.{Choice}
-use Rattle.reply_text.specs.Replies.{line, already_text, choice_text, committed_text, facts_text, gap_text, leveled_text, pending_text, schema_text, batch_text, full_text, level_text, mass_text, query_text, slice_text, answer_text, unopened, no_schema, is_declared, long_schema, long_block, is_pending, none_pending, too_many_facts, is_empty, not_covered, long_line, open_block, is_unknown, declared_text, begun_text, stepped_text, abandoned_text, upgraded_text}
+use Rattle.reply_text.specs.Replies.{line, already_text, audited_text, choice_text, committed_text, facts_text, gap_text, leveled_text, pending_text, schema_text, batch_text, full_text, level_text, mass_text, query_text, slice_text, answer_text, unopened, no_schema, is_declared, long_schema, long_block, is_pending, none_pending, too_many_facts, is_empty, not_covered, long_line, open_block, is_unknown, declared_text, begun_text, stepped_text, abandoned_text, upgraded_text}
 use Rattle.roll_up.specs.Bases.{base}
 use Rattle.roll_up.specs.Levels.{extended, lift}
 use Rattle.roll_up.specs.Reading.{level_of}
@@ -316,6 +316,7 @@ levels_behind schema levels (says.Sql text) = levels
 levels_behind schema levels (says.Rollup text) = levels
 levels_behind schema levels says.Status = levels
 levels_behind schema levels says.Upgrade = levels
+levels_behind schema levels says.Audit = levels
 levels_behind schema levels says.LongLine = levels
 levels_behind schema levels says.OpenBlock = levels
 levels_behind schema levels says.Unknown = levels
@@ -382,6 +383,7 @@ asked_by schema levels (says.Explain text) = None
 asked_by schema levels (says.Sql text) = queried schema (query_of schema text)
 asked_by schema levels says.Status = None
 asked_by schema levels says.Upgrade = None
+asked_by schema levels says.Audit = None
 asked_by schema levels says.LongLine = None
 asked_by schema levels says.OpenBlock = None
 asked_by schema levels says.Unknown = None
@@ -403,6 +405,13 @@ status_over (Some warehouse) (Some batch) = pending_text (length warehouse.facts
 abbrev pub status_text : World → List ℕ
 status_text world = status_over world.kept world.pending
 
+-- ---- audit
+
+-- files that keep facts keep all rules
+abbrev pub audit_over : Kept → List ℕ
+audit_over None = line unopened
+audit_over (Some warehouse) = line audited_text
+
 -- ---- all commands
 
 -- what is known behind a command, and the reply
@@ -422,6 +431,7 @@ act world (says.Level name attr block) = level world name attr block
 act world (says.Rollup text) = rollup world text
 act world says.Status = (world, status_text world)
 act world says.Upgrade = upgrade world
+act world says.Audit = (world, audit_over world.kept)
 act world says.LongLine = replies_with world long_line
 act world says.OpenBlock = replies_with world open_block
 act world says.Unknown = replies_with world is_unknown

@@ -96,6 +96,10 @@ abandoned_text = codes "abandoned"
 abbrev pub upgraded_text : List ℕ
 upgraded_text = codes "upgraded"
 
+-- the files keep all rules
+abbrev pub audited_text : List ℕ
+audited_text = codes "audit yes"
+
 -- ---- what names a number, a name or rows
 
 -- the batch is accepted, and there are so many facts now
@@ -117,6 +121,10 @@ facts_text count = numbered (codes "facts ") count
 -- there are so many facts, and so many are pending
 abbrev pub pending_text : ℕ → ℕ → List ℕ
 pending_text count pending = codes "facts " ++ decimal count ++ numbered (codes " pending ") pending
+
+-- the first rule that files break is broken in this file, at this offset
+abbrev pub broken_text : ℕ → ℕ → List ℕ
+broken_text file offset = codes "audit no " ++ decimal file ++ numbered (codes " ") offset
 
 -- the refusal of a schema; want of memory is none, and has no text
 abbrev pub schema_text : SchemaRefusal → List ℕ

@@ -5,7 +5,7 @@ mod line;
 mod refusal;
 mod rows;
 
-pub use line::{already, committed, facts, leveled, pending, picked, plain};
+pub use line::{already, broken, committed, facts, leveled, pending, picked, plain};
 pub use refusal::{
     refused_batch, refused_gap, refused_level, refused_mass, refused_names, refused_query,
     refused_schema, refused_slice,

@@ -1,6 +1,6 @@
 //! Replies of one line.
 ghost use Rattle.std.specs.Prelude.{◌≡◌, IfOk};
-ghost use Rattle.reply_text.specs.Replies.{line, numbered, committed_text, already_text, facts_text, leveled_text, pending_text, choice_text, run_text};
+ghost use Rattle.reply_text.specs.Replies.{line, numbered, broken_text, committed_text, already_text, facts_text, leveled_text, pending_text, choice_text, run_text};
 
 use fact_model::Memory;
 use replica_route::Choice;
@@ -46,6 +46,13 @@ pub fn pending(alloc: Global, count: u64, pending: u64) -> Result<Vec<u8>, Memor
     ensures { IfOk result (λ reply. reply.items ≡ pending_text count pending) }
 {
     Ok(format!(in alloc; "facts {count} pending {pending}\n")?.into_bytes())
+}
+
+/// Where files break the first rule that they break: the number of the file, and the offset in bytes.
+pub fn broken(alloc: Global, file: u32, offset: u64) -> Result<Vec<u8>, Memory>
+    ensures { IfOk result (λ reply. reply.items ≡ broken_text file offset) }
+{
+    Ok(format!(in alloc; "audit no {file} {offset}\n")?.into_bytes())
 }
 
 /// The view that a slice is answered from, counted from 1, and how its points lie there.

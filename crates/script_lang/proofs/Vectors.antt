@@ -1,15 +1,15 @@
 -- Worked examples: the numbers and texts of commands, and the bytes of blocks.
 use Rattle.std.specs.Prelude.{◌≡◌, [], ◌∷◌, ◌++◌, codes, refl}
 use Rattle.script_lang.specs.declared.command.Block.TheVariants.{Whole}
-use Rattle.script_lang.specs.declared.command.Command.TheVariants.{Schema, Load, LoadNumbered, Begin, Step, Slice, Generate, Level, Rollup, Upgrade, Unknown}
+use Rattle.script_lang.specs.declared.command.Command.TheVariants.{Schema, Load, LoadNumbered, Begin, Step, Slice, Generate, Level, Rollup, Upgrade, Audit, Unknown}
 use Rattle.script_lang.specs.Script.{commands}
 
 numbers : commands (codes "step 0\nstep 007\r\nstep 18446744073709551615\ngenerate 1 262145\ngenerate 0 0\n")
     ≡ Step 0 ∷ Step 7 ∷ Step 18446744073709551615 ∷ Generate 1 262145 ∷ Generate 0 0 ∷ []
 numbers = refl
 
--- the line `upgrade` has nothing else
-upgrades : commands (codes "upgrade\nupgrade\r\nupgrade \nupgrade 2\n") ≡ Upgrade ∷ Upgrade ∷ Unknown ∷ Unknown ∷ []
+-- the lines `upgrade` and `audit` have nothing else
+upgrades : commands (codes "upgrade\nupgrade\r\nupgrade \nupgrade 2\naudit\naudit\r\naudit \nAudit\n") ≡ Upgrade ∷ Upgrade ∷ Unknown ∷ Unknown ∷ Audit ∷ Audit ∷ Unknown ∷ Unknown ∷ []
 upgrades = refl
 
 -- a line loses one carriage return at its end

@@ -65,7 +65,8 @@ said_in line =
     (cond (is_text (codes "abandon") line) (Says says.Abandon)
     (cond (is_text (codes "status") line) (Says says.Status)
     (cond (is_text (codes "upgrade") line) (Says says.Upgrade)
-    (said_with line))))))))
+    (cond (is_text (codes "audit") line) (Says says.Audit)
+    (said_with line)))))))))
 
 -- what a line between two blocks says; more than 65,536 bytes are too long
 abbrev pub said_by : List ℕ → Said

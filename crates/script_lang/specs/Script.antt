@@ -97,6 +97,7 @@ KeepsLimit (says.Explain text) = Unit {0}
 KeepsLimit (says.Sql text) = Unit {0}
 KeepsLimit says.Status = Unit {0}
 KeepsLimit says.Upgrade = Unit {0}
+KeepsLimit says.Audit = Unit {0}
 KeepsLimit (says.Generate start rows) = Unit {0}
 KeepsLimit says.Unknown = Unit {0}
 KeepsLimit says.LongLine = Unit {0}

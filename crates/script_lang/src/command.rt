@@ -53,6 +53,8 @@ pub enum Command {
     Status,
     /// Make the pages anew in the greatest format.
     Upgrade,
+    /// Tell whether the files keep all rules, or where the first is broken.
+    Audit,
     /// Load a batch of so many rows that a generator makes.
     Generate {
         /// The state that the generator begins with.

@@ -80,6 +80,9 @@ fn said_in(alloc: Global, line: &[u8]) -> Result<Said, Memory>
     if is_text("upgrade", line) {
         return Ok(Said::Says(Command::Upgrade));
     }
+    if is_text("audit", line) {
+        return Ok(Said::Says(Command::Audit));
+    }
     said_with(alloc, line)
 }
 

@@ -4,6 +4,7 @@ use Rattle.cube_state.specs.Levels.{leveled_by}
 use Rattle.cube_state.specs.Slices.{explain_text}
 use Rattle.cube_state.specs.Visits.{store_of}
 use Rattle.cube_state.proofs.Known.{explain_says, level_says, long_line_says, only_answers, only_answers_with, open_block_says, status_says, unknown_says}
+use Rattle.cube_session.proofs.Audits.{audited}
 use Rattle.cube_session.proofs.machine.act.Goals as goal
 
 pub returns-in-Status-clause-carried : goal.returns-in-Status-clause-carried
@@ -79,6 +80,11 @@ returns-in-Finish-clause-carried g c = as_said c.in-Finish.is c.finish.ensures.c
 
 pub returns-in-Abandon-clause-carried : goal.returns-in-Abandon-clause-carried
 returns-in-Abandon-clause-carried g c = as_said c.in-Abandon.is (c.abandon.ensures.carried c.args.pages.now c.requires.ready)
+
+pub returns-in-Audit-clause-carried : goal.returns-in-Audit-clause-carried
+returns-in-Audit-clause-carried g c =
+    as_said c.in-Audit.is (audited g.T.Site c.args.held.now.state c.args.site.now c.audit.new.site c.args.pages.now c.requires.ready (λ t told files. g.met.T.Site.only_now c.args.site.now told files t)
+    c.audit.result c.audit.ensures)
 
 pub returns-in-Upgrade-clause-carried : goal.returns-in-Upgrade-clause-carried
 returns-in-Upgrade-clause-carried g c = as_said c.in-Upgrade.is c.upgrade.ensures.carried
