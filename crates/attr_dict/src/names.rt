@@ -89,6 +89,16 @@ impl Names {
         }
     }
 
+    /// Puts a text behind the names where it is none of them, and tells whether it was. It is hashed once.
+    pub(crate) fn enter(&mut self, text: Text) -> Result<bool, Memory>
+        ensures names { OnOk result (self.new ≡ admitted bytes_eq self.old (text ∷ [])) }
+        ensures fresh { IfOk result (λ fresh. fresh ≡ not (list_any (bytes_eq text) self.old)) }
+        ensures unchanged { OnErr result (self.new ≡ self.old) }
+    {
+        let (_, fresh) = self.set.insert_full(text)?;
+        Ok(fresh)
+    }
+
     /// Adds a new text, and gives its code.
     fn add(&mut self, alloc: Global, text: &Text) -> Result<u64, Memory>
         requires { list_any (bytes_eq text.now) self.old ≡ false }

@@ -70,7 +70,7 @@ fn enter(
                 return Ok(false);
             }
             let text = Text::from_bytes(alloc, bytes)?;
-            let (_, fresh) = names[attr].admit(alloc, &text)?;
+            let fresh = names[attr].enter(text)?;
             Ok(fresh)
         }
     }
