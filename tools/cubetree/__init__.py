@@ -20,6 +20,7 @@ warehouse.rollup("count by kind").
 What goes wrong is a Fault. Refused has the reply of the program and the place that it names. Busy says that another run is in the way of one that is not
 to wait. Ended has the status of a program that ended early, and Damaged the file and the offset as well.
 """
+from .audits import Audit
 from .dbapi import (
     NUMBER, STRING, Connection, Cursor, DatabaseError, DataError, Error, IntegrityError, InterfaceError, InternalError, NotSupportedError, OperationalError,
     ProgrammingError, Warning, apilevel, connect, paramstyle, threadsafety,
@@ -32,7 +33,7 @@ from .views import Choice
 from .warehouse import Status, Warehouse, open
 
 __all__ = [
-    "Answer", "Busy", "Choice", "Damaged", "Ended", "Fault", "Refused", "Schema", "Status", "Visits", "Warehouse", "open",
+    "Answer", "Audit", "Busy", "Choice", "Damaged", "Ended", "Fault", "Refused", "Schema", "Status", "Visits", "Warehouse", "open",
     "NUMBER", "STRING", "Connection", "Cursor", "DatabaseError", "DataError", "Error", "IntegrityError", "InterfaceError", "InternalError",
     "NotSupportedError", "OperationalError", "ProgrammingError", "Warning", "apilevel", "connect", "paramstyle", "threadsafety",
 ]

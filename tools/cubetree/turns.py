@@ -16,7 +16,7 @@ B   A writer holds B exclusively while its program works on the files: from befo
     or `load` is sent until the reply has been read, and from before `begin` is sent until the reply to `finish` or `abandon` has been read. A
     reader (ask, and any tool that only asks) holds B shared from before its program is started until that run has ended. So no commit falls
     within a reader's run. Writers wait for that run: a reader ends it before it waits for input, or for someone to take its output, and after
-    a second of answering.
+    a second of answering. An audit is one answer, as long as it takes.
 Q   The turnstile before B lets readers in between two batches, and lets no stream of readers keep a writer out. A reader takes Q shared, then B shared,
     then lets Q go; a writer takes Q exclusively, then B exclusively, then lets Q go. When a writer lets B go, every waiting reader holds Q, so
     the writer cannot have Q again before each of them has B. While a writer waits for B it holds Q, so no new reader gets in.

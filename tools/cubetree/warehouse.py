@@ -6,7 +6,8 @@ from contextlib import contextmanager, suppress
 from types import TracebackType
 from typing import Iterable, Iterator, List, NamedTuple, Optional, Sequence, Union, overload
 
-from .errors import Fault, Refused
+from .audits import Audit, audit_of
+from .errors import Damaged, Fault, Refused
 from .levels import Level, Pairs, level_in_file, level_of
 from .pages import Visits, visits
 from .queries import Query
@@ -138,6 +139,14 @@ class Warehouse:
             if session.schema and not reply.startswith("refused "):
                 return visits(self.folder, session.schema, _choice(reply, session.schema), question_of(text))
         raise Refused(reply)
+
+    def audit(self) -> Audit:
+        """Whether all pages are sound, or else the first place that breaks a rule. An audit does not see damage that leaves a lawful warehouse of other facts."""
+        try:
+            with self._question() as session:
+                return audit_of(session.ask(b"audit\n"))
+        except Damaged as damaged:
+            return Audit(True, damaged.file, damaged.offset)
 
     def status(self) -> Status:
         """How many facts there are."""

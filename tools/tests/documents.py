@@ -9,7 +9,7 @@ from cubetree.runs import TOP
 from tests.case import Case, TOOLS, run
 
 
-INSTALLED = ("ask", "load-csv", "refresh-slowly", "feed", "shards", "run-tour")
+INSTALLED = ("ask", "load-csv", "refresh-slowly", "feed", "audit", "shards", "run-tour")
 
 
 class Documents(Case):

@@ -1,6 +1,6 @@
 #!/usr/bin/env python3
-"""Stands in for a program that does not have the commands `level` and `rollup`: it answers these by their rules, from slices of the program $PROGRAM, which
-takes all other commands. It goes once the program has them."""
+"""Stands in for a program that does not have the commands `level`, `rollup` and `audit`: it answers the first two by their rules, from slices of the program
+$PROGRAM, and `audit` by the tools' own look at all pages. $PROGRAM takes all other commands. It goes once the program has these."""
 import contextlib
 import csv
 import io
@@ -14,6 +14,8 @@ from typing import Callable, Dict, List, Tuple
 sys.dont_write_bytecode = True
 sys.path.insert(0, os.path.dirname(os.path.dirname(os.path.realpath(__file__))))
 from cubetree.errors import Ended
+from cubetree.files import live_body
+from cubetree.looks import SideLook, opened
 from cubetree.questions import Question, question_of
 from cubetree.rows import line_writer
 from cubetree.runs import Run
@@ -36,6 +38,8 @@ class StandIn:
         word, _, rest = command.rstrip(b"\r\n").partition(b" ")
         if word == b"level":
             return self.level(rest.decode(), block())
+        if word == b"audit":
+            return "no schema" if self.run.ask(b"status\n") == "no schema" else audit()
         if word == b"rollup":
             return self.rollup(rest.decode("utf-8", "surrogateescape"))
         if word in (b"slice", b"sql"):
@@ -109,6 +113,18 @@ class StandIn:
             last = run.answer(b"slice " + text.encode("utf-8", "surrogateescape"))[1]
             run.close()
         return last if last.startswith("refused ") and last != "refused notcovered" else ""
+
+
+def audit() -> str:
+    """The first page that breaks a rule, or the first leaf of the first view that does."""
+    slot = live_body(".").slot
+    with opened(".", f"side{slot}") as file:
+        side = SideLook(".", file)
+        layout = side.layout
+        faulty = (page for page in range(layout.pages) if side.page_fault(layout.node_at(page)))
+        views = (layout.page_of(view, 0) if layout.points[view] else 0 for view in range(len(side.views)) if side.view_fault(view))
+        page = next(itertools.chain(faulty, views), None)
+    return "audit yes" if page is None else f"audit no {2 + slot} {4096 * page}"
 
 
 def block() -> bytes:
