@@ -1,32 +1,40 @@
 """What the files of a warehouse hold, read and written by docs/FORMATS.md alone, in both formats."""
 import collections, re
+from typing import Dict, Iterable, List, NamedTuple, Optional, Sequence, Tuple, Union
 
 PAGE = 4096
 GREATEST = {"facts": 1 << 40, "mass": (1 << 127) - 1, "names": 1 << 48, "number": (1 << 63) - 1, "coordinate": (1 << 64) - 1}
 NARROW, WIDE = 1, 2
+
+Point = Tuple[int, ...]
+Box = List[Tuple[int, int]]  # for each dimension the low and the high end
+Value = Union[bytes, int]
 
 
 class Damage(Exception):
     """Damage of a file at an offset, or of a page."""
 
 
-def number(data):
+def number(data: bytes) -> int:
     return int.from_bytes(data, "big")
 
 
-def signed(data):
+def signed(data: bytes) -> int:
     return int.from_bytes(data, "big", signed=True)
 
 
-def bytes_of(value, length):
+def bytes_of(value: int, length: int) -> bytes:
     return value.to_bytes(length, "big", signed=value < 0)
 
 
 class Schema:
     """The schema of a canonical text; ValueError where it is none."""
 
-    def __init__(self, text):
-        self.attributes, self.measures, self.views = [], [], []
+    def __init__(self, text: bytes) -> None:
+        # An attribute is its name, and its max, which is 0 for numbers. A view is the places of its attributes.
+        self.attributes: List[Tuple[bytes, int]] = []
+        self.measures: List[bytes] = []
+        self.views: List[List[int]] = []
         if not text.endswith(b"\n"):
             raise ValueError
         for line in text[:-1].split(b"\n"):
@@ -34,7 +42,7 @@ class Schema:
         if not (self.attributes and self.measures and self.views):
             raise ValueError
 
-    def take(self, line):
+    def take(self, line: bytes) -> None:
         named = re.fullmatch(rb"(?:attr ([a-z][a-z0-9_]{0,31}) (?:number|text max ([1-9][0-9]*))|measure ([a-z][a-z0-9_]{0,31}))", line)
         known = [name for name, _ in self.attributes] + self.measures
         if named:
@@ -50,7 +58,7 @@ class Schema:
         if len(self.attributes) > 16 or len(self.measures) > 4 or any(most >= 1 << 24 for _, most in self.attributes):
             raise ValueError
 
-    def take_view(self, line):
+    def take_view(self, line: bytes) -> None:
         if line != b"view" and not line.startswith(b"view "):
             raise ValueError
         names = [name for name, _ in self.attributes]
@@ -63,7 +71,7 @@ class Schema:
 class Body:
     """A body of the root file for a slot; ValueError where it does not decode."""
 
-    def __init__(self, data, slot):
+    def __init__(self, data: bytes, slot: int) -> None:
         self.slot, self.format, self.views, self.text = slot, number(data[8:10]), number(data[10:12]), number(data[12:16])
         self.generation, self.names, self.facts = (number(data[at : at + 8]) for at in (16, 24, 32))
         self.masses = [number(data[at : at + 16]) for at in range(40, 104, 16)]
@@ -78,28 +86,58 @@ class Body:
             raise ValueError
 
 
-Cell = collections.namedtuple("Cell", "count parts")
-Entry = collections.namedtuple("Entry", "at cell")
-READ = {}  # what was read of each page, since most are as they were
+Part = Tuple[int, int, int]  # the sum, the least and the greatest value
 
 
-def joined(one, other):
+class Cell(NamedTuple):
+    """How many facts a point has, and a part for each measure."""
+
+    facts: int
+    parts: Tuple[Part, ...]
+
+
+class Entry(NamedTuple):
+    at: Point
+    cell: Cell
+
+
+Entries = Dict[Point, Optional[Cell]]  # the points of a tree; None where cells do not join
+Held = Tuple[List[Entry], List[Tuple[Box, int]]]  # what a page has: points, or boxes with the pages below them
+READ: Dict[Tuple[int, int, int, int, bytes], Optional[Held]] = {}  # what was read of each page, since most are as they were
+
+
+def joined(one: Cell, other: Cell) -> Optional[Cell]:
     """The join of two cells, or None where they do not join."""
-    count = one.count + other.count
+    facts = one.facts + other.facts
     parts = tuple((p[0] + q[0], min(p[1], q[1]), max(p[2], q[2])) for p, q in zip(one.parts, other.parts))
-    fits = count < 1 << 64 and all(-(1 << 127) <= part[0] < 1 << 127 for part in parts)
-    return Cell(count, parts) if fits else None
+    fits = facts < 1 << 64 and all(-(1 << 127) <= part[0] < 1 << 127 for part in parts)
+    return Cell(facts, parts) if fits else None
 
 
-def order(point):
+def joined_at(entries: Entries, at: Point, cell: Optional[Cell]) -> Optional[Cell]:
+    """The cell of a point that comes to others."""
+    if at not in entries:
+        return cell
+    there = entries[at]
+    return joined(there, cell) if there and cell else None
+
+
+def order(point: Point) -> Point:
     """What points of a tree are ordered by: the last coordinate first, and unused ones are zero."""
     return tuple(reversed(point + (0,) * (8 - len(point))))
+
+
+class Node:
+    """A page of a tree as it should be: a leaf of these points, or an inner page over others."""
+
+    def __init__(self, arity: int, points: int, below: "Sequence[Node]") -> None:
+        self.arity, self.points, self.below, self.page = arity, points, below, 0
 
 
 class Tree:
     """A tree of some views in a format: where its pages stand, what is lawful in them, and how they are written."""
 
-    def __init__(self, views, counts, measures, first, form):
+    def __init__(self, views: Sequence[List[int]], counts: Sequence[int], measures: int, first: int, form: int) -> None:
         self.views, self.measures, self.first = views, measures, first
         self.counts = {len(view): count for view, count in zip(views, counts)}
         self.dims = max(map(len, views))
@@ -112,16 +150,16 @@ class Tree:
             level = -(-level // self.room)
             self.pages += level
 
-    def entry_size(self, arity):
+    def entry_size(self, arity: int) -> int:
         return self.width * arity + 8 + 48 * self.measures
 
-    def leaf_room(self, arity):
+    def leaf_room(self, arity: int) -> int:
         return (PAGE - 8) // self.entry_size(arity)
 
-    def coordinates(self, data, at, count):
+    def coordinates(self, data: bytes, at: int, count: int) -> Point:
         return tuple(number(data[i : i + self.width]) for i in range(at, at + self.width * count, self.width))
 
-    def leaf(self, data):
+    def leaf(self, data: bytes) -> Optional[List[Entry]]:
         """The entries of a lawful leaf, or None."""
         arity, count = data[1], number(data[2:4])
         size = self.entry_size(arity)
@@ -134,13 +172,13 @@ class Tree:
             numbers = [signed(data[i : i + 16]) for i in range(rest + 8, at + size, 16)]
             parts = tuple(zip(numbers[::3], numbers[1::3], numbers[2::3]))
             cell = Cell(number(data[rest : rest + 8]), parts)
-            if 0 in point or not cell.count or any(low > high for _, low, high in parts):
+            if 0 in point or not cell.facts or any(low > high for _, low, high in parts):
                 return None
             entries.append(Entry(point, cell))
         keys = [order(entry.at) for entry in entries]
         return entries if all(a < b for a, b in zip(keys, keys[1:])) else None
 
-    def inner(self, data, page):
+    def inner(self, data: bytes, page: int) -> Optional[List[Tuple[Box, int]]]:
         """The children of a lawful inner page, or None."""
         count, size = number(data[2:4]), self.child_size
         if data[1] != self.dims or not 1 <= count <= self.room or any(data[4:8]) or any(data[8 + size * count :]):
@@ -155,7 +193,7 @@ class Tree:
         numbers = [child for _, child in children] + [page]
         return children if all(a < b for a, b in zip(numbers, numbers[1:])) else None
 
-    def page(self, side, page):
+    def page(self, side: bytes, page: int) -> Optional[Held]:
         """The entries and the children of a page, or None where it is not lawful."""
         data = side[PAGE * page : PAGE * page + PAGE]
         key = self.dims, self.measures, self.width, page, data
@@ -163,7 +201,7 @@ class Tree:
             READ[key] = self.read_page(data, page)
         return READ[key]
 
-    def read_page(self, data, page):
+    def read_page(self, data: bytes, page: int) -> Optional[Held]:
         leaf, inner = self.kinds
         if data[0] == leaf:
             entries = self.leaf(data)
@@ -171,9 +209,10 @@ class Tree:
         children = self.inner(data, page) if data[0] == inner else None
         return None if children is None else ([], children)
 
-    def search(self, side, region):
+    def search(self, side: bytes, region: Box) -> List[Entry]:
         """The points of all pages that a search goes to. A page is damaged that is not sound, or one more than the tree has."""
-        found, ahead, seen = [], [self.first + self.pages - 1] if self.pages else [], 0
+        found: List[Entry] = []
+        ahead, seen = [self.first + self.pages - 1] if self.pages else [], 0
         while ahead:
             page = ahead.pop()
             held = self.page(side, page)
@@ -184,10 +223,12 @@ class Tree:
             ahead += reversed([child for box, child in held[1] if all(max(a, c) <= min(b, d) for (a, b), (c, d) in zip(box, region))])
         return found
 
-    def merged(self, side, delta):
+    def merged(self, side: bytes, delta: Entries) -> Entries:
         """The points of the tree with these ones joined. A page is damaged that is not lawful, does not come behind those before it, or has a cell that
         does not join; or the first one, where there are not as many points of each arity as are counted."""
-        entries, last, counts = {}, (), collections.Counter()
+        entries: Entries = {}
+        last: Point = ()
+        counts: "collections.Counter[int]" = collections.Counter()
         for page in range(self.first, self.first + self.pages):
             held = self.page(side, page)
             if held is None or (held[0] and order(held[0][0].at) <= last):
@@ -195,55 +236,82 @@ class Tree:
             for entry in held[0]:
                 last = order(entry.at)
                 counts[len(entry.at)] += 1
-                entries[entry.at] = joined(entry.cell, delta[entry.at]) if entry.at in delta else entry.cell
+                entries[entry.at] = joined_at(delta, entry.at, entry.cell)
                 if entries[entry.at] is None:
                     raise Damage(page)
         if any(counts[arity] != self.counts.get(arity, 0) for arity in range(9)):
             raise Damage(self.first)
         return {**delta, **entries}
 
+    # ---- which pages there are, by the numbers of points alone
+
+    def nodes(self) -> List[Node]:
+        """What each page of the tree is, in order."""
+        level: List[Node] = []
+        for arity in sorted(self.counts):
+            room, points = self.leaf_room(arity), self.counts[arity]
+            level += [Node(arity, min(room, points - before), []) for before in range(0, points, room)]
+        while len(level) > 1:
+            level = [Node(self.dims, 0, level[i : i + self.room]) for i in range(0, len(level), self.room)]
+        nodes: List[Node] = []
+        for top in level:
+            self.place(top, nodes)
+        return nodes
+
+    def place(self, node: Node, nodes: List[Node]) -> None:
+        """Puts the pages below a node and its own after others."""
+        for child in node.below:
+            self.place(child, nodes)
+        node.page = self.first + len(nodes)
+        nodes.append(node)
+
     # ---- how the pages are written, from whole lists
 
-    def packed(self, entries):
+    def packed(self, entries: Dict[Point, Cell]) -> bytes:
         """The bytes of all pages over these points, which are a cell for each."""
-        level = []
-        for arity in sorted(self.counts):
-            room, points = self.leaf_room(arity), sorted((at for at in entries if len(at) == arity), key=order)
-            level += [([Entry(at, entries[at]) for at in points[i : i + room]], []) for i in range(0, len(points), room)]
-        while len(level) > 1:
-            level = [([], level[i : i + self.room]) for i in range(0, len(level), self.room)]
-        pages = []
-        for top in level:
-            self.put(top, pages)
+        pages: List[bytes] = []
+        boxes: Dict[int, Box] = {}
+        left = {arity: iter(sorted((at for at in entries if len(at) == arity), key=order)) for arity in self.counts}
+        for node in self.nodes():
+            if node.below:
+                boxes[node.page] = around([boxes[child.page] for child in node.below])
+                pages.append(self.inner_bytes([(boxes[child.page], child.page) for child in node.below]))
+            else:
+                points = [next(left[node.arity]) for _ in range(node.points)]
+                boxes[node.page] = self.box(points)
+                pages.append(self.leaf_bytes(node.arity, [Entry(at, entries[at]) for at in points]))
         return b"".join(pages)
 
-    def put(self, node, pages):
-        """Puts the pages below a node and its own behind others, and gives its box and the number of its page."""
-        entries, below = node
-        leaf, inner = self.kinds
-        children = [self.put(child, pages) for child in below]
-        if entries:
-            points = [entry.at + (0,) * (self.dims - len(entry.at)) for entry in entries]
-            box = [(min(ends), max(ends)) for ends in zip(*points)]
-            head, rows = [leaf, len(entries[0].at)], [self.entry_bytes(entry) for entry in entries]
-        else:
-            box = [(min(low for low, _ in ends), max(high for _, high in ends)) for ends in zip(*(box for box, _ in children))]
-            head, rows = [inner, self.dims], [self.coded(*(end for ends in box for end in ends)) + bytes_of(page, 8) for box, page in children]
-        page = bytes(head) + bytes_of(len(rows), 2) + bytes(4) + b"".join(rows)
-        pages.append(page.ljust(PAGE, b"\0"))
-        return box, self.first + len(pages) - 1
+    def box(self, points: Sequence[Point]) -> Box:
+        """The least box of some points of one arity."""
+        return [(min(ends), max(ends)) for ends in zip(*(at + (0,) * (self.dims - len(at)) for at in points))]
 
-    def coded(self, *coordinates):
+    def leaf_bytes(self, arity: int, entries: Sequence[Entry]) -> bytes:
+        return self.page_bytes(self.kinds[0], arity, [self.entry_bytes(entry) for entry in entries])
+
+    def inner_bytes(self, children: Sequence[Tuple[Box, int]]) -> bytes:
+        return self.page_bytes(self.kinds[1], self.dims, [self.coded(end for ends in box for end in ends) + bytes_of(page, 8) for box, page in children])
+
+    def page_bytes(self, kind: int, arity: int, rows: Sequence[bytes]) -> bytes:
+        return (bytes([kind, arity]) + bytes_of(len(rows), 2) + bytes(4) + b"".join(rows)).ljust(PAGE, b"\0")
+
+    def coded(self, coordinates: Iterable[int]) -> bytes:
         return b"".join(bytes_of(each, self.width) for each in coordinates)
 
-    def entry_bytes(self, entry):
+    def entry_bytes(self, entry: Entry) -> bytes:
         numbers = [each for part in entry.cell.parts for each in part]
-        return self.coded(*entry.at) + bytes_of(entry.cell.count, 8) + b"".join(bytes_of(each, 16) for each in numbers)
+        return self.coded(entry.at) + bytes_of(entry.cell.facts, 8) + b"".join(bytes_of(each, 16) for each in numbers)
 
 
-def trees_of(schema, points, form):
-    """The trees of a schema whose views have so many points: a view stands in that whose number is the count of views of its arity before it."""
-    trees, first = [], 0
+def around(boxes: Sequence[Box]) -> Box:
+    """The least box of some boxes."""
+    return [(min(low for low, _ in ends), max(high for _, high in ends)) for ends in zip(*boxes)]
+
+
+def trees_of(schema: Schema, points: Sequence[int], form: int) -> List[Tree]:
+    """The trees of a schema whose views have this many points each: a view stands in that whose number is the count of views of its arity before it."""
+    trees: List[Tree] = []
+    first = 0
     numbers = [number_of(schema, view) for view in range(len(schema.views))]
     for tree in range(max(numbers) + 1):
         own = [view for view, at in enumerate(numbers) if at == tree]
@@ -252,32 +320,82 @@ def trees_of(schema, points, form):
     return trees
 
 
-def number_of(schema, view):
+def number_of(schema: Schema, view: int) -> int:
     return sum(len(other) == len(schema.views[view]) for other in schema.views[:view])
 
 
-def added(schema, names, rows, trees):
+# ---- how files are opened
+
+
+class Opened:
+    """What files hold that are opened: the live body, the schema, the names of each attribute and the trees. Damage names the place of the first rule that
+    is broken."""
+
+    def __init__(self, files: Sequence[bytes], body: Body) -> None:
+        names, self.body, self.side = files[1], body, 2 + body.slot
+        if len(names) < body.names:
+            raise Damage(1, len(names))
+        try:
+            self.schema = Schema(names[: body.text])
+        except ValueError:
+            raise Damage(1, 0) from None
+        if body.views != len(self.schema.views) or any(body.masses[len(self.schema.measures) :]):
+            raise Damage(0, 1024 * body.slot)
+        self.read_names(names)
+        self.points = body.points[: body.views]
+        self.trees = trees_of(self.schema, self.points, body.format)
+        if len(files[self.side]) < PAGE * sum(tree.pages for tree in self.trees):
+            raise Damage(self.side, len(files[self.side]))
+
+    def read_names(self, names: bytes) -> None:
+        self.names: List[Dict[bytes, int]] = [{} for _ in self.schema.attributes]  # each with its place
+        at = self.body.text
+        while at < self.body.names:
+            end = at + 2 + (names[at + 1] if at + 1 < self.body.names else 0)
+            attribute, text = names[at], names[at + 2 : end]
+            most = self.schema.attributes[attribute][1] if attribute < len(self.names) else 0
+            if at + 2 > self.body.names or end > self.body.names or most == 0 or text in self.names[attribute] or len(self.names[attribute]) == most:
+                raise Damage(1, at)
+            self.names[attribute][text] = len(self.names[attribute])
+            at = end
+
+
+def opened(files: Sequence[bytes]) -> Optional[Opened]:
+    """What is opened, or None where no schema is declared."""
+    root, bodies = files[0], []
+    for slot in (0, 1):
+        if len(root) > 2048 + slot and root[2048 + slot] == 1 and root[1024 * slot :][:8] == b"CUBETREE":
+            try:
+                bodies.append(Body(root[1024 * slot : 1024 * slot + 1024], slot))
+            except ValueError:
+                raise Damage(0, 1024 * slot) from None
+    return Opened(files, max(bodies, key=lambda body: body.generation)) if bodies else None
+
+
+# ---- warehouses that are made here
+
+
+def added(schema: Schema, names: Sequence[Sequence[bytes]], rows: Sequence[Sequence[Value]], trees: Sequence[Tree]) -> List[Entries]:
     """The points of rows for each tree: a cell for each. The names are those of each attribute, in the order in which they came."""
     deltas = []
     for tree in trees:
-        delta = {}
+        delta: Entries = {}
         for view in tree.views:
             for row in rows:
                 point = tuple(code_of(names[a], row[a]) for a in view)
-                cell = Cell(1, tuple((measure,) * 3 for measure in row[len(schema.attributes) :]))
-                delta[point] = joined(delta[point], cell) if point in delta else cell
+                delta[point] = joined_at(delta, point, Cell(1, tuple((measure,) * 3 for measure in map(int, row[len(schema.attributes) :]))))
         deltas.append(delta)
     return deltas
 
 
-def code_of(names, value):
+def code_of(names: Sequence[bytes], value: Value) -> int:
     return names.index(value) + 1 if isinstance(value, bytes) else value + 1
 
 
-def made(text, rows, generation, form):
+def made(text: bytes, rows: Sequence[Sequence[Value]], generation: int, form: int) -> List[bytes]:
     """The files of a warehouse with these accepted rows, whose live body has this generation and format. The other slot has none."""
-    schema, names, entries = Schema(text), [], b""
-    names = [[] for _ in schema.attributes]
+    schema, entries = Schema(text), b""
+    names: List[List[bytes]] = [[] for _ in schema.attributes]
     for row in rows:
         for a, value in enumerate(row[: len(names)]):
             if isinstance(value, bytes) and value not in names[a]:
@@ -285,8 +403,9 @@ def made(text, rows, generation, form):
                 entries += bytes([a, len(value)]) + value
     deltas = added(schema, names, rows, trees_of(schema, [0] * len(schema.views), form))
     points = [sum(len(at) == len(view) for at in deltas[number_of(schema, v)]) for v, view in enumerate(schema.views)]
-    masses = [sum(abs(row[len(names) + m]) for row in rows) for m in range(len(schema.measures))]
-    slot, side = generation % 2, b"".join(tree.packed(delta) for tree, delta in zip(trees_of(schema, points, form), deltas))
+    masses = [sum(abs(int(row[len(names) + m])) for row in rows) for m in range(len(schema.measures))]
+    whole = [{at: cell for at, cell in delta.items() if cell} for delta in deltas]
+    slot, side = generation % 2, b"".join(tree.packed(delta) for tree, delta in zip(trees_of(schema, points, form), whole))
     body = b"CUBETREE" + bytes_of(form, 2) + bytes_of(len(points), 2) + bytes_of(len(text), 4)
     body += b"".join(bytes_of(each, 8) for each in (generation, len(text) + len(entries), len(rows)))
     body += b"".join(bytes_of(each, 16) for each in masses).ljust(64, b"\0") + b"".join(bytes_of(each, 8) for each in points)
