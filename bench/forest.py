@@ -1,5 +1,5 @@
 """What the files of a warehouse hold, read and written by docs/FORMATS.md alone, in both formats."""
-import collections, re
+import collections, re, struct
 from typing import Dict, Iterable, List, NamedTuple, Optional, Sequence, Tuple, Union
 
 PAGE = 4096
@@ -157,7 +157,7 @@ class Tree:
         return (PAGE - 8) // self.entry_size(arity)
 
     def coordinates(self, data: bytes, at: int, count: int) -> Point:
-        return tuple(number(data[i : i + self.width]) for i in range(at, at + self.width * count, self.width))
+        return struct.unpack_from(f">{count}{'I' if self.width == 4 else 'Q'}", data, at)
 
     def leaf(self, data: bytes) -> Optional[List[Entry]]:
         """The entries of a lawful leaf, or None."""
