@@ -9,7 +9,7 @@ from .errors import FILES
 from .files import BODY, kept_names, live_body, number
 from .forest import NARROW, PAGE
 from .nodes import Layout, Leaf, Node
-from .schema import Schema, kept_schema
+from .schema import Schema
 from .words import counted
 
 Point = Tuple[int, ...]
@@ -64,10 +64,16 @@ def body_fault(body: bytes, slot: int) -> str:
 
 def schema_fault(folder: str, body: bytes) -> str:
     """Where a body that decodes differs from the schema."""
-    schema, views = kept_schema(folder), number(body[10:12])
+    schema, views = schema_of(folder, number(body[12:16])), number(body[10:12])
     if views != len(schema.views):
         return f"it counts {counted(views, 'view')}; the schema has {len(schema.views)}"
     return "a measure that the schema does not have has a mass" if any(body[40 + 16 * len(schema.measures) : 104]) else ""
+
+
+def schema_of(folder: str, size: int) -> Schema:
+    """The schema whose canonical text is this long."""
+    with opened(folder, "names") as file:
+        return Schema(file.read(size).decode("ascii", "replace").split("\n"))
 
 
 def look_at_names(folder: str, offset: int) -> Found:
@@ -79,7 +85,7 @@ def look_at_names(folder: str, offset: int) -> Found:
         return Found("the names file", f"it has {len(text):,} bytes; {body.names:,} count")
     if offset < max(body.text, 1):
         return Found("the schema in the names file", "" if offset else "it is not the canonical text of a schema")
-    schema, place, seen = kept_schema(folder), body.text, []
+    schema, place, seen = schema_of(folder, body.text), body.text, []
     while place < offset:
         seen.append((text[place], text[place + 2 : place + 2 + text[place + 1]]))
         place += 2 + len(seen[-1][1])
@@ -106,7 +112,8 @@ class SideLook:
     """The live side of a folder whose root and names are lawful."""
 
     def __init__(self, folder: str, side: BinaryIO) -> None:
-        self.schema, self.body, self.side = kept_schema(folder), live_body(folder), side
+        self.body, self.side = live_body(folder), side
+        self.schema = schema_of(folder, self.body.text)
         self.layout = Layout(self.schema, self.body)
         self.coordinate, self.is_narrow = "I" if self.layout.width == NARROW else "Q", self.layout.width == NARROW
         self.views = [view.split(",") if view else [] for view in self.schema.views]

@@ -126,6 +126,7 @@ class Audits(Case):
             ("root", 1024 + 8, b"\x00\x03", body, "its format is 3; there are 1 and 2"),
             ("root", 1024 + 10, b"\x00\x21", body, "it counts 33 views; there are 1 to 32"),
             ("root", 1024 + 10, b"\x00\x04", body, "it counts 4 views; the schema has 3"),
+            ("root", 1024 + 15, b"\x51", body, "it counts 3 views; the schema has 2"),
             ("root", 1024 + 23, b"\x02", body, "its generation is one of the other slot"),
             ("root", 1024 + 104, b"\x01", body, "a view has more points than there are facts"),
             ("root", 1024 + 104 + 24, bytes(7) + b"\x01", body, "a view that the schema does not have has points"),
