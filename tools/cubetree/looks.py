@@ -265,11 +265,12 @@ class SideLook:
         facts = sum(cell[0] for cell in held.values())
         if facts != self.body.facts:
             return f"its points have {counted(facts, 'fact')}; there are {self.body.facts:,}"
-        for finer, names in enumerate(self.views):
-            if finer != view and set(self.views[view]) <= set(names):
-                rolled = self.rolled_up(finer, [names.index(name) for name in self.views[view]])
-                if rolled != held:
-                    return f"its points are not those of the view {self.called(finer)}, grouped by its attributes: {self.first_difference(view, held, rolled)}"
+        finer = [other for other, names in enumerate(self.views) if other != view and set(self.views[view]) <= set(names)]
+        # Most damage shows in the smallest one already.
+        for other in sorted(finer, key=lambda other: self.body.points[other]):
+            rolled = self.rolled_up(other, [self.views[other].index(name) for name in self.views[view]])
+            if rolled != held:
+                return f"its points are not those of the view {self.called(other)}, grouped by its attributes: {self.first_difference(view, held, rolled)}"
         return ""
 
     def rolled_up(self, finer: int, places: Sequence[int]) -> "Dict[Point, Cell]":

@@ -78,7 +78,7 @@ class Audits(Case):
         inner = "page 3 of 4, an inner page over 3 leaves of the views (), (year), (part,year)"
         for offset, new, page, place, rule in [
             (0x0F, b"\x04", 0, "page 0 of 4, leaf 1 of 1 of the view ()", "its points have 4 facts; there are 3"),
-            (0x1F, b"\x08", 0, "page 0 of 4, leaf 1 of 1 of the view ()", "its points are not those of the view (part,year), grouped by its attributes: "
+            (0x1F, b"\x08", 0, "page 0 of 4, leaf 1 of 1 of the view ()", "its points are not those of the view (year), grouped by its attributes: "
              "at its one point it has 3 facts with qty 8 from -2 to 5 instead of 3 facts with qty 7 from -2 to 5"),
             (0x1000 + 8 + 4 + 8 + 15, b"\x04", 1, one, "its points are not those of the view (part,year), grouped by its attributes: "
              "at year=1997 it has 2 facts with qty 4 from -2 to 5 instead of 2 facts with qty 3 from -2 to 5"),
