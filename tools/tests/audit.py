@@ -1,11 +1,10 @@
-"""Tests of audit. Where the program does not have the command `audit`, tests/stand_in.py stands in for it."""
+"""Tests of audit."""
 import contextlib
 import os
 import random
 import re
 import shutil
 import subprocess
-from unittest import mock
 
 import cubetree
 from cubetree.files import live_body
@@ -23,14 +22,6 @@ MANY = ["attr part text", "attr year number", "attr shop text", "measure qty", "
 
 
 class Audits(Case):
-    def setUp(self) -> None:
-        super().setUp()
-        if run(program(), given=b"audit\n", cwd="w")[0] == "refused unknown\n":
-            stand_in = os.path.join(os.path.dirname(os.path.realpath(__file__)), "stand_in.py")
-            patched = mock.patch.dict(os.environ, {"PROGRAM": program(), "CUBETREE": stand_in})
-            patched.start()
-            self.addCleanup(patched.stop)
-
     def load(self, *batches: "list[tuple[cubetree.rows.Value, ...]]", schema: str = SCHEMA) -> None:
         """Begins the folder anew with these batches."""
         shutil.rmtree("w")

@@ -40,7 +40,7 @@ class Documents(Case):
     @unittest.skipUnless(shutil.which("mypy"), "no mypy")
     def test_types(self):
         words = ["mypy", "--strict", "--python-version", "3.9", "--cache-dir", os.path.join(self.room, "cache")]
-        for script in ("cubetree", *INSTALLED, "make-man", "test_cubetree.py", "tests/stand_in.py"):
+        for script in ("cubetree", *INSTALLED, "make-man", "test_cubetree.py"):
             run(*words, script, cwd=TOOLS, env=dict(os.environ, MYPYPATH=TOOLS))
 
     def test_tour(self):

@@ -1,4 +1,4 @@
-"""Tests of levels, in the Python package and in ask. Where the program does not have the commands `level` and `rollup`, tests/stand_in.py stands in for it."""
+"""Tests of levels, in the Python package and in ask."""
 import json
 import os
 import subprocess
@@ -9,7 +9,7 @@ import cubetree
 from cubetree import sessions
 from cubetree.runs import program
 from test_cubetree import SCHEMA
-from tests.case import Case, ask, run
+from tests.case import Case, ask
 
 FACTS = [("bolt", 1997, 5), ("nut", 1997, -2), ("bolt", 1998, 4)]
 STEEL = {"bolt": "steel", "nut": "steel"}
@@ -18,11 +18,6 @@ STEEL = {"bolt": "steel", "nut": "steel"}
 class Levels(Case):
     def setUp(self) -> None:
         super().setUp()
-        if run(program(), given=b"rollup x\n", cwd="w")[0] == "refused unknown\n":
-            stand_in = os.path.join(os.path.dirname(os.path.realpath(__file__)), "stand_in.py")
-            patched = mock.patch.dict(os.environ, {"PROGRAM": program(), "CUBETREE": stand_in})
-            patched.start()
-            self.addCleanup(patched.stop)
         with cubetree.open("w") as warehouse:
             warehouse.declare(SCHEMA)
             warehouse.load(FACTS)
@@ -145,7 +140,7 @@ class Levels(Case):
 
     def test_older_program(self) -> None:
         """A program that knows no levels is not told one: its rows would be commands."""
-        self.put("older", f"#!/bin/sh\nsed -u 's/^rollup /other /; s/^level /other /' | {os.environ.get('PROGRAM') or program()}\n")
+        self.put("older", f"#!/bin/sh\nsed -u 's/^rollup /other /; s/^level /other /' | {program()}\n")
         os.chmod("older", 0o755)
         with mock.patch.dict(os.environ, CUBETREE=os.path.abspath("older")):
             warehouse = self.opened()
