@@ -1,7 +1,9 @@
 pub mod Adding
 pub mod FactRows
 pub mod Faults
+pub mod Foldings
 pub mod Numerals
+pub mod Orders
 pub mod Reading
 pub mod RepliesAgain
 pub mod RowsAgain

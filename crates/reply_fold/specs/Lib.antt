@@ -1,6 +1,8 @@
 pub mod Answers
+pub mod Folding
 pub mod Input
 pub mod Laws
+pub mod Order
 pub mod Replies
 pub mod Rows
 pub mod Taking

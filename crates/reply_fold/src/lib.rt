@@ -4,9 +4,11 @@
 
 mod fault;
 mod fields;
+mod folding;
 mod input;
 mod joining;
 mod laws;
+mod order;
 mod pulling;
 mod records;
 mod replies;

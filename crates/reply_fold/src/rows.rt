@@ -43,7 +43,7 @@ fn read_values(
     requires { length group.now ≤ length (fields_of fields.now) }
     ensures { Answers result (values_in schema.now group.now number (fields_of fields.now)) }
 {
-    let mut values = ListOf::new(alloc);
+    let mut values = ListOf::from_vec(Vec::with_capacity(alloc, group.len())?);
     for (i, attr) in group.iter().enumerate() {
         let value = read_value(alloc, schema.kind_at(*attr), number, field(fields, i))?;
         values.push(value)?;
@@ -73,7 +73,8 @@ fn read_numbers(
 ) -> Result<NumberList, Fault>
     ensures { Answers result (numbers_in values number (fields_of fields.now)) }
 {
-    let mut numbers = ListOf::new(alloc);
+    let count = fields.len().saturating_sub(values);
+    let mut numbers = ListOf::from_vec(Vec::with_capacity(alloc, count)?);
     for i in values..fields.len() {
         let value = number_at(number, field(fields, i))?;
         numbers.push(value)?;

@@ -12,14 +12,13 @@ ghost use Rattle.reply_fold.specs.Whole.{AreWide, HasParts, IsFold, IsJoined, as
 
 use crate::fault::Fault;
 use crate::input::{END, is_whole, place_of_end};
-use crate::joining::joined_rows;
+use crate::joining::joined_text;
 use crate::records::{first_refusal, read_rows, share_refusal};
 use crate::replies::Replies;
 use crate::text::refusal_text;
 use cube_schema::{Schema, SchemaRefusal};
 use fact_model::bytes::{after, cut_at, front};
 use fact_model::{Memory, Rows, Slice, Text};
-use reply_text::answered;
 use slice_lang::{SliceRefusal, read_slice};
 use std::alloc::Global;
 
@@ -133,6 +132,6 @@ fn join_rows(alloc: Global, slice: &Slice, rows: &Rows) -> Result<Text, Fault>
     if !rows.adds() {
         return Err(Fault::Sum);
     }
-    let joined = joined_rows(alloc, slice.columns.as_slice(), rows.as_slice())?;
-    Ok(Text::from_vec(answered(alloc, &joined)?))
+    let text = joined_text(alloc, slice.columns.as_slice(), rows.as_slice())?;
+    Ok(Text::from_vec(text))
 }

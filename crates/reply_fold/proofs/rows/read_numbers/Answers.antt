@@ -14,7 +14,7 @@ returns-in_err-value c =
     let fields = fields_of c.args.fields.now in
     let from = c.loop-i.invariant.from in
     let low : i < length fields = omega (arith, c.loop-i-test.true, c.len-i-end.ensures) in
-    handed c.from_residual.result c.in_err-value.field-0.0 _ c.from_residual.ensures.1
+    handed c.from_residual-in_err-value.result c.in_err-value.field-0.0 _ c.from_residual-in_err-value.ensures.1
     (λ other. first-fault (number_at c.args.number) (drop values fields) (i - values) c.field.result.now (as_far values fields i from low) (behind values fields i _ [] from low c.field.ensures)
     c.loop-i.numbers c.loop-i.invariant.taken c.in_err-value.field-0.0 (sym c.in_err-value.ensures))
 

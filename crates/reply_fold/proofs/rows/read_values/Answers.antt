@@ -15,7 +15,7 @@ returns-in_err-value c =
     let group = c.args.group.now in
     let fields = fields_of c.args.fields.now in
     let s = c.args.schema.now in
-    handed c.from_residual.result c.in_err-value.field-0.0 _ c.from_residual.ensures.1
+    handed c.from_residual-in_err-value.result c.in_err-value.field-0.0 _ c.from_residual-in_err-value.ensures.1
     (λ other. first-fault (λ (p : ℕ × List ℕ). value_in (kind_at s p.0) c.args.number p.1) (zip group fields) i (get_or group i 0, c.field.result.now)
     (both group fields i c.loop-i-test.true c.requires) (zipped group fields i _ _ [] c.loop-i-test.true (omega (arith, c.loop-i-test.true, c.requires)) (sym (get_or_default group i (get_or group i 0) 0 c.loop-i-test.true)) c.field.ensures)
     c.loop-i.values c.loop-i.invariant c.in_err-value.field-0.0 (same-answer c.args.number c.field.result.now c.kind_at.ensures (c.in_err-value.ensures other)))

@@ -1,7 +1,0 @@
-use Rattle.std.proofs.Common.{◌≡◌, map, take}
-use Rattle.row_fold.specs.Lent.{value_of}
-use Rattle.reply_fold.proofs.joining.lend.Given as goal
-
--- the values passed
-abbrev pub invariant-loop-value : goal.invariant-loop-value
-invariant-loop-value l = map value_of l.key.items ≡ take l.value-index l.values
