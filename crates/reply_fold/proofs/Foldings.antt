@@ -1,5 +1,5 @@
 -- One row more in the order of keys, folded and written.
-use Rattle.std.proofs.Common.{◌≡◌, ℕ, ◌+◌, ◌≤◌, true, false, List, [], ◌∷◌, ◌++◌, map, length, ℤ, refl, sym, ◌∙◌, ap, append-nil, append_assoc, arith, length-append}
+use Rattle.std.proofs.Common.{◌≡◌, ℕ, ◌+◌, true, false, List, [], ◌∷◌, ◌++◌, map, length, ℤ, sym, ◌∙◌, ap, append-nil, append_assoc, arith, length-append}
 use Rattle.std.specs.Ordering.{is_eq}
 use Rattle.std.proofs.lemmas.List.{length-map}
 use Rattle.csv.specs.Writing.{default_writer, row_text}

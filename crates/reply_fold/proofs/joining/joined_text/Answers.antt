@@ -10,8 +10,8 @@ use Rattle.fact_model.specs.Fact.{mass_limit}
 use Rattle.reply_text.specs.Replies.{answer_text}
 use Rattle.row_fold.specs.Joins.{size_at}
 use Rattle.reply_fold.specs.Folding.{Makes}
-use Rattle.reply_fold.specs.Order.{picked, row_at}
-use Rattle.reply_fold.specs.Whole.{IsWide, joined}
+use Rattle.reply_fold.specs.Order.{picked}
+use Rattle.reply_fold.specs.Whole.{joined}
 use Rattle.reply_fold.proofs.Orders.{entries, first-light, first-makes, first-wide, next-makes, next-room, next-weight, next-wide, none-told, rest-wide, told-also, weight_at}
 use Rattle.reply_fold.proofs.joining.joined_text.Goals as goal
 

@@ -1,6 +1,5 @@
 use Rattle.std.proofs.Common.{◌≡◌, ◌++◌, ◌+◌, ◌≤◌, List, ℤ, true, false, refl, sym, ap, ◌∙◌, arith, subst}
 use Rattle.std.specs.Ordering.{is_eq}
-use Rattle.std.specs.Vec.{with_items}
 use Rattle.fact_model.specs.Value.{key_cmp}
 use Rattle.row_fold.specs.Joins.{join_numbers, size_at}
 use Rattle.row_fold.proofs.NumberJoins.{numbers-size}
