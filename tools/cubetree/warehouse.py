@@ -141,7 +141,7 @@ class Warehouse:
         raise Refused(reply)
 
     def audit(self) -> Audit:
-        """Whether all pages are sound, or else the first place that breaks a rule. An audit does not see damage that leaves a lawful warehouse of other facts."""
+        """Whether all pages are sound, or else the first place that breaks a rule. An audit does not see damage after which all rules hold."""
         try:
             with self._question() as session:
                 return audit_of(session.ask(b"audit\n"))

@@ -15,7 +15,7 @@ from test_cubetree import SCHEMA
 from tests.case import Case, TOOLS, run
 
 FACTS = [("bolt", 1997, 5), ("nut", 1997, -2), ("bolt", 1998, 4)]
-BLIND = "An audit does not see damage that leaves a lawful warehouse of other facts.\n"
+BLIND = "An audit does not see damage after which all rules hold.\n"
 STATE_A = "w is sound: 3 facts in 6 points of 3 views, on 4 pages of side1\n" + BLIND
 MANY = ["attr part text", "attr year number", "attr shop text", "measure qty", "measure cost", "view part,year", "view", "view year,part", "view shop", "view part,shop", "view year",
         "view shop,year,part"]
