@@ -1,4 +1,5 @@
 pub mod Between
+pub mod Bound
 pub mod Boxes
 pub mod Downward
 pub mod Kept

@@ -1,6 +1,6 @@
 //! Whether a leaf lies whole in the region, by its first and its last point.
 
-ghost use Rattle.std.specs.Prelude.{◌≡◌, ◌≢◌, ◌↔◌, ◌<◌, ◌≤◌, ℕ, IsTrue, filter, length, slice_index};
+ghost use Rattle.std.specs.Prelude.{◌≡◌, ◌≢◌, ◌↔◌, ◌<◌, ◌≤◌, ◌+◌, ℕ, IsTrue, filter, length, slice_index};
 ghost use Rattle.page_fmt.specs.Lawful.{HasEntries, IsCoordinate};
 ghost use Rattle.page_fmt.specs.Taking.{entries, page_count};
 ghost use Rattle.page_fmt.specs.Writing.{AreEntries};
@@ -56,13 +56,23 @@ fn is_open_before(region: &Region, wide: bool, dimension: usize) -> bool
     requires { dimension ≤ 8 }
     ensures { IsTrue result ↔ IsOpenBefore wide dimension region.now }
 {
+    first_bound(region, wide, dimension) == dimension
+}
+
+/// The first of so many dimensions in which the region does not hold every used coordinate of a page; their number where there is none.
+pub(crate) fn first_bound(region: &Region, wide: bool, dimensions: usize) -> usize
+    requires { dimensions ≤ 8 }
+    ensures few { result ≤ dimensions }
+    ensures before { IsOpenBefore wide result region.now }
+    ensures bound { result < dimensions → IsOpenBefore wide (result + 1) region.now → ⊥ }
+{
     let most = greatest_coordinate(wide);
-    for i in 0..dimension {
+    for i in 0..dimensions {
         if region.bounds.low[i] > 1 || region.bounds.high[i] < most {
-            return false;
+            return i;
         }
     }
-    true
+    dimensions
 }
 
 /// The greatest coordinate that a page of this width holds.

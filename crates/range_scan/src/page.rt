@@ -1,24 +1,27 @@
 //! What a search takes from one page.
 
-ghost use Rattle.std.specs.Prelude.{◌≡◌, ◌↔◌, ◌<◌, ◌≤◌, ◌+◌, ◌++◌, ◌^◌, ℕ, IsTrue, List, Ok, OnOk, IfOk, IfErr, filter, length, reverse};
+ghost use Rattle.std.specs.Prelude.{◌≡◌, ◌↔◌, ◌<◌, ◌≤◌, ◌+◌, ◌*◌, ◌++◌, ◌^◌, ℕ, IsTrue, List, Ok, OnOk, IfOk, IfErr, drop, filter, length, reverse};
 ghost use Rattle.std.specs.List.{All};
 ghost use Rattle.std.specs.Result.{IsErrOf};
+ghost use Rattle.cube_point.specs.Boxes.{IsInside};
 ghost use Rattle.cube_point.specs.declared.point.Entry as points;
 ghost use Rattle.page_fmt.specs.declared.page.Child.{Child};
 ghost use Rattle.page_fmt.specs.InFiles.{IsPageOf};
 ghost use Rattle.page_fmt.specs.Lawful.{HasChildren, HasEntries};
-ghost use Rattle.page_fmt.specs.Taking.{children, entries, page_count, taken};
+ghost use Rattle.page_fmt.specs.Pages.{width};
+ghost use Rattle.page_fmt.specs.Taking.{children, entries, page_arity, page_count, point_of, taken};
+ghost use Rattle.page_fmt.specs.declared.page.TheConstants.{PAGE};
 ghost use Rattle.page_fmt.specs.Writing.{AreEntries, IsShape};
 ghost use Rattle.range_scan.specs.Meeting.{is_inside};
 ghost use Rattle.range_scan.specs.Searching.{NamesPage};
 ghost use Rattle.range_scan.specs.Steps.{AreAhead, ExplainsStop, IsVisited};
 ghost use Rattle.range_scan.specs.Visits.{hits, met, page_of};
 
-use crate::ends::is_whole;
+use crate::ends::{first_bound, is_whole};
 use crate::walk::{Query, SearchStop};
 use cube_point::{Region, Shape, meets};
 use fact_model::Memory;
-use page_fmt::{Head, Node, PAGE, inner_entry, lent_entry};
+use page_fmt::{HEADER, Head, Node, PAGE, coordinate_at, inner_entry, lent_entry, size_of_entry};
 use point_taker::Taker;
 
 /// Takes the points or the children of the page with this number, which was accepted with this head.
@@ -129,9 +132,33 @@ fn take_inside<G: Taker>(
     take_by(page, &narrow, query.region, count, taker)
 }
 
-/// The same, for pages of this shape.
+/// The same, for pages of this shape. A point is looked at only where the coordinate in the first dimension that is bound lies in the region.
 #[inline(always)]
 fn take_by<G: Taker>(
+    page: &[u8; PAGE],
+    shape: &Shape,
+    region: &Region,
+    count: u16,
+    taker: &mut G,
+) -> Result<(), Memory>
+    requires page { HasEntries shape.now page.now }
+    requires said { count ≡ page_count page.now }
+    requires count { count ≡ length (entries shape.now page.now) }
+
+    ensures { (start : G) (es : List points.Entry) → G.was_given start es taker.old → OnOk result (G.was_given start
+        (es ++ filter (is_inside region.now) (entries shape.now page.now)) taker.new) }
+{
+    let arity = page[1] as usize;
+    let dimension = first_bound(region, shape.wide, arity);
+    if dimension < arity {
+        return take_bound(page, shape, region, dimension, count, taker);
+    }
+    take_each(page, shape, region, count, taker)
+}
+
+/// The same, where each point is looked at.
+#[inline(always)]
+fn take_each<G: Taker>(
     page: &[u8; PAGE],
     shape: &Shape,
     region: &Region,
@@ -152,6 +179,51 @@ fn take_by<G: Taker>(
         }
     }
     Ok(())
+}
+
+/// The same, where one coordinate of each point is looked at first, where its bytes lie.
+#[inline(always)]
+fn take_bound<G: Taker>(
+    page: &[u8; PAGE],
+    shape: &Shape,
+    region: &Region,
+    dimension: usize,
+    count: u16,
+    taker: &mut G,
+) -> Result<(), Memory>
+    requires page { HasEntries shape.now page.now }
+    requires said { count ≡ page_count page.now }
+    requires count { count ≡ length (entries shape.now page.now) }
+    requires used { dimension < page_arity page.now }
+
+    ensures { (start : G) (es : List points.Entry) → G.was_given start es taker.old → OnOk result (G.was_given start
+        (es ++ filter (is_inside region.now) (entries shape.now page.now)) taker.new) }
+{
+    let size = size_of_entry(shape, page[1]);
+    let mut next = HEADER;
+    for index in 0..count as usize {
+        let at = next;
+        next += size;
+        if is_out(page, shape.wide, at, region, dimension) {
+            continue;
+        }
+        let entry = lent_entry(page, shape, index);
+        if entry.is_inside(region) {
+            taker.take(&entry)?;
+        }
+    }
+    Ok(())
+}
+
+/// Whether the coordinate in a dimension of the point of the entry that begins at a place tells that it does not lie in the region.
+#[inline(always)]
+fn is_out(page: &[u8; PAGE], wide: bool, at: usize, region: &Region, dimension: usize) -> bool
+    requires eight { dimension < 8 }
+    requires place { at + (dimension + 1) * width wide ≤ PAGE }
+    ensures { (arity : ℕ) → dimension < arity → IsTrue result → IsInside (point_of wide arity (drop at page.now)) region.now → ⊥ }
+{
+    let own = coordinate_at(page, wide, at, dimension);
+    own < region.bounds.low[dimension] || region.bounds.high[dimension] < own
 }
 
 /// Puts the children of an inner page whose boxes meet the region behind the others, the first child last, since the last

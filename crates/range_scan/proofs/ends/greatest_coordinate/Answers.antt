@@ -1,4 +1,4 @@
-use Rattle.std.proofs.Common.{◌≡◌, ◌≤◌, ◌<◌, ◌^◌, ℕ, Bool, true, false, arith}
+use Rattle.std.proofs.Common.{◌≡◌, ◌<◌, ◌^◌, ℕ, Bool, true, false, arith}
 use Rattle.page_fmt.specs.Lawful.{IsCoordinate}
 use Rattle.page_fmt.specs.Pages.{width}
 use Rattle.range_scan.proofs.ends.greatest_coordinate.Goals as goal

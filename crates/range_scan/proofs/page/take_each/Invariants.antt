@@ -2,7 +2,7 @@ use Rattle.std.proofs.Common.{◌++◌, List, filter, take}
 use Rattle.cube_point.specs.declared.point.Entry.{Entry}
 use Rattle.page_fmt.specs.Taking.{entries}
 use Rattle.range_scan.specs.Meeting.{is_inside}
-use Rattle.range_scan.proofs.page.take_by.Given as goal
+use Rattle.range_scan.proofs.page.take_each.Given as goal
 
 -- the taker was given those of the first entries that lie in the region
 abbrev pub invariant-loop-index : goal.invariant-loop-index

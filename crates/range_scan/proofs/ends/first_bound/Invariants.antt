@@ -1,5 +1,5 @@
 use Rattle.range_scan.specs.Ends.{IsOpenBefore}
-use Rattle.range_scan.proofs.ends.is_open_before.Given as goal
+use Rattle.range_scan.proofs.ends.first_bound.Given as goal
 
 -- in the first dimensions the region holds every used coordinate
 abbrev pub invariant-loop-i : goal.invariant-loop-i

@@ -4,8 +4,8 @@ use Rattle.page_fmt.specs.Taking.{entries}
 use Rattle.range_scan.specs.Meeting.{is_inside}
 use Rattle.range_scan.proofs.Lists.{keeps, skips}
 use Rattle.range_scan.proofs.Tests.{inside-is}
-use Rattle.range_scan.proofs.page.take_by.Goals as goal
-use Rattle.range_scan.proofs.page.take_by.Goals.{then-is_inside+in_ok-take, else-is_inside}
+use Rattle.range_scan.proofs.page.take_each.Goals as goal
+use Rattle.range_scan.proofs.page.take_each.Goals.{then-is_inside+in_ok-take, else-is_inside}
 
 pub loop-index-preserved : goal.loop-index-preserved
 loop-index-preserved g c = λ start es given.
