@@ -12,7 +12,7 @@ ghost use Rattle.cube_slices.specs.Told.{AreBase, CarriesOutOver, FoldTold, Rows
 
 use crate::slices::{spoilt, unanswered};
 use cube_state::{State, Stop};
-use fact_model::{Rows, Slice};
+use fact_model::Slice;
 use forest_root::Store;
 use page_cache::Pages;
 use reply_text::{answered, plain, refused_slice};
@@ -102,7 +102,7 @@ fn told(
     ensures { FoldTold store.now (rolled_text store.now levels.now slice.now) answer.entry result }
 {
     match answer {
-        Ok(rows) => folded(alloc, store, levels, slice, &rows.to_rows(alloc)?),
+        Ok(rows) => folded(alloc, store, levels, slice, &rows),
         Err(stop) => unanswered(alloc, stop),
     }
 }
@@ -113,7 +113,7 @@ fn folded(
     store: &Store,
     levels: &LevelList,
     slice: &Slice,
-    rows: &Rows,
+    rows: &SliceRows<'_>,
 ) -> Result<Vec<u8>, Stop>
     requires fit { Fit store.now.forest.schema levels.now }
     requires agrees { SliceAgrees (extended store.now.forest.schema levels.now) slice.now }

@@ -1,9 +1,11 @@
 -- An item that is found in a list.
 use Rattle.std.proofs.Common.{◌≡◌, ℕ, zero, suc, ◌+◌, ◌<◌, ◌≤◌, ◌==◌, ◌&&◌, min, Bool, true, false, cond, List, [], ◌∷◌, ◌++◌, map, filter, length, get_or, drop, refl, sym, ◌∙◌, ap, subst, arith, inl, inr}
-use Rattle.std.proofs.lemmas.Bool.{cases_Bool, eqb-true}
+use Rattle.std.proofs.lemmas.Bool.{cases_Bool, eqb-true, eq-eqb}
 use Rattle.fact_model.specs.declared.fact.Value.TheVariants.{Number}
 use Rattle.fact_model.specs.Value.{Key}
 use Rattle.std.specs.List.{list_all, range_with_len}
+use Rattle.row_fold.specs.Lent.{value_of}
+use Rattle.row_fold.specs.declared.lent.LentValue.{LentValue}
 use Rattle.view_points.specs.Agree.{among}
 use Rattle.roll_up.specs.Lifted.{value_for}
 use Rattle.roll_up.proofs.Lifts.{among-cons, among-here}
@@ -112,3 +114,14 @@ value-none (g ∷ group) (v ∷ key) (suc i) a l = value-none group key i a (ome
 -- past all, by the end of the loop
 pub value-end : (group : List ℕ) (key : Key) (i a most : ℕ) → most ≤ i → most ≡ min (length group) (length key) → value_for group key a ≡ value_for (drop i group) (drop i key) a → Number 0 ≡ value_for group key a
 value-end group key i a most l is so_far = sym (so_far ∙ value-none group key i a (omega (arith, l, is)))
+
+here : (group : List ℕ) (key : List LentValue) (i a : ℕ) (d : LentValue) → i < length group → i < length key → get_or group i 0 ≡ a → value_for (drop i group) (drop i (map value_of key)) a ≡ value_of (get_or key i d)
+here [] key i a d l m e = absurd (omega arith)
+here (h ∷ group) [] i a d l m e = absurd (omega arith)
+here (h ∷ group) (v ∷ key) zero a d l m e = ap (λ (b : Bool). cond b (value_of v) (value_for group (map value_of key) a)) (eq-eqb h a e)
+here (h ∷ group) (v ∷ key) (suc i) a d l m e = here group key i a d (omega arith) (omega arith) e
+
+-- where the attribute is found, its value is
+pub value-here : (group : List ℕ) (key : List LentValue) (i a most : ℕ) (d : LentValue) → i < most → most ≡ min (length group) (length key) → get_or group i 0 ≡ a
+    → value_for group (map value_of key) a ≡ value_for (drop i group) (drop i (map value_of key)) a → value_of (get_or key i d) ≡ value_for group (map value_of key) a
+value-here group key i a most d l is e so_far = sym (so_far ∙ here group key i a d (omega (arith, l, is)) (omega (arith, l, is)) e)

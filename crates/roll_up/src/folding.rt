@@ -5,6 +5,7 @@ ghost use Rattle.fact_model.specs.Rows as plain;
 ghost use Rattle.fact_model.specs.declared.fact.Fact as facts;
 ghost use Rattle.fact_model.specs.declared.slice.Row as answers;
 ghost use Rattle.cube_schema.specs.Kinds.{arity};
+ghost use Rattle.row_fold.specs.Lent.{row_in};
 ghost use Rattle.row_fold.specs.Taking.{CanTake};
 ghost use Rattle.slice_lang.specs.Agreeing.{SliceAgrees};
 ghost use Rattle.roll_up.specs.Bases.{base};
@@ -13,47 +14,48 @@ ghost use Rattle.roll_up.specs.Lifted.{HasForm, groups_of, rolled_up};
 
 use crate::base::base_of;
 use crate::level::LevelList;
-use crate::lifting::Lifting;
+use crate::lifting::{Lifting, Room};
 use cube_schema::Schema;
-use fact_model::{Memory, Row, Rows, Slice};
-use row_fold::{LentValue, RowFold};
+use fact_model::{Memory, Rows, Slice};
+use row_fold::{LentRow, LentRows, RowFold};
 use std::alloc::Global;
 
 /// Rolls the rows of the base slice up: those whose keys meet the conditions on levels, grouped anew, and their numbers joined. Where the
-/// rows are those of facts, these are the rows of the facts with their parents. An error is want of memory.
-pub fn fold_up(
+/// rows are those of facts, these are the rows of the facts with their parents. Only a key that is new is copied. An error is want of
+/// memory.
+pub fn fold_up<R: LentRows>(
     alloc: Global,
     schema: &Schema,
     levels: &LevelList,
     slice: &Slice,
-    rows: &Rows,
+    rows: &R,
 ) -> Result<Rows, Memory>
     requires fit { Fit schema.now levels.now }
     requires agrees { SliceAgrees (extended schema.now levels.now) slice.now }
-    requires form { All (HasForm (base (arity schema.now) levels.now slice.now)) rows.now }
-    requires adds { AddUp rows.now }
+    requires form { All (HasForm (base (arity schema.now) levels.now slice.now)) (R.rows rows.now) }
+    requires adds { AddUp (R.rows rows.now) }
 
-    ensures exact { IfOk result (λ found. found ≡ rolled_up (arity schema.now) levels.now slice.now rows.now) }
+    ensures exact { IfOk result (λ found. found ≡ rolled_up (arity schema.now) levels.now slice.now (R.rows rows.now)) }
     ensures lifted { (accepted : List facts.Fact) → All (λ (x : facts.Fact). length x.values ≡ arity schema.now) accepted
-        → rows.now ≡ plain.rows accepted (base (arity schema.now) levels.now slice.now)
+        → R.rows rows.now ≡ plain.rows accepted (base (arity schema.now) levels.now slice.now)
         → IfOk result (λ found. found ≡ plain.rows (map (lift levels.now) accepted) slice.now) }
 {
-    fold_rows(alloc, schema, levels, slice, rows.as_slice())
+    fold_rows(alloc, schema, levels, slice, rows)
 }
 
 /// The same, whatever the rows are.
-fn fold_rows(
+fn fold_rows<R: LentRows>(
     alloc: Global,
     schema: &Schema,
     levels: &LevelList,
     slice: &Slice,
-    rows: &[Row],
+    rows: &R,
 ) -> Result<Rows, Memory>
     requires fit { Fit schema.now levels.now }
     requires agrees { SliceAgrees (extended schema.now levels.now) slice.now }
-    requires wide { All (λ (row : answers.Row). length row.numbers ≡ length slice.now.columns) rows.now }
-    requires adds { AddUp rows.now }
-    ensures { IfOk result (λ found. found ≡ rolled_up (arity schema.now) levels.now slice.now rows.now) }
+    requires wide { All (λ (row : answers.Row). length row.numbers ≡ length slice.now.columns) (R.rows rows.now) }
+    requires adds { AddUp (R.rows rows.now) }
+    ensures { IfOk result (λ found. found ≡ rolled_up (arity schema.now) levels.now slice.now (R.rows rows.now)) }
 {
     let base = base_of(alloc, schema, levels, slice)?;
     let lifting = Lifting {
@@ -67,43 +69,49 @@ fn fold_rows(
 }
 
 /// The groups of the rows that meet the conditions on levels.
-fn fold_of<'a>(alloc: Global, lifting: Lifting<'a>, rows: &'a [Row]) -> Result<RowFold<'a>, Memory>
+fn fold_of<'a, R: LentRows>(
+    alloc: Global,
+    lifting: Lifting<'a>,
+    rows: &'a R,
+) -> Result<RowFold<'a>, Memory>
     requires group { lifting.group.now ≡ (base lifting.arity lifting.levels.now lifting.slice.now).group }
-    requires wide { All (λ (row : answers.Row). length row.numbers ≡ length lifting.slice.now.columns) rows.now }
-    requires adds { AddUp rows.now }
-    ensures { IfOk result (λ fold. fold ≡ groups_of lifting.entry.arity lifting.entry.levels.now lifting.entry.slice.now rows.now) }
+    requires wide { All (λ (row : answers.Row). length row.numbers ≡ length lifting.slice.now.columns) (R.rows rows.now) }
+    requires adds { AddUp (R.rows rows.now) }
+    ensures { IfOk result (λ fold. fold ≡ groups_of lifting.entry.arity lifting.entry.levels.now lifting.entry.slice.now (R.rows rows.now)) }
 {
     let mut fold = RowFold::new(alloc);
-    let mut key = Vec::new(alloc);
-    for row in rows {
-        take_row(alloc, &lifting, row, &mut key, &mut fold)?;
+    let mut row = LentRow::new(alloc);
+    let mut room = Room::new(alloc);
+    for place in 0..rows.count() {
+        rows.lend(place, &mut row)?;
+        take_row(alloc, &lifting, &row, &mut room, &mut fold)?;
     }
     Ok(fold)
 }
 
-/// Takes in a row, where it meets the conditions on levels. The list is for its key.
+/// Takes in a row, where it meets the conditions on levels.
 fn take_row<'a>(
     alloc: Global,
     lifting: &Lifting<'a>,
-    row: &'a Row,
-    key: &mut Vec<LentValue<'a>>,
+    row: &LentRow<'a>,
+    room: &mut Room<'a>,
     fold: &mut RowFold<'a>,
 ) -> Result<(), Memory>
     requires group { lifting.now.group.now ≡ (base lifting.now.arity lifting.now.levels.now lifting.now.slice.now).group }
-    requires room { CanTake lifting.now.slice.now.columns fold.old row.now.numbers }
+    requires room { CanTake lifting.now.slice.now.columns fold.old row.now.numbers.items }
     // The groups of rows are then those of the rows with this one behind them.
     ensures { OnOk result ((rows : List answers.Row) → fold.old ≡ groups_of lifting.now.arity lifting.now.levels.now lifting.now.slice.now rows
-        → fold.new ≡ groups_of lifting.now.arity lifting.now.levels.now lifting.now.slice.now (rows ++ row.now ∷ [])) }
+        → fold.new ≡ groups_of lifting.now.arity lifting.now.levels.now lifting.now.slice.now (rows ++ row_in row.now ∷ [])) }
 {
-    let values = row.key.as_slice();
-    if !lifting.keeps(values) {
+    let key = row.key.as_slice();
+    if !lifting.keeps(alloc, key, &mut room.text)? {
         return Ok(());
     }
-    lifting.roll(values, key)?;
+    lifting.roll(alloc, key, room)?;
     fold.take(
         alloc,
         lifting.slice.columns.as_slice(),
-        key.as_slice(),
+        room.key.as_slice(),
         row.numbers.as_slice(),
     )
 }

@@ -1,14 +1,14 @@
 //! The keys of base rows, rolled up.
-ghost use Rattle.std.specs.Prelude.{◌≡◌, OnOk, map, unwrap_or, option_copied};
-ghost use Rattle.fact_model.specs.declared.fact.Value.TheVariants as values;
+ghost use Rattle.std.specs.Prelude.{◌≡◌, IfOk, OnOk, map};
 ghost use Rattle.row_fold.specs.Lent.{value_of};
 ghost use Rattle.roll_up.specs.Bases.{base};
 ghost use Rattle.roll_up.specs.Lifted.{is_kept, is_met, rolled, value_for, value_in};
 ghost use Rattle.roll_up.specs.Parents.{parent_of};
 
 use crate::level::Level;
-use fact_model::{Cond, Memory, Slice, Value};
+use fact_model::{Cond, Memory, Slice};
 use row_fold::LentValue;
+use std::alloc::Global;
 
 /// What a roll-up asks of the base rows.
 #[derive(Clone, Copy)]
@@ -23,81 +23,110 @@ pub(crate) struct Lifting<'a> {
     pub(crate) group: &'a [u32],
 }
 
+/// Room that is used for row after row.
+#[derive(Drop)]
+pub(crate) struct Room<'a> {
+    /// For a key, rolled up.
+    pub(crate) key: Vec<LentValue<'a>>,
+    /// For a text that is looked up.
+    pub(crate) text: Vec<u8>,
+}
+
+impl<'a> Room<'a> {
+    /// No room yet. It takes no memory.
+    pub(crate) fn new(alloc: Global) -> Room<'a> {
+        Room {
+            key: Vec::new(alloc),
+            text: Vec::new(alloc),
+        }
+    }
+}
+
 impl<'a> Lifting<'a> {
-    /// Makes these values the key of a base row, rolled up.
+    /// Makes the key of the room that of a base row, rolled up.
     pub(crate) fn roll(
         &self,
-        key: &'a [Value],
-        values: &mut Vec<LentValue<'a>>,
+        alloc: Global,
+        key: &[LentValue<'a>],
+        room: &mut Room<'a>,
     ) -> Result<(), Memory>
         requires { self.now.group.now ≡ (base self.now.arity self.now.levels.now self.now.slice.now).group }
-        ensures { OnOk result (map value_of values.new.items ≡ rolled self.now.arity self.now.levels.now self.now.slice.now key.now) }
+        ensures { OnOk result (map value_of room.new.key.items ≡ rolled self.now.arity self.now.levels.now self.now.slice.now (map value_of key.now)) }
     {
-        values.clear();
+        room.key.clear();
         for attr in self.slice.group.as_slice() {
-            values.push(self.value(key, *attr))?;
+            let value = self.value(alloc, key, *attr, &mut room.text)?;
+            room.key.push(value)?;
         }
         Ok(())
     }
 
     /// Whether the key of a base row meets the conditions on levels.
-    pub(crate) fn keeps(&self, key: &'a [Value]) -> bool
+    pub(crate) fn keeps(
+        &self,
+        alloc: Global,
+        key: &[LentValue<'a>],
+        room: &mut Vec<u8>,
+    ) -> Result<bool, Memory>
         requires { self.now.group.now ≡ (base self.now.arity self.now.levels.now self.now.slice.now).group }
-        ensures { result ≡ is_kept self.now.arity self.now.levels.now self.now.slice.now key.now }
+        ensures { IfOk result (λ kept. kept ≡ is_kept self.now.arity self.now.levels.now self.now.slice.now (map value_of key.now)) }
     {
         for cond in self.slice.conds.as_slice() {
-            if cond.attr() >= self.arity && !is_met(cond, self.value(key, cond.attr())) {
-                return false;
+            if cond.attr() >= self.arity
+                && !is_met(cond, self.value(alloc, key, cond.attr(), room)?)
+            {
+                return Ok(false);
             }
         }
-        true
+        Ok(true)
     }
 
     /// A base row's value of an attribute of the extended schema. It is the number 0 for one that there is not.
-    fn value(&self, key: &'a [Value], attr: u32) -> LentValue<'a>
+    fn value(
+        &self,
+        alloc: Global,
+        key: &[LentValue<'a>],
+        attr: u32,
+        room: &mut Vec<u8>,
+    ) -> Result<LentValue<'a>, Memory>
         requires { self.now.group.now ≡ (base self.now.arity self.now.levels.now self.now.slice.now).group }
-        ensures { value_of result ≡ value_in self.now.arity self.now.levels.now self.now.slice.now key.now attr }
+        ensures { IfOk result (λ value. value_of value ≡ value_in self.now.arity self.now.levels.now self.now.slice.now (map value_of key.now) attr) }
     {
         if attr < self.arity {
-            return value_or_zero(value_for(self.group, key, attr));
+            return Ok(value_for(self.group, key, attr));
         }
         match self.levels.get((attr - self.arity) as usize) {
-            Some(level) => LentValue::Word(parent_for(self.group, key, level)),
-            None => LentValue::Number(0),
+            Some(level) => Ok(LentValue::Word(parent_for(alloc, self.group, key, level, room)?)),
+            None => Ok(LentValue::Number(0)),
         }
     }
 }
 
-/// A key's value of an attribute, if it is grouped.
-fn value_for<'a>(group: &[u32], key: &'a [Value], attr: u32) -> Option<&'a Value>
-    ensures { unwrap_or (option_copied result) (values.Number 0) ≡ value_for group.now key.now attr }
+/// A key's value of an attribute that is grouped, and the number 0 for one that is not.
+fn value_for<'a>(group: &[u32], key: &[LentValue<'a>], attr: u32) -> LentValue<'a>
+    ensures { value_of result ≡ value_for group.now (map value_of key.now) attr }
 {
     for i in 0..group.len().min(key.len()) {
         if group[i] == attr {
-            return Some(&key[i]);
+            return key[i];
         }
     }
-    None
+    LentValue::Number(0)
 }
 
 /// The parent that a level gives the value of its attribute in a key.
-fn parent_for<'a>(group: &[u32], key: &[Value], level: &'a Level) -> &'a [u8]
-    ensures { result.now ≡ parent_of level.now.parents (value_for group.now key.now level.now.attr) }
+fn parent_for<'a>(
+    alloc: Global,
+    group: &[u32],
+    key: &[LentValue<'_>],
+    level: &'a Level,
+    room: &mut Vec<u8>,
+) -> Result<&'a [u8], Memory>
+    ensures { IfOk result (λ parent. parent.now ≡ parent_of level.now.parents (value_for group.now (map value_of key.now) level.now.attr)) }
 {
-    match value_for(group, key, level.attr) {
-        Some(value) => level.parents.parent(value),
-        None => level.parents.parent(&Value::Number(0)),
-    }
-}
-
-/// The value, or the number 0 where there is none.
-fn value_or_zero<'a>(value: Option<&'a Value>) -> LentValue<'a>
-    ensures { value_of result ≡ unwrap_or (option_copied value.entry) (values.Number 0) }
-{
-    match value {
-        Some(value) => LentValue::of(value),
-        None => LentValue::Number(0),
-    }
+    level
+        .parents
+        .parent_of(alloc, value_for(group, key, level.attr), room)
 }
 
 /// Whether the value meets the condition.

@@ -5,9 +5,11 @@
 mod fold;
 mod joining;
 mod laws;
+mod lending;
 mod lent;
 
 pub use fold::RowFold;
 pub use joining::join_numbers;
 pub use laws::{lists_of_facts_fold, lists_of_facts_join, rows_of_facts_add, rows_of_facts_fold};
+pub use lending::{LentRow, LentRows};
 pub use lent::LentValue;

@@ -1,23 +1,28 @@
-//! The rows of a slice, which are made when they are written or asked for.
-ghost use Rattle.std.specs.Prelude.{◌≡◌, ◌<◌, [], All, IfOk, OnErr, OnOk, get_or, length, map};
+//! The rows of a slice, which are made as they are written or lent.
+ghost use Rattle.std.specs.Prelude.{◌≡◌, ◌<◌, ◌↔◌, [], pos, All, IfOk, IsTrue, OnErr, OnOk, get_or, length, map};
 ghost use Rattle.std.specs.Fmt.{signed_decimal};
 ghost use Rattle.csv_text.specs.Rows.{nothing_written, row_fields, value_text, with_end, with_field, with_fields, with_rows};
+ghost use Rattle.fact_model.specs.Adds.{AddUp, number_in};
 ghost use Rattle.fact_model.specs.Cell.{part_of};
+ghost use Rattle.fact_model.specs.declared.slice.Row as answers;
 ghost use Rattle.view_points.specs.Answer.{column_of, row_from};
 ghost use Rattle.view_rows.specs.Grouped.{key_of_entry, keyed, value_at_code};
 
+use crate::adding::add_up;
 use crate::keys::coordinate;
+use crate::lending::lend_row;
 use crate::making::rows_made;
 use crate::ordered::OrderedPoints;
 use attr_dict::{Dicts, ValueRef};
 use csv_text::RowWriter;
 use cube_point::Entry;
 use fact_model::{Cell, Column, Memory, Part, Rows, Slice};
+use row_fold::{LentRow, LentRows};
 use std::alloc::Global;
 use std::marker::Model;
 
 /// The rows of a slice, which contracts see as the list of the rows. Of each there is the point that it is of; its values and numbers are
-/// made when it is written or asked for.
+/// looked up as it is written or lent.
 #[derive(Drop)]
 pub struct SliceRows<'a> {
     names: &'a Dicts,
@@ -72,6 +77,33 @@ impl<'a> SliceRows<'a> {
         rows_made(alloc, self.names, self.view, self.slice, &self.points)
     }
 
+    /// Whether in each column of numbers the magnitudes add up to at most 2^127 - 1. Those of the rows of facts within their masses do. It
+    /// takes no memory.
+    pub fn adds(&self) -> bool
+        ensures { IsTrue result ↔ AddUp self.now }
+    {
+        add_up(self)
+    }
+
+    /// How many columns of numbers there are.
+    pub(crate) fn width(&self) -> usize
+        ensures { All (λ (row : answers.Row). length row.numbers ≡ result) self.now }
+    {
+        self.slice.columns.as_slice().len()
+    }
+
+    /// The number of a row in a column, and 0 past the columns.
+    pub(crate) fn number(&self, place: usize, column: usize) -> i128
+        requires { place < length self.now }
+        ensures { (d : answers.Row) → result ≡ number_in column (get_or self.now place d) }
+    {
+        number_at(
+            self.slice.columns.as_slice(),
+            &self.points.at(place).cell,
+            column,
+        )
+    }
+
     /// Writes the rows, where no row has begun. Want of memory alone makes it fail, and the writer is then as a new one.
     pub fn push_to(&self, writer: &mut RowWriter) -> Result<(), Memory>
         requires { writer.old.fields ≡ [] }
@@ -79,6 +111,24 @@ impl<'a> SliceRows<'a> {
         ensures dropped { OnErr result (writer.new ≡ nothing_written) }
     {
         push_rows(self.names, self.view, self.slice, &self.points, writer)
+    }
+}
+
+impl LentRows for SliceRows<'_> {
+    ghost rows = { λ rows. rows };
+
+    fn count(&self) -> usize {
+        self.points.len()
+    }
+
+    fn lend<'a>(&'a self, place: usize, row: &mut LentRow<'a>) -> Result<(), Memory> {
+        lend_row(
+            self.names,
+            self.view,
+            self.slice,
+            self.points.at(place),
+            row,
+        )
     }
 }
 
@@ -172,6 +222,16 @@ pub(crate) fn column_of(cell: &Cell, column: Column) -> i128
         Column::Sum(measure) => part_of(cell, measure).sum,
         Column::Min(measure) => part_of(cell, measure).low,
         Column::Max(measure) => part_of(cell, measure).high,
+    }
+}
+
+/// A column of a cell by its place among the columns, and 0 past them.
+fn number_at(columns: &[Column], cell: &Cell, place: usize) -> i128
+    ensures { result ≡ get_or (map (column_of cell.now) columns.now) place (pos 0) }
+{
+    match columns.get(place) {
+        Some(column) => column_of(cell, *column),
+        None => 0,
     }
 }
 

@@ -1,0 +1,45 @@
+//! Rows that are lent one after another.
+ghost use Rattle.std.specs.Prelude.{◌≡◌, ◌<◌, [], List, OnOk, get_or, length};
+ghost use Rattle.fact_model.specs.declared.slice.Row as answers;
+ghost use Rattle.row_fold.specs.Lent.{row_in};
+
+use crate::lent::LentValue;
+use fact_model::Memory;
+use std::alloc::Global;
+
+/// A row whose texts are lent.
+#[derive(Drop)]
+pub struct LentRow<'a> {
+    /// The values of the grouped attributes, in the order of grouping.
+    pub key: Vec<LentValue<'a>>,
+    /// A number for each column.
+    pub numbers: Vec<i128>,
+}
+
+impl<'a> LentRow<'a> {
+    /// A row of nothing, to be made another. It takes no memory.
+    pub fn new(alloc: Global) -> LentRow<'a>
+        ensures key { result.key.items ≡ [] }
+        ensures numbers { result.numbers.items ≡ [] }
+    {
+        LentRow {
+            key: Vec::new(alloc),
+            numbers: Vec::new(alloc),
+        }
+    }
+}
+
+/// Rows in order, of which each is lent.
+pub trait LentRows {
+    /// The rows.
+    ghost rows: { Self → List answers.Row };
+
+    /// How many rows there are.
+    fn count(&self) -> usize
+        ensures { result ≡ length (rows self.now) };
+
+    /// Makes a row the one of this place, counted from 0. Want of memory alone makes it fail.
+    fn lend<'a>(&'a self, place: usize, row: &mut LentRow<'a>) -> Result<(), Memory>
+        requires { place < length (rows self.now) }
+        ensures { (d : answers.Row) → OnOk result (row_in row.new ≡ get_or (rows self.now) place d) };
+}
