@@ -9,7 +9,7 @@ ghost use Rattle.cube_slices.specs.Told.{AreWide, CarriesOutAs, FoldTold, RowsTe
 
 use crate::slices::{spoilt, unanswered};
 use cube_state::{State, Stop};
-use fact_model::{ListOf, Memory, Rows};
+use fact_model::{Memory, Rows};
 use forest_root::Store;
 use page_cache::Pages;
 use replica_route::pick;
@@ -88,7 +88,7 @@ fn without_rows(alloc: Global, store: &Store, query: &Query, plan: &Plan) -> Res
 {
     let forest = &store.forest;
     match pick(&forest.schema, &forest.body.counts, &plan.slice) {
-        Some(_) => Ok(sql_text(alloc, query, plan, &ListOf::new(alloc))?.into_vec()),
+        Some(_) => Ok(sql_text(alloc, query, plan, &Rows::new(alloc))?.into_vec()),
         None => plain(alloc, "refused notcovered"),
     }
 }
@@ -105,7 +105,7 @@ fn told(
     ensures { FoldTold store.now (query_text query.now plan.now) answer.entry result }
 {
     match answer {
-        Ok(rows) => records(alloc, store, query, plan, &rows.to_rows(alloc)?),
+        Ok(rows) => records(alloc, store, query, plan, &rows),
         Err(stop) => unanswered(alloc, stop),
     }
 }
@@ -116,7 +116,7 @@ fn records(
     store: &Store,
     query: &Query,
     plan: &Plan,
-    rows: &Rows,
+    rows: &SliceRows<'_>,
 ) -> Result<Vec<u8>, Stop>
     requires { AreWide plan.now (Ok rows.now) }
     ensures { RowsTell store.now rows.now (query_text query.now plan.now rows.now) result }

@@ -142,7 +142,7 @@ derived_at (Number m) (Word b) = refl
 derived_at (Number m) (Number n) = refl
 
 -- the derived order of such keys is that of the keys that they stand for
-lent-order : (a b : List LentValue) → slice_cmp derived.cmp-value.it a b ≡ key_cmp (map value_of a) (map value_of b)
+pub lent-order : (a b : List LentValue) → slice_cmp derived.cmp-value.it a b ≡ key_cmp (map value_of a) (map value_of b)
 lent-order a b = ap (λ (cmp : LentValue → LentValue → Ordering). slice_cmp cmp a b) (λ i v w. derived_at v w i) ∙ sym (lex_map value_of value_cmp a b)
 
 abbrev pub LentKey : Type 0

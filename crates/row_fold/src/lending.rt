@@ -1,10 +1,10 @@
 //! Rows that are lent one after another.
-ghost use Rattle.std.specs.Prelude.{◌≡◌, ◌<◌, [], List, OnOk, get_or, length};
+ghost use Rattle.std.specs.Prelude.{◌≡◌, ◌<◌, [], List, OnOk, get_or, length, map};
 ghost use Rattle.fact_model.specs.declared.slice.Row as answers;
-ghost use Rattle.row_fold.specs.Lent.{row_in};
+ghost use Rattle.row_fold.specs.Lent.{row_in, value_of};
 
 use crate::lent::LentValue;
-use fact_model::Memory;
+use fact_model::{ListOf, Memory, Row, Value};
 use std::alloc::Global;
 
 /// A row whose texts are lent.
@@ -42,4 +42,37 @@ pub trait LentRows {
     fn lend<'a>(&'a self, place: usize, row: &mut LentRow<'a>) -> Result<(), Memory>
         requires { place < length (rows self.now) }
         ensures { (d : answers.Row) → OnOk result (row_in row.new ≡ get_or (rows self.now) place d) };
+}
+
+impl LentRows for ListOf<Row> {
+    ghost rows = { λ rows. rows };
+
+    fn count(&self) -> usize {
+        self.as_slice().len()
+    }
+
+    fn lend<'a>(&'a self, place: usize, row: &mut LentRow<'a>) -> Result<(), Memory> {
+        lend_row(&self.as_slice()[place], row)
+    }
+}
+
+/// Makes a row another one, lent.
+fn lend_row<'a>(lent: &'a Row, row: &mut LentRow<'a>) -> Result<(), Memory>
+    ensures { OnOk result (row_in row.new ≡ lent.now) }
+{
+    lend_key(lent.key.as_slice(), &mut row.key)?;
+    row.numbers.clear();
+    row.numbers.extend_from_slice(lent.numbers.as_slice())?;
+    Ok(())
+}
+
+/// Makes these values others, lent.
+fn lend_key<'a>(values: &'a [Value], key: &mut Vec<LentValue<'a>>) -> Result<(), Memory>
+    ensures { OnOk result (map value_of key.new.items ≡ values.now) }
+{
+    key.clear();
+    for value in values {
+        key.push(LentValue::of(value))?;
+    }
+    Ok(())
 }

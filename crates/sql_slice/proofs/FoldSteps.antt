@@ -11,6 +11,8 @@ use Rattle.std.proofs.lemmas.List.Sums.{sum_by-cons}
 use Rattle.fact_model.specs.Adds.{number_in, numbers_in}
 use Rattle.row_fold.specs.Folds.{entry_of}
 use Rattle.row_fold.specs.Joins.{join_numbers, size_at}
+use Rattle.row_fold.specs.Lent.{row_in, value_of}
+use Rattle.row_fold.specs.declared.lending.LentRow.{LentRow}
 use Rattle.row_fold.specs.Squeezed.{squeezed}
 use Rattle.row_fold.proofs.NumberJoins.{numbers-assoc, numbers-comm, numbers-length, numbers-size}
 use Rattle.row_fold.proofs.Squeezes.{squeezed-same, squeezed-other}
@@ -81,13 +83,13 @@ module _ (cs : List Column) (old : List (Key × List ℤ)) (e d : Key × List �
       ∙ ap (λ xs. old ++ xs) (sym (squeezed-other key_cmp key_cmp-IsAntisymmetric (join_numbers cs) (numbers-assoc cs) e d es other))
 
 -- a group of one row
-pub same-entry : (w : ℕ) (g : Group) (row : Row) → g.row.now ≡ row → g.numbers.items ≡ row.numbers → entry_in w g ≡ entry_of (front_of w) row
-same-entry w g row a b = (λ i. (take w (a i).key, b i))
+pub same-entry : (w : ℕ) (g : Group) (row : LentRow) → g.key.items ≡ row.key.items → g.numbers.items ≡ row.numbers.items → entry_in w g ≡ entry_of (front_of w) (row_in row)
+same-entry w g row a b = (λ i. (take w (map value_of (a i)), b i))
 
 -- a group with one row more; the order of joining does not matter
-pub joined-entry : (cs : List Column) (w : ℕ) (g h : Group) (row : Row) → g.row.now ≡ h.row.now → g.numbers.items ≡ join_numbers cs row.numbers h.numbers.items
-    → entry_in w g ≡ ((entry_in w h).0, join_numbers cs (entry_in w h).1 (entry_of (front_of w) row).1)
-joined-entry cs w g h row a b = (λ i. (take w (a i).key, (b ∙ numbers-comm cs row.numbers h.numbers.items) i))
+pub joined-entry : (cs : List Column) (w : ℕ) (g h : Group) (row : LentRow) (numbers : List ℤ) → numbers ≡ row.numbers.items → g.key.items ≡ h.key.items → g.numbers.items ≡ join_numbers cs numbers h.numbers.items
+    → entry_in w g ≡ ((entry_in w h).0, join_numbers cs (entry_in w h).1 (entry_of (front_of w) (row_in row)).1)
+joined-entry cs w g h row numbers same a b = (λ i. (take w (map value_of (a i)), (b ∙ (ap (λ ns. join_numbers cs ns h.numbers.items) same ∙ numbers-comm cs row.numbers.items h.numbers.items)) i))
 
 -- joined numbers are as many, and no greater than both together
 pub ruleset joined_rules = (numbers-size, numbers-length)

@@ -1,14 +1,15 @@
 -- Rows on the way to being joined.
-use Rattle.std.specs.Prelude.{◌≡◌, ℕ, List, [], ◌∷◌, length, Option, Some, None, ℤ}
+use Rattle.std.specs.Prelude.{◌≡◌, ℕ, List, [], ◌∷◌, length, map, Option, Some, None, ℤ}
 use Rattle.fact_model.specs.Value.{Key}
 use Rattle.sql_slice.specs.declared.fold.Group.{Group}
 use Rattle.sql_lang.specs.declared.query.Query.{Query}
 use Rattle.row_fold.specs.Joins.{size_at}
+use Rattle.row_fold.specs.Lent.{value_of}
 use Rattle.sql_slice.specs.RowFold.{front_of, laid_entry}
 
 -- a group by the front of its key
 abbrev pub entry_in : ℕ → Group → Key × List ℤ
-entry_in width g = (front_of width g.row.now.key, g.numbers.items)
+entry_in width g = (front_of width (map value_of g.key.items), g.numbers.items)
 
 -- the last group as an entry, if there is one
 abbrev pub last_entries : ℕ → Option Group → List (Key × List ℤ)

@@ -1,27 +1,27 @@
 //! Values of attributes in the keys of rows.
-ghost use Rattle.std.specs.Prelude.{◌≡◌, take, option_copied};
+ghost use Rattle.std.specs.Prelude.{◌≡◌, map, take, option_map};
 ghost use Rattle.std.specs.Ordering.{is_eq};
-ghost use Rattle.std.specs.Cmp.Lexicographic.{slice_cmp};
 ghost use Rattle.fact_model.specs.Value.{key_cmp};
+ghost use Rattle.row_fold.specs.Lent.{value_of};
 ghost use Rattle.sql_slice.specs.SqlRows.{value_in};
 
-use fact_model::Value;
+use row_fold::LentValue;
 
 /// The value of an attribute in a key of these attributes.
-pub(crate) fn value_in<'a>(group: &[u32], key: &'a [Value], attr: u32) -> Option<&'a Value>
-    ensures { option_copied result ≡ value_in group.now key.now attr }
+pub(crate) fn value_in<'a>(group: &[u32], key: &[LentValue<'a>], attr: u32) -> Option<LentValue<'a>>
+    ensures { option_map value_of result ≡ value_in group.now (map value_of key.now) attr }
 {
     for i in 0..group.len() {
         if group[i] == attr {
-            return key.get(i);
+            return key.get(i).copied();
         }
     }
     None
 }
 
-/// Whether the order does not tell the lists apart.
-fn same<T: Ord>(first: &[T], second: &[T]) -> bool
-    ensures { result ≡ is_eq (slice_cmp T.cmp first.now second.now) }
+/// Whether the order does not tell the keys apart.
+fn same(first: &[LentValue<'_>], second: &[LentValue<'_>]) -> bool
+    ensures { result ≡ is_eq (key_cmp (map value_of first.now) (map value_of second.now)) }
 {
     first.cmp(second).is_eq()
 }
@@ -34,8 +34,8 @@ pub(crate) fn front<T>(items: &[T], count: usize) -> &[T]
 }
 
 /// Whether the keys are the same up to so many values.
-pub(crate) fn same_front(first: &[Value], second: &[Value], width: usize) -> bool
-    ensures { result ≡ is_eq (key_cmp (take width first.now) (take width second.now)) }
+pub(crate) fn same_front(first: &[LentValue<'_>], second: &[LentValue<'_>], width: usize) -> bool
+    ensures { result ≡ is_eq (key_cmp (take width (map value_of first.now)) (take width (map value_of second.now))) }
 {
     same(front(first, width), front(second, width))
 }

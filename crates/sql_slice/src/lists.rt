@@ -1,17 +1,19 @@
 //! The values of tests by IN, ready to be looked up.
-ghost use Rattle.std.specs.Prelude.{◌≡◌, ◌||◌, ℕ, ℤ, List, IfOk, OnOk, false};
+ghost use Rattle.std.specs.Prelude.{◌≡◌, ◌||◌, ℕ, ℤ, List, IfOk, OnOk, false, map};
 ghost use Rattle.std.specs.Cmp.Lexicographic.{slice_cmp};
 ghost use Rattle.std.specs.List.{list_any};
 ghost use Rattle.std.specs.Ordering.{int_eq, is_eq, nat_cmp};
 ghost use Rattle.fact_model.specs.Value.{Key};
 ghost use Rattle.fact_model.specs.declared.fact.Value as facts;
+ghost use Rattle.row_fold.specs.Lent.{value_of};
 ghost use Rattle.sql_lang.specs.Tests.{is_operand};
 ghost use Rattle.sql_slice.specs.Lists.{found_has, has_number, has_text, has_value, lists_have};
 ghost use Rattle.sql_slice.specs.RowFold.{key_passes};
 ghost use Rattle.sql_slice.specs.SqlRows.{value_in};
 
 use crate::keyed::value_in;
-use fact_model::{Memory, Value};
+use fact_model::Memory;
+use row_fold::LentValue;
 use sql_lang::{Operand, Test};
 use std::alloc::Global;
 use std::collections::BTreeSet;
@@ -49,18 +51,18 @@ impl<'a> Listed<'a> {
     }
 
     /// Whether the value is one of these.
-    fn has(&self, value: &Value) -> bool
-        ensures { result ≡ has_value self.now value.now }
+    fn has(&self, value: LentValue<'_>) -> bool
+        ensures { result ≡ has_value self.now (value_of value.entry) }
     {
         match value {
-            Value::Word(text) => self.texts.contains(text.as_bytes()),
-            Value::Number(number) => has_number(&self.numbers, i128::from(*number)),
+            LentValue::Word(text) => self.texts.contains(text),
+            LentValue::Number(number) => has_number(&self.numbers, i128::from(number)),
         }
     }
 
     /// Whether a key of these attributes has one of the values.
-    fn takes(&self, group: &[u32], key: &[Value]) -> bool
-        ensures { result ≡ found_has self.now (value_in group.now key.now self.now.attr) }
+    fn takes(&self, group: &[u32], key: &[LentValue<'_>]) -> bool
+        ensures { result ≡ found_has self.now (value_in group.now (map value_of key.now) self.now.attr) }
     {
         match value_in(group, key, self.attr) {
             Some(value) => self.has(value),
@@ -119,8 +121,8 @@ pub(crate) fn lists_of<'a>(alloc: Global, tests: &'a [Test]) -> Result<Vec<Liste
 }
 
 /// Whether a key of these attributes has one of the values of each test by IN.
-pub(crate) fn lists_have(lists: &[Listed<'_>], group: &[u32], key: &[Value]) -> bool
-    ensures { result ≡ lists_have group.now lists.now key.now }
+pub(crate) fn lists_have(lists: &[Listed<'_>], group: &[u32], key: &[LentValue<'_>]) -> bool
+    ensures { result ≡ lists_have group.now lists.now (map value_of key.now) }
 {
     lists.iter().all(|list| list.takes(group, key))
 }

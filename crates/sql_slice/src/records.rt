@@ -1,6 +1,7 @@
 //! Groups as records of text.
-ghost use Rattle.std.specs.Prelude.{◌≡◌, [], IfOk, OnOk, map, option_copied};
+ghost use Rattle.std.specs.Prelude.{◌≡◌, [], IfOk, OnOk, map, option_map};
 ghost use Rattle.csv_text.specs.Rows.{with_end, with_field, with_fields, with_rows};
+ghost use Rattle.row_fold.specs.Lent.{value_of};
 ghost use Rattle.sql_slice.specs.Folding.{laid_group};
 ghost use Rattle.sql_slice.specs.RowFold.{laid};
 ghost use Rattle.sql_slice.specs.SqlRows.{found_text, records_text, value_in};
@@ -8,7 +9,8 @@ ghost use Rattle.sql_slice.specs.SqlRows.{found_text, records_text, value_in};
 use crate::fold::Group;
 use crate::keyed::{front, value_in};
 use csv_text::RowWriter;
-use fact_model::{Memory, Text, Value};
+use fact_model::{Memory, Text};
+use row_fold::LentValue;
 use sql_lang::{Item, Query};
 use std::alloc::Global;
 
@@ -38,7 +40,7 @@ fn push_record(writer: &mut RowWriter, query: &Query, group: &Group<'_>) -> Resu
     ensures { OnOk result (writer.new ≡ with_end (with_fields writer.old (laid_group query.now group.now))) }
 {
     let attrs = query.group.as_slice();
-    let key = front(group.row.key.as_slice(), attrs.len());
+    let key = front(&group.key, attrs.len());
     push_items(writer, attrs, query.items.as_slice(), key, &group.numbers)?;
     writer.end_row()
 }
@@ -48,10 +50,10 @@ fn push_items(
     writer: &mut RowWriter,
     group: &[u32],
     items: &[Item],
-    key: &[Value],
+    key: &[LentValue<'_>],
     numbers: &[i128],
 ) -> Result<(), Memory>
-    ensures { OnOk result (writer.new ≡ with_fields writer.old (laid group.now items.now key.now numbers.now)) }
+    ensures { OnOk result (writer.new ≡ with_fields writer.old (laid group.now items.now (map value_of key.now) numbers.now)) }
 {
     let mut numbers = numbers;
     for item in items {
@@ -70,12 +72,12 @@ fn push_items(
 }
 
 /// Appends a value to the row, or an empty field where there is none.
-fn push_found(writer: &mut RowWriter, value: Option<&Value>) -> Result<(), Memory>
-    ensures { OnOk result (writer.new ≡ with_field writer.old (found_text (option_copied value.entry))) }
+fn push_found(writer: &mut RowWriter, value: Option<LentValue<'_>>) -> Result<(), Memory>
+    ensures { OnOk result (writer.new ≡ with_field writer.old (found_text (option_map value_of value.entry))) }
 {
     match value {
-        Some(Value::Word(text)) => writer.push_field(text.as_bytes()),
-        Some(Value::Number(number)) => writer.push_natural(*number),
+        Some(LentValue::Word(text)) => writer.push_field(text),
+        Some(LentValue::Number(number)) => writer.push_natural(number),
         None => writer.push_field(b""),
     }
 }

@@ -13,32 +13,33 @@ ghost use Rattle.sql_slice.specs.SqlRows.{sql_reply};
 use crate::fold::joined_rows;
 use crate::planned::Plan;
 use crate::records::text_of;
-use fact_model::{Memory, Rows, Text};
+use fact_model::{Memory, Text};
+use row_fold::LentRows;
 use sql_lang::Query;
 use std::alloc::Global;
 
 /// The answer to a query, from the rows of its plan's slice: for each list of values of its groups among the facts that meet its tests,
 /// ascending, a record with its items in order, and then the number of records. Where the plan is empty there are none.
-pub fn sql_text(alloc: Global, query: &Query, plan: &Plan, rows: &Rows) -> Result<Text, Memory>
-    requires wide { All (IsWide plan.now.slice.columns) rows.now }
-    requires adds { AddUp rows.now }
+pub fn sql_text<R: LentRows>(alloc: Global, query: &Query, plan: &Plan, rows: &R) -> Result<Text, Memory>
+    requires wide { All (IsWide plan.now.slice.columns) (R.rows rows.now) }
+    requires adds { AddUp (R.rows rows.now) }
     ensures reply { (schema : schemas.Schema) (accepted : List facts.Fact) → SqlAgrees schema query.now → plan.now ≡ plan_of schema query.now
-        → All (Agrees schema) accepted → plan.now.empty ≡ false → rows.now ≡ answers.rows accepted plan.now.slice
+        → All (Agrees schema) accepted → plan.now.empty ≡ false → R.rows rows.now ≡ answers.rows accepted plan.now.slice
         → IfOk result (λ text. text ≡ sql_reply accepted query.now) }
     ensures nothing { (schema : schemas.Schema) (accepted : List facts.Fact) → plan.now ≡ plan_of schema query.now
-        → plan.now.empty ≡ true → rows.now ≡ [] → IfOk result (λ text. text ≡ sql_reply accepted query.now) }
+        → plan.now.empty ≡ true → R.rows rows.now ≡ [] → IfOk result (λ text. text ≡ sql_reply accepted query.now) }
     // Whatever the rows are.
-    ensures exact { IfOk result (λ text. text ≡ query_text query.now plan.now rows.now) }
+    ensures exact { IfOk result (λ text. text ≡ query_text query.now plan.now (R.rows rows.now)) }
 {
     text_from(alloc, query, plan, rows)
 }
 
 /// The records of the rows that pass, joined by the values of the query's groups.
-fn text_from(alloc: Global, query: &Query, plan: &Plan, rows: &Rows) -> Result<Text, Memory>
-    requires wide { All (IsWide plan.now.slice.columns) rows.now }
-    requires adds { AddUp rows.now }
-    ensures { IfOk result (λ text. text ≡ query_text query.now plan.now rows.now) }
+fn text_from<R: LentRows>(alloc: Global, query: &Query, plan: &Plan, rows: &R) -> Result<Text, Memory>
+    requires wide { All (IsWide plan.now.slice.columns) (R.rows rows.now) }
+    requires adds { AddUp (R.rows rows.now) }
+    ensures { IfOk result (λ text. text ≡ query_text query.now plan.now (R.rows rows.now)) }
 {
-    let groups = joined_rows(alloc, query, plan, rows.as_slice())?;
+    let groups = joined_rows(alloc, query, plan, rows)?;
     text_of(alloc, query, &groups)
 }

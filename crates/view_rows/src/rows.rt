@@ -1,5 +1,5 @@
 //! The rows of a slice, which are made as they are written or lent.
-ghost use Rattle.std.specs.Prelude.{◌≡◌, ◌<◌, ◌↔◌, [], pos, All, IfOk, IsTrue, OnErr, OnOk, get_or, length, map};
+ghost use Rattle.std.specs.Prelude.{◌≡◌, ◌<◌, ◌↔◌, [], pos, All, IsTrue, OnErr, OnOk, get_or, length, map};
 ghost use Rattle.std.specs.Fmt.{signed_decimal};
 ghost use Rattle.csv_text.specs.Rows.{nothing_written, row_fields, value_text, with_end, with_field, with_fields, with_rows};
 ghost use Rattle.fact_model.specs.Adds.{AddUp, number_in};
@@ -11,14 +11,12 @@ ghost use Rattle.view_rows.specs.Grouped.{key_of_entry, keyed, value_at_code};
 use crate::adding::add_up;
 use crate::keys::coordinate;
 use crate::lending::lend_row;
-use crate::making::rows_made;
 use crate::ordered::OrderedPoints;
 use attr_dict::{Dicts, ValueRef};
 use csv_text::RowWriter;
 use cube_point::Entry;
-use fact_model::{Cell, Column, Memory, Part, Rows, Slice};
+use fact_model::{Cell, Column, Memory, Part, Slice};
 use row_fold::{LentRow, LentRows};
-use std::alloc::Global;
 use std::marker::Model;
 
 /// The rows of a slice, which contracts see as the list of the rows. Of each there is the point that it is of; its values and numbers are
@@ -68,13 +66,6 @@ impl<'a> SliceRows<'a> {
         ensures { result ≡ length self.now }
     {
         self.points.len()
-    }
-
-    /// The rows, each with its values and numbers made.
-    pub fn to_rows(&self, alloc: Global) -> Result<Rows, Memory>
-        ensures { IfOk result (λ rows. rows ≡ self.now) }
-    {
-        rows_made(alloc, self.names, self.view, self.slice, &self.points)
     }
 
     /// Whether in each column of numbers the magnitudes add up to at most 2^127 - 1. Those of the rows of facts within their masses do. It

@@ -11,11 +11,11 @@ use Rattle.sql_slice.proofs.FoldSteps.{weight_at}
 use Rattle.sql_slice.proofs.fold.joined_rows.Given as goal
 
 -- the groups so far and the last one, with the rows to come, make the groups of all rows; the last one and the rows to come are light
-abbrev pub invariant-loop-row : goal.invariant-loop-row
-invariant-loop-row l = record {
+abbrev pub invariant-loop-place : goal.invariant-loop-place
+invariant-loop-place g l = record {
   rest : map (entry_in l.width) l.groups.items
-      ++ squeezed key_cmp (join_numbers l.columns) (last_entries l.width l.last ++ map (entry_of (front_of l.width)) (filter (λ (r : Row). key_passes l.group l.query.tests r.key) (drop l.row-index l.rows)))
-      ≡ joined_rows l.columns l.width l.group l.query.tests l.rows;
+      ++ squeezed key_cmp (join_numbers l.columns) (last_entries l.width l.last ++ map (entry_of (front_of l.width)) (filter (λ (r : Row). key_passes l.group l.query.tests r.key) (drop l.place (g.R.LentRows.rows l.rows))))
+      ≡ joined_rows l.columns l.width l.group l.query.tests (g.R.LentRows.rows l.rows);
   even : IsEven (length l.columns) l.last;
-  light : (j : ℕ) → last_size j l.last + weight_at j (drop l.row-index l.rows) ≤ mass_limit;
+  light : (j : ℕ) → last_size j l.last + weight_at j (drop l.place (g.R.LentRows.rows l.rows)) ≤ mass_limit;
 }
