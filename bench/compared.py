@@ -261,14 +261,33 @@ def processor_time(site):
         return int(file.read().split()[0])
 
 
+def ended(words, **how):
+    """The processor seconds and the seconds of a program up to its end."""
+    before = resource.getrusage(resource.RUSAGE_CHILDREN)
+    seconds, _ = timed(lambda: subprocess.run(words, check=True, **how))
+    behind = resource.getrusage(resource.RUSAGE_CHILDREN)
+    return behind.ru_utime - before.ru_utime + behind.ru_stime - before.ru_stime, seconds
+
+
+def run_over(room, script, words=()):
+    """The same of a run that is told this script in the folder."""
+    return ended([PROGRAM, *words], cwd=room, input=script.encode(), stdout=subprocess.DEVNULL)
+
+
 def spent(room, script):
-    """The processor seconds and the seconds of a run over a copy of the folder."""
+    """The same over a copy of the folder."""
     with tempfile.TemporaryDirectory() as copy:
         shutil.copytree(room, copy, dirs_exist_ok=True)
-        before = resource.getrusage(resource.RUSAGE_CHILDREN)
-        seconds, _ = timed(lambda: subprocess.run([PROGRAM], cwd=copy, input=script.encode(), stdout=subprocess.DEVNULL, check=True))
-        behind = resource.getrusage(resource.RUSAGE_CHILDREN)
-        return behind.ru_utime - before.ru_utime + behind.ru_stime - before.ru_stime, seconds
+        return run_over(copy, script)
+
+
+def peak_behind(room, command, end):
+    """The greatest memory of a run that has opened the files and carried out the command."""
+    site = Cubetree(room)
+    told(site, command, end)
+    peak = site.peak()
+    site.end()
+    return peak
 
 
 def counted(room, script):
