@@ -2,9 +2,10 @@
 use Rattle.std.proofs.Common.{◌≡◌, ◌∙◌, ◌++◌, length, ℕ, IsTrue, false, Option, Some, None, option_to_list, List, [], ◌∷◌, Result, Ok, Err, IfSome, ap, refl, sym, subst, subst₂, append-nil, append_assoc}
 use Rattle.std.proofs.Common.{length-append, arith}
 use Rattle.cube_run.proofs.Names.{Answers, AnswersByWorld, Cache, CarriesOn, Command, Cost, CostTogether, Costs, Disk, Files, Finished, Ghosts, Gives, HasGone, HasMovedTo, HasReplied, HasStopped}
-use Rattle.cube_run.proofs.Names.{IsErrAnd, IsFirstWhole, IsLeft, IsWithin, Keeps, Leads, OnlyNow, Onward, Reading, Reads, Replied, RepliesTo, Runs, Spends, StandsFor, Held, Stop, World, act, at_rest}
+use Rattle.cube_run.proofs.Names.{IsErrAnd, IsFirstWhole, IsLeft, IsWithin, Keeps, OnlyNow, Onward, Reading, Reads, Replied, RepliesTo, Runs, Spends, StandsFor, Held, Stop, World, act, at_rest}
 use Rattle.cube_run.proofs.Names.{carried_command, carried_start, carried_then, during, joined, one_costs, ready, stands_left, stands_moved, stands_read, started, to_come, whole_with, wider}
 use Rattle.cube_state.proofs.Giving.{gives_some}
+use Rattle.cube_state.specs.Carried.{MayWrite}
 use Rattle.cube_state.specs.declared.stop.Stop.TheVariants as stops
 use Rattle.cube_state.specs.Moves.{Reached, format_told, reached_behind, reached_by, reached_from}
 use Rattle.cube_state.proofs.Moves.{format_past, format_untold, stands_format}
@@ -23,8 +24,17 @@ stood (Some held) d w is = (stands_read held.state d w is.stands, stands_left he
 
 both_replied : (first second : List Command) (a b c : Files) (one two : List ℕ) → Replied first a one b → Replied second b two c → Replied (first ++ second) a (one ++ two) c
 both_replied [] second a b c one two is then = subst₂ (λ (l : List ℕ) (files : Files). Replied second files (l ++ two) c) (sym is.0) is.1 then
-both_replied (command ∷ rest) second a b c one two is then =
-    (is.0, is.1 ++ two, is.2, ap (λ (l : List ℕ). l ++ two) is.3 ∙ append_assoc is.0 is.1 two, is.4, is.5, is.6, both_replied rest second is.2 b c is.1 two is.7 then)
+both_replied (command ∷ rest) second a b c one two is then = record {
+  reply = is.reply;
+  more = is.more ++ two;
+  tells = ap (λ (l : List ℕ). l ++ two) is.tells ∙ append_assoc is.reply is.more two;
+  some = is.some;
+  held = is.held;
+  right = is.right;
+  next = is.next;
+  leaves = is.leaves;
+  rest = both_replied rest second is.next b c is.more two is.rest then;
+}
 
 then_replied : (first second : List Command) (before mid now : Disk) → HasReplied first before mid → HasReplied second mid now → HasReplied (first ++ second) before now
 then_replied first second before mid now one two = record {
@@ -33,11 +43,21 @@ then_replied first second before mid now one two = record {
   each = both_replied first second before.files mid.files now.files one.replies two.replies one.each two.each;
 }
 
-one_replied : (c : Command) (held : Held) (before now : Disk) → RepliesTo held before.files c before.told now.told → Leads c before.files now.files → HasReplied (c ∷ []) before now
-one_replied c held before now is leads = record {
+one_replied : (c : Command) (held : Held) (before now : Disk) → RepliesTo held before.files c before.told now.told → ((MayWrite c → ⊥) → now.files ≡ before.files) → HasReplied (c ∷ []) before now
+one_replied c held before now is leaves = record {
   replies = is.reply;
   told = is.told;
-  each = (is.reply, [], now.files, sym (append-nil is.reply), gives_some held.levels held.state before.files c is.reply is.right, (held, is.right), leads, (refl, refl));
+  each = record {
+    reply = is.reply;
+    more = [];
+    tells = sym (append-nil is.reply);
+    some = gives_some held.levels held.state before.files c is.reply is.right;
+    held = held;
+    right = is.right;
+    next = now.files;
+    leaves = leaves;
+    rest = (refl, refl);
+  };
 }
 
 module _ {S : Type 0} (T : Ghosts S) where

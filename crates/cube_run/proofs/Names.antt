@@ -3,7 +3,7 @@ pub use Rattle.cube_run.specs.Ends.{EndsUnpulled, EndsUntouched, Faults, IsDoneO
 pub use Rattle.cube_run.{specs.Carrying.CarriesOn, specs.Carrying.HasGone, specs.Carrying.HasStopped, specs.Carrying.Reads, specs.Costs.CostsRun, specs.Costs.opening_and, specs.Damage.EndsAt}
 pub use Rattle.cube_run.{specs.Damage.EndsForBreak, specs.Headline.AfterRun, specs.Headline.Finished, specs.Headline.Headline, specs.Headline.Opened, specs.Histories.HistoriesGoOn}
 pub use Rattle.cube_run.{specs.Onward.IsLeft, specs.Onward.IsWithin, specs.Onward.Onward, specs.Pulls.Gave, specs.Pulls.GaveAtMost, specs.Pulls.KeepsLimit, specs.Pulls.PullsInto}
-pub use Rattle.cube_run.{specs.Replied.HasReplied, specs.Replied.Leads, specs.Replied.Replied, specs.Runs.RunsScript, specs.Serving.ByEnd, specs.Serving.Outcome, specs.Serving.Serves, specs.declared.exit.Status.Status}
+pub use Rattle.cube_run.{specs.Replied.HasReplied, specs.Replied.Replied, specs.Runs.RunsScript, specs.Serving.ByEnd, specs.Serving.Outcome, specs.Serving.Serves, specs.declared.exit.Status.Status}
 pub use Rattle.cube_session.specs.Session.{Answers, AnswersByWorld, RepliesTo, Runs, StandsFor, Starts}
 pub use Rattle.cube_state.{proofs.Answering.OnlyNow, proofs.Moves.stands_moved, proofs.SliceCosts.query_costs, proofs.SliceCosts.rollup_costs, proofs.SliceCosts.slice_costs, proofs.Standing.stands_left, proofs.Standing.stands_read, specs.Commands.CostTogether}
 pub use Rattle.cube_state.{specs.Commands.Costs, specs.Commands.none_cost, specs.Commands.one_costs, specs.Costs.Cost, specs.Costs.Spends, specs.Costs.both, specs.Moves.HasMovedTo}

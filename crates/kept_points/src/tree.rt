@@ -1,6 +1,6 @@
 //! The leaves of the views of a tree.
 
-ghost use Rattle.std.specs.Prelude.{◌≡◌, ◌≤◌, ◌<◌, ◌+◌, ◌++◌, ◌^◌, [], ◌∷◌, IfOk, OnOk, get_or, length, set};
+ghost use Rattle.std.specs.Prelude.{◌≡◌, ◌≤◌, ◌<◌, ◌+◌, ◌++◌, ◌^◌, [], ◌∷◌, IfOk, OnErr, OnOk, get_or, length, set};
 ghost use Rattle.page_fmt.specs.Lawful.{HasEntries};
 ghost use Rattle.page_fmt.specs.Taking.{page_count};
 ghost use Rattle.page_fmt.specs.Trees.{room_of};
@@ -52,7 +52,7 @@ impl TreePoints {
     }
 
     /// Keeps a leaf of so many points of an arity, behind leaves that are full; it stood in the page with this number. Only want of memory
-    /// makes it fail.
+    /// makes it fail, and all is then as before.
     pub fn push(
         &mut self,
         arity: usize,
@@ -70,6 +70,7 @@ impl TreePoints {
           leaves = (get_or self.old arity d).leaves ++ page.now ∷ [];
           first = first_or (get_or self.old arity d).first number;
         })) }
+        ensures unchanged { OnErr result (self.new ≡ self.old) }
         ensures nine { length self.old ≡ 9 }
     {
         self.views[arity].push(page, count, number)

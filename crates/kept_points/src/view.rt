@@ -102,14 +102,16 @@ impl ViewPoints {
         )
     }
 
-    /// Keeps a leaf of so many points, behind leaves that are full; it stood in the page with this number. Only want of memory makes it fail.
+    /// Keeps a leaf of so many points, behind leaves that are full; it stood in the page with this number. Only want of memory makes it fail,
+    /// and all is then as before.
     pub fn push(&mut self, page: &[u8; PAGE], count: usize, number: u64) -> Result<(), Memory>
         requires page { HasEntries self.old.shape page.now }
         requires count { count ≡ page_count page.now }
         requires few { count ≤ room_of self.old.shape self.old.arity }
         requires full { AreFull self.old }
         requires long { length (points_of self.old) + count < 2 ^ 60 }
-        ensures { OnOk result (self.new ≡ record self.old { leaves = self.old.leaves ++ page.now ∷ []; first = first_or self.old.first number }) }
+        ensures pushed { OnOk result (self.new ≡ record self.old { leaves = self.old.leaves ++ page.now ∷ []; first = first_or self.old.first number }) }
+        ensures unchanged { OnErr result (self.new ≡ self.old) }
     {
         let leaf = Box::new(self.alloc, *page)?;
         self.leaves.push(leaf)?;

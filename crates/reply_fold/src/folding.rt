@@ -1,7 +1,6 @@
 //! Rows folded in the order of their keys, each written as soon as it is whole.
-ghost use Rattle.std.specs.Prelude.{◌≡◌, ◌≤◌, ◌<◌, ◌+◌, ◌^◌, [], ◌∷◌, ◌++◌, ℕ, ℤ, List, IfOk, OnOk, length, map};
-ghost use Rattle.std.specs.Fmt.{signed_decimal};
-ghost use Rattle.csv_text.specs.Rows.{row_fields, value_text, with_end, with_field, with_fields};
+ghost use Rattle.std.specs.Prelude.{◌≡◌, ◌≤◌, ◌<◌, ◌+◌, ◌^◌, [], ◌∷◌, ℕ, ℤ, List, IfOk, OnOk, length, map};
+ghost use Rattle.csv_text.specs.Rows.{row_fields, with_end, with_fields};
 ghost use Rattle.fact_model.specs.Rows.{as_row};
 ghost use Rattle.fact_model.specs.Value.{Key};
 ghost use Rattle.fact_model.specs.declared.slice.Column as columns;
@@ -12,7 +11,8 @@ ghost use Rattle.reply_fold.specs.Order.{row_at};
 
 use crate::order::{compare, key_at, numbers_at};
 use csv_text::RowWriter;
-use fact_model::{Column, Memory, Row, Value};
+use fact_model::{Column, Memory, Row};
+use reply_text::{push_numbers, push_values};
 use row_fold::join_numbers;
 use std::alloc::Global;
 
@@ -91,34 +91,4 @@ impl Folding {
         let Folding { writer, count, .. } = folding;
         writer.into_answer(count)
     }
-}
-
-/// Appends values to the row.
-fn push_values(writer: &mut RowWriter, values: &[Value]) -> Result<(), Memory>
-    ensures { OnOk result (writer.new ≡ with_fields writer.old (map value_text values.now)) }
-{
-    for value in values {
-        push_value(writer, value)?;
-    }
-    Ok(())
-}
-
-/// Appends a value to the row.
-fn push_value(writer: &mut RowWriter, value: &Value) -> Result<(), Memory>
-    ensures { OnOk result (writer.new ≡ with_field writer.old (value_text value.now)) }
-{
-    match value {
-        Value::Word(text) => writer.push_field(text.as_bytes()),
-        Value::Number(number) => writer.push_natural(*number),
-    }
-}
-
-/// Appends numbers to the row.
-fn push_numbers(writer: &mut RowWriter, numbers: &[i128]) -> Result<(), Memory>
-    ensures { OnOk result (writer.new ≡ with_fields writer.old (map signed_decimal numbers.now)) }
-{
-    for number in numbers {
-        writer.push_number(*number)?;
-    }
-    Ok(())
 }

@@ -10,4 +10,4 @@ pub use refusal::{
     refused_batch, refused_gap, refused_level, refused_mass, refused_names, refused_query,
     refused_schema, refused_slice,
 };
-pub use rows::answered;
+pub use rows::{answered, push_numbers, push_values};

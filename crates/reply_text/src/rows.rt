@@ -1,7 +1,7 @@
 //! Replies of rows.
-ghost use Rattle.std.specs.Prelude.{◌≡◌, [], IfOk, OnOk, map};
+ghost use Rattle.std.specs.Prelude.{◌≡◌, [], IfOk, OnErr, OnOk, map};
 ghost use Rattle.std.specs.Fmt.{signed_decimal};
-ghost use Rattle.csv_text.specs.Rows.{row_fields, value_text, with_end, with_field, with_fields, with_rows};
+ghost use Rattle.csv_text.specs.Rows.{nothing_written, row_fields, value_text, with_end, with_field, with_fields, with_rows};
 ghost use Rattle.reply_text.specs.Replies.{answer_text};
 
 use csv_text::RowWriter;
@@ -38,9 +38,10 @@ fn push_row(writer: &mut RowWriter, row: &Row) -> Result<(), Memory>
     writer.end_row()
 }
 
-/// Appends values to the row.
-fn push_values(writer: &mut RowWriter, values: &[Value]) -> Result<(), Memory>
-    ensures { OnOk result (writer.new ≡ with_fields writer.old (map value_text values.now)) }
+/// Appends values to the row. After `Memory` the writer is as a new one.
+pub fn push_values(writer: &mut RowWriter, values: &[Value]) -> Result<(), Memory>
+    ensures written { OnOk result (writer.new ≡ with_fields writer.old (map value_text values.now)) }
+    ensures dropped { OnErr result (writer.new ≡ nothing_written) }
 {
     for value in values {
         push_value(writer, value)?;
@@ -50,7 +51,8 @@ fn push_values(writer: &mut RowWriter, values: &[Value]) -> Result<(), Memory>
 
 /// Appends a value to the row.
 fn push_value(writer: &mut RowWriter, value: &Value) -> Result<(), Memory>
-    ensures { OnOk result (writer.new ≡ with_field writer.old (value_text value.now)) }
+    ensures written { OnOk result (writer.new ≡ with_field writer.old (value_text value.now)) }
+    ensures dropped { OnErr result (writer.new ≡ nothing_written) }
 {
     match value {
         Value::Word(text) => writer.push_field(text.as_bytes()),
@@ -58,9 +60,10 @@ fn push_value(writer: &mut RowWriter, value: &Value) -> Result<(), Memory>
     }
 }
 
-/// Appends numbers to the row.
-fn push_numbers(writer: &mut RowWriter, numbers: &[i128]) -> Result<(), Memory>
-    ensures { OnOk result (writer.new ≡ with_fields writer.old (map signed_decimal numbers.now)) }
+/// Appends numbers to the row. After `Memory` the writer is as a new one.
+pub fn push_numbers(writer: &mut RowWriter, numbers: &[i128]) -> Result<(), Memory>
+    ensures written { OnOk result (writer.new ≡ with_fields writer.old (map signed_decimal numbers.now)) }
+    ensures dropped { OnErr result (writer.new ≡ nothing_written) }
 {
     for number in numbers {
         writer.push_number(*number)?;
