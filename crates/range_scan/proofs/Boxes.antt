@@ -34,7 +34,7 @@ inside-meets region es k d lt inside =
     let here = at i few in
     omega (arith, low, high, lower, upper, here.0, here.1))
 
-filter-none : {A : Type 0} (p : A → Bool) (xs : List A) → ((k : ℕ) (d : A) → k < length xs → p (get_or xs k d) ≡ false) → filter p xs ≡ []
+pub filter-none : {A : Type 0} (p : A → Bool) (xs : List A) → ((k : ℕ) (d : A) → k < length xs → p (get_or xs k d) ≡ false) → filter p xs ≡ []
 filter-none p [] h = refl
 filter-none p (x ∷ xs) h =
     ap (λ b. cond b (x ∷ filter p xs) (filter p xs)) (h 0 x (omega arith)) ∙ filter-none p xs (λ k d lt. h (suc k) d (omega (arith, lt)))

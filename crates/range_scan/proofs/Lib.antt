@@ -4,6 +4,7 @@ pub mod Boxes
 pub mod Downward
 pub mod Kept
 pub mod Lists
+pub mod Meetings
 pub mod Once
 pub mod Packed
 pub mod Ranges

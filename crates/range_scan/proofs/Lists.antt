@@ -1,8 +1,7 @@
 -- One element more of a list.
-use Rattle.std.proofs.Common.{◌≡◌, ◌≤◌, ◌<◌, ◌+◌, ◌++◌, inl, inr, arith, length-append, refl, subst, ℕ, zero, suc, Bool, true, false, List, [], ◌∷◌, cond, length, get_or, filter, map, reverse, take, drop, sym, ap, ◌∙◌, append_assoc, append-nil}
-use Rattle.std.proofs.lemmas.Bool.{cases_lt}
-use Rattle.std.proofs.lemmas.List.{drop_more, get_or_default, get_or_push, reverse-append}
-use Rattle.std.proofs.lemmas.List.Elements.{All-cons, All-nil, All-push, filter_more}
+use Rattle.std.proofs.Common.{◌≡◌, ◌≤◌, ◌<◌, ◌+◌, ◌++◌, arith, length-append, refl, subst, ℕ, zero, suc, Bool, true, false, List, [], ◌∷◌, cond, length, get_or, filter, map, reverse, take, drop, sym, ap, ◌∙◌, append_assoc, append-nil}
+use Rattle.std.proofs.lemmas.List.{drop_more, get_or_push, reverse-append}
+use Rattle.std.proofs.lemmas.List.Elements.{All-cons, All-nil, filter_more}
 use Rattle.cube_point.specs.declared.bounds.Region.{Region}
 use Rattle.page_fmt.specs.declared.page.Child.{Child}
 use Rattle.page_fmt.specs.declared.page.Place.{Place}
@@ -46,25 +45,9 @@ module _ (region : Region) (cs : List Child) where
   passes_by i j c now old next lt is apart so_far =
       so_far ∙ (ap (λ (k : ℕ). from k ++ old) next ∙ ap (λ (l : List ℕ). l ++ old) (sym (first i c false lt is apart)))
 
--- the same of what holds of the pages of all children passed
-pub within-more : (first : ℕ) (cs : List Child) (i j : ℕ) → j ≡ i + 1 → (c : Child) → c ≡ get_or cs i c → first ≤ c.page
-    → ((k : ℕ) (d : Child) → j ≤ k → k < length cs → first ≤ (get_or cs k d).page) → (k : ℕ) (d : Child) → i ≤ k → k < length cs → first ≤ (get_or cs k d).page
-within-more first cs i j next c is here passed k d low lt = elim (cases_lt i k) [
-  | inl past ↦ passed k d (omega (arith, next, past)) lt
-  | inr not ↦
-      let same : i ≡ k = omega (arith, low, not) in
-      let at = ap (λ (x : Child). x.page) (get_or_default cs k c d lt) in
-      let own = ap (λ (n : ℕ). (get_or cs n c).page) same in
-      let page = ap (λ (x : Child). x.page) is in
-      omega (arith, here, page, own, at)
-]
-
 -- one of the tree's pages
-abbrev IsOf : Place → ℕ → Type 0
+abbrev pub IsOf : Place → ℕ → Type 0
 IsOf tree number = (tree.first ≤ number) × (number < tree.first + tree.pages)
-
-pub ahead-more : (tree : Place) (ahead : List ℕ) (page : ℕ) → AreAhead tree ahead → tree.first ≤ page → page < tree.first + tree.pages → AreAhead tree (ahead ++ page ∷ [])
-ahead-more tree ahead page all low high = All-push (IsOf tree) ahead page all (low, high)
 
 -- the page that comes next is one of the tree
 pub ahead-next : (tree : Place) (ahead rest : List ℕ) (page : ℕ) → ahead ≡ rest ++ page ∷ [] → AreAhead tree ahead → (tree.first ≤ page) × (page < tree.first + tree.pages)

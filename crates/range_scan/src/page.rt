@@ -1,27 +1,26 @@
 //! What a search takes from one page.
 
-ghost use Rattle.std.specs.Prelude.{◌≡◌, ◌↔◌, ◌<◌, ◌≤◌, ◌+◌, ◌*◌, ◌++◌, ◌^◌, ℕ, IsTrue, List, Ok, OnOk, IfOk, IfErr, drop, filter, length, reverse};
-ghost use Rattle.std.specs.List.{All};
+ghost use Rattle.std.specs.Prelude.{◌≡◌, ◌<◌, ◌≤◌, ◌+◌, ◌*◌, ◌++◌, ◌^◌, ℕ, IsTrue, List, Ok, OnOk, IfErr, drop, filter, length};
 ghost use Rattle.std.specs.Result.{IsErrOf};
 ghost use Rattle.cube_point.specs.Boxes.{IsInside};
 ghost use Rattle.cube_point.specs.declared.point.Entry as points;
-ghost use Rattle.page_fmt.specs.declared.page.Child.{Child};
 ghost use Rattle.page_fmt.specs.InFiles.{IsPageOf};
-ghost use Rattle.page_fmt.specs.Lawful.{HasChildren, HasEntries};
+ghost use Rattle.page_fmt.specs.Lawful.{HasEntries};
 ghost use Rattle.page_fmt.specs.Pages.{width};
-ghost use Rattle.page_fmt.specs.Taking.{children, entries, page_arity, page_count, point_of, taken};
+ghost use Rattle.page_fmt.specs.Taking.{entries, page_arity, page_count, point_of, taken};
 ghost use Rattle.page_fmt.specs.declared.page.TheConstants.{PAGE};
 ghost use Rattle.page_fmt.specs.Writing.{AreEntries, IsShape};
 ghost use Rattle.range_scan.specs.Meeting.{is_inside};
 ghost use Rattle.range_scan.specs.Searching.{NamesPage};
 ghost use Rattle.range_scan.specs.Steps.{AreAhead, ExplainsStop, IsVisited};
-ghost use Rattle.range_scan.specs.Visits.{hits, met, page_of};
+ghost use Rattle.range_scan.specs.Visits.{hits, page_of};
 
+use crate::children::take_children;
 use crate::ends::{first_bound, is_whole};
 use crate::walk::{Query, SearchStop};
-use cube_point::{Region, Shape, meets};
+use cube_point::{Region, Shape};
 use fact_model::Memory;
-use page_fmt::{HEADER, Head, Node, PAGE, coordinate_at, inner_entry, lent_entry, size_of_entry};
+use page_fmt::{HEADER, Head, Node, PAGE, coordinate_at, lent_entry, size_of_entry};
 use point_taker::Taker;
 
 /// Takes the points or the children of the page with this number, which was accepted with this head.
@@ -224,37 +223,4 @@ fn is_out(page: &[u8; PAGE], wide: bool, at: usize, region: &Region, dimension: 
 {
     let own = coordinate_at(page, wide, at, dimension);
     own < region.bounds.low[dimension] || region.bounds.high[dimension] < own
-}
-
-/// Puts the children of an inner page whose boxes meet the region behind the others, the first child last, since the last
-/// page ahead is visited next. False, where a child stands before the tree's first page.
-fn take_children(
-    page: &[u8; PAGE],
-    query: &Query<'_>,
-    count: u16,
-    ahead: &mut Vec<u64>,
-) -> Result<bool, Memory>
-    requires page { HasChildren query.now.tree.now.shape page.now }
-    requires said { count ≡ page_count page.now }
-    requires count { count ≡ length (children query.now.tree.now.shape page.now) }
-    requires below { All (λ (c : Child). c.page < query.now.tree.now.first + query.now.tree.now.pages) (children query.now.tree.now.shape page.now) }
-    requires ahead { AreAhead query.now.tree.now ahead.old.items }
-
-    ensures within { IfOk result (λ taken. IsTrue taken
-        ↔ All (λ (c : Child). query.now.tree.now.first ≤ c.page) (children query.now.tree.now.shape page.now)) }
-    ensures goes_on { IfOk result (λ taken. IsTrue taken
-        → reverse ahead.new.items ≡ met query.now.region.now (children query.now.tree.now.shape page.now) ++ reverse ahead.old.items) }
-    ensures ahead { OnOk result (AreAhead query.now.tree.now ahead.new.items) }
-{
-    let count = count as usize;
-    for passed in 0..count {
-        let child = inner_entry(page, &query.tree.shape, count - 1 - passed);
-        if child.page < query.tree.first {
-            return Ok(false);
-        }
-        if meets(&child.bounds, query.region) {
-            ahead.push(child.page)?;
-        }
-    }
-    Ok(true)
 }

@@ -44,6 +44,17 @@ take_children-requires-clause-count g c =
     let node : c.args.head.node ≡ nodes.Inner = search rules in
     (as-inner c.args.query.now.tree.now.shape c.requires.shape c.args.number c.args.page.now c.fits-page c.told-page c.args.head c.requires.accepted node).1.count
 
+pub take_children-requires-clause-some : goal.take_children-requires-clause-some
+take_children-requires-clause-some g c =
+    let node : c.args.head.node ≡ nodes.Inner = search rules in
+    let inner = (as-inner c.args.query.now.tree.now.shape c.requires.shape c.args.number c.args.page.now c.fits-page c.told-page c.args.head c.requires.accepted node).1 in
+    omega (arith, inner.some, inner.count)
+
+pub take_children-requires-clause-holds : goal.take_children-requires-clause-holds
+take_children-requires-clause-holds g c =
+    let node : c.args.head.node ≡ nodes.Inner = search rules in
+    (as-inner c.args.query.now.tree.now.shape c.requires.shape c.args.number c.args.page.now c.fits-page c.told-page c.args.head c.requires.accepted node).1.holds
+
 pub take_children-requires-clause-below : goal.take_children-requires-clause-below
 take_children-requires-clause-below g c =
     let node : c.args.head.node ≡ nodes.Inner = search rules in
