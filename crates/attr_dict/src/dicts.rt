@@ -25,6 +25,7 @@ use crate::take::take_in;
 use cube_schema::{Attr, Kind, Schema};
 use fact_batch::Batch;
 use fact_model::{GREATEST_NUMBER, Memory, Text, Value};
+use hash_seed::Seed;
 use std::alloc::Global;
 use std::marker::Model;
 
@@ -42,6 +43,7 @@ pub enum ValueRef<'a> {
 #[derive(Drop)]
 pub struct Dicts {
     alloc: Global,
+    seed: Seed,
     kinds: Vec<Kind>,
     names: Vec<Names>,
 }
@@ -57,18 +59,24 @@ impl Model for Dicts {
 }
 
 impl Dicts {
-    /// No names, for the attributes of this schema.
-    pub fn new(alloc: Global, schema: &Schema) -> Result<Dicts, Memory>
+    /// No names, for the attributes of this schema, whose hash has this seed.
+    pub fn new(alloc: Global, seed: Seed, schema: &Schema) -> Result<Dicts, Memory>
         requires { IsSchema schema.now }
         ensures { IfOk result (λ dicts. dicts ≡ no_names schema.now) }
     {
         let kinds = kinds_of(alloc, schema.attrs.as_slice())?;
-        let names = no_names(alloc, schema.attrs.as_slice())?;
+        let names = no_names(alloc, seed, schema.attrs.as_slice())?;
         Ok(Dicts {
             alloc,
+            seed,
             kinds,
             names,
         })
+    }
+
+    /// The seed of their hash.
+    pub fn seed(&self) -> Seed {
+        self.seed
     }
 
     /// The coordinate of a value. It is none exactly where a text has no code or the value is not of the attribute's kind.
@@ -194,12 +202,12 @@ fn kinds_of(alloc: Global, attrs: &[Attr]) -> Result<Vec<Kind>, Memory>
     Ok(kinds)
 }
 
-fn no_names(alloc: Global, attrs: &[Attr]) -> Result<Vec<Names>, Memory>
+fn no_names(alloc: Global, seed: Seed, attrs: &[Attr]) -> Result<Vec<Names>, Memory>
     ensures { IfOk result (λ names. names.items ≡ map (λ (attr : Attr). none_yet) attrs.now) }
 {
     let mut names = Vec::new(alloc);
     for _attr in attrs {
-        names.push(Names::new(alloc))?;
+        names.push(Names::new(alloc, seed))?;
     }
     Ok(names)
 }

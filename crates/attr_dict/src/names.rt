@@ -5,13 +5,14 @@ ghost use Rattle.std.specs.Str.{bytes_eq};
 ghost use Rattle.view_points.specs.Codes.{admitted, place};
 
 use fact_model::{Memory, Text};
+use hash_seed::Seed;
 use indexmap::IndexSet;
 use std::alloc::Global;
 use std::marker::Model;
 
 /// Distinct texts in order of first appearance. Codes count from 1.
 pub(crate) struct Names {
-    set: IndexSet<Text>,
+    set: IndexSet<Text, Seed>,
 }
 
 // By hand, so that the proof that the set is let go stands here alone and not in each crate that lets names go.
@@ -30,12 +31,12 @@ impl Model for Names {
 }
 
 impl Names {
-    /// No names.
-    pub(crate) fn new(alloc: Global) -> Names
+    /// No names, for a hash of this seed.
+    pub(crate) fn new(alloc: Global, seed: Seed) -> Names
         ensures { result ≡ [] }
     {
         Names {
-            set: IndexSet::new(alloc),
+            set: IndexSet::with_hasher(alloc, seed),
         }
     }
 

@@ -7,12 +7,14 @@ use crate::exit::Status;
 use crate::serve::serve;
 use cube_session::Session;
 use cube_words::cache_of;
+use hash_seed::Seed;
 use site_core::{Site, Source};
 use std::alloc::Global;
 
 /// Runs a script within a limit of bytes, or tells what ended the run: the words are read, the files opened, and the script served.
 pub fn attempt<S: Source, T: Site>(
     alloc: Global,
+    seed: Seed,
     words: &[String],
     source: &mut S,
     site: &mut T,
@@ -22,6 +24,6 @@ pub fn attempt<S: Source, T: Site>(
     ensures runs { RunsScript S.Source T.Site (map string_bytes words.now) limit source.old source.new site.old site.new (ended result) }
 {
     let cache = cache_of(alloc, words)?;
-    let mut session = Session::start(alloc, site, cache)?;
+    let mut session = Session::start(alloc, seed, site, cache)?;
     serve(alloc, &mut session, source, site, limit)
 }

@@ -6,16 +6,17 @@ ghost use Rattle.cube_session.specs.Auditing.{Audits};
 use cube_state::Stop;
 use fact_model::Memory;
 use forest_audit::{AuditStop, Verdict};
+use hash_seed::Seed;
 use reply_text::{broken, plain};
 use site_core::Site;
 use std::alloc::Global;
 
 /// Opens the files anew and audits them, and gives the line of the verdict. Damage is the verdict, and no error: an error is that a file failed
 /// or memory ran out. Nothing is written.
-pub fn audit<T: Site>(alloc: Global, site: &mut T) -> Result<Vec<u8>, Stop>
+pub fn audit<T: Site>(alloc: Global, seed: Seed, site: &mut T) -> Result<Vec<u8>, Stop>
     ensures { Audits T.Site site.old site.new result }
 {
-    match forest_audit::audit(alloc, site) {
+    match forest_audit::audit(alloc, seed, site) {
         Ok(verdict) => Ok(verdict_line(alloc, verdict)?),
         Err(AuditStop::Disk) => Err(Stop::Disk),
         Err(AuditStop::Memory) => Err(Stop::Memory),

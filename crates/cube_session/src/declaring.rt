@@ -6,6 +6,7 @@ ghost use Rattle.script_lang.specs.declared.command.Command.TheVariants as says;
 use crate::answering::plain;
 use cube_schema::Schema;
 use cube_state::{State, Stop};
+use hash_seed::Seed;
 use script_lang::Block;
 use site_core::Site;
 use std::alloc::Global;
@@ -14,6 +15,7 @@ use std::alloc::Global;
 /// the schema is declared or is not.
 pub fn declare<T: Site>(
     alloc: Global,
+    seed: Seed,
     state: &mut State,
     block: Block,
     site: &mut T,
@@ -29,7 +31,7 @@ pub fn declare<T: Site>(
     };
     match Schema::read(alloc, text.as_bytes()) {
         Ok(schema) => {
-            let store = forest_open::init(alloc, site, schema)?;
+            let store = forest_open::init(alloc, seed, site, schema)?;
             state.set(State::Idle(store));
             plain(alloc, "declared")
         }

@@ -12,6 +12,7 @@ use crate::held::Held;
 use cube_batches::{abandon, begin, finish, load, step, upgrade};
 use cube_slices::{explain, level, rollup, slice, sql};
 use cube_state::Stop;
+use hash_seed::Seed;
 use page_cache::Pages;
 use plain_machine::BatchSource;
 use script_lang::Command;
@@ -22,6 +23,7 @@ use std::alloc::Global;
 /// an error, which ends the session. Damage leaves the names and the pages that count as they were.
 pub fn act<T: Site>(
     alloc: Global,
+    seed: Seed,
     pages: &mut Pages,
     held: &mut Held,
     command: Command,
@@ -34,7 +36,7 @@ pub fn act<T: Site>(
 {
     let state = &mut held.state;
     match command {
-        Command::Schema(block) => declare(alloc, state, block, site),
+        Command::Schema(block) => declare(alloc, seed, state, block, site),
         Command::Load(block) => load(alloc, pages, state, BatchSource::Rows(block), site),
         Command::LoadNumbered { number, block } => {
             let source = BatchSource::Numbered { number, block };
@@ -57,7 +59,7 @@ pub fn act<T: Site>(
         Command::Finish => finish(alloc, pages, state, site),
         Command::Abandon => abandon(alloc, state, site),
         Command::Upgrade => upgrade(alloc, pages, state, site),
-        Command::Audit => audit(alloc, site),
+        Command::Audit => audit(alloc, seed, site),
         Command::LongLine => plain(alloc, "refused long line"),
         Command::OpenBlock => plain(alloc, "refused open block"),
         Command::Unknown => plain(alloc, "refused unknown"),

@@ -7,6 +7,7 @@ use crate::held::Held;
 use crate::machine::act;
 use cube_state::{State, Stop};
 use forest_root::Store;
+use hash_seed::Seed;
 use page_cache::Pages;
 use roll_up::LevelList;
 use script_lang::Command;
@@ -17,6 +18,7 @@ use std::alloc::Global;
 #[derive(Drop)]
 pub struct Session {
     alloc: Global,
+    seed: Seed,
     /// The pages that are kept between slices.
     pub pages: Pages,
     /// What it has, and nothing once it has stopped.
@@ -24,17 +26,23 @@ pub struct Session {
 }
 
 impl Session {
-    /// Opens the files, for a session that may keep so many pages between slices. Nothing is changed, also after an error; it never
+    /// Opens the files, for a session that may keep so many pages between slices, and whose hashes of texts have this seed. Nothing is changed, also after an error; it never
     /// answers `Output`.
     ///
     /// `Damaged` comes exactly where the files break a rule of opening, and names the first one, unless a file fails or memory runs out before.
-    pub fn start<T: Site>(alloc: Global, site: &mut T, cache: u32) -> Result<Session, Stop>
+    pub fn start<T: Site>(
+        alloc: Global,
+        seed: Seed,
+        site: &mut T,
+        cache: u32,
+    ) -> Result<Session, Stop>
         ensures { Starts T.Site cache site.old site.new result }
     {
         let pages = Pages::new(alloc, cache)?;
-        match forest_open::open_store(alloc, site) {
+        match forest_open::open_store(alloc, seed, site) {
             Ok(found) => Ok(Session {
                 alloc,
+                seed,
                 pages,
                 held: Some(opened(alloc, found)),
             }),
@@ -69,7 +77,7 @@ impl Session {
         let Some(held) = &mut self.held else {
             unreachable!()
         };
-        let answered = answer(self.alloc, &mut self.pages, held, command, site);
+        let answered = answer(self.alloc, self.seed, &mut self.pages, held, command, site);
         if answered.is_err() {
             self.held = None;
         }
@@ -104,6 +112,7 @@ fn moves_of(state: &State) -> u64
 /// Carries out a command and emits its reply.
 fn answer<T: Site>(
     alloc: Global,
+    seed: Seed,
     pages: &mut Pages,
     held: &mut Held,
     command: Command,
@@ -112,7 +121,7 @@ fn answer<T: Site>(
     requires { IsGoing T.Site site.old pages.old held.old }
     ensures answers { Answers T.Site command held.old (unless_stopped held.new result) site.old site.new pages.old pages.new result }
 {
-    match act(alloc, pages, held, command, site) {
+    match act(alloc, seed, pages, held, command, site) {
         Ok(reply) => match site.emit(&reply) {
             Ok(()) => Ok(()),
             Err(Fault) => Err(Stop::Output),

@@ -3,6 +3,7 @@ ghost use Rattle.std.specs.Prelude.{◌≤◌, ◌^◌, map, string_bytes};
 ghost use Rattle.cube_run.specs.Runs.{RunsScript};
 
 use cube_run::{Status, attempt};
+use hash_seed::Seed;
 use site_core::{Site, Source};
 use std::alloc::Global;
 
@@ -13,13 +14,14 @@ const SCRIPT_LIMIT: u64 = 1 << 30;
 /// reply to each. It is `run_within` with that limit.
 pub fn run<S: Source, T: Site>(
     alloc: Global,
+    seed: Seed,
     words: &[String],
     source: &mut S,
     site: &mut T,
 ) -> Status
     ensures runs { RunsScript S.Source T.Site (map string_bytes words.now) (2 ^ 30) source.old source.new site.old site.new result }
 {
-    run_within(alloc, words, source, site, SCRIPT_LIMIT)
+    run_within(alloc, seed, words, source, site, SCRIPT_LIMIT)
 }
 
 /// Runs a script within a limit of bytes, which is at most 2^30. The words are those after the program's name, and words that do not
@@ -29,6 +31,7 @@ pub fn run<S: Source, T: Site>(
 /// once. A batch that is pending at the end is dropped.
 pub fn run_within<S: Source, T: Site>(
     alloc: Global,
+    seed: Seed,
     words: &[String],
     source: &mut S,
     site: &mut T,
@@ -37,7 +40,7 @@ pub fn run_within<S: Source, T: Site>(
     requires { limit ≤ 2 ^ 30 }
     ensures runs { RunsScript S.Source T.Site (map string_bytes words.now) limit source.old source.new site.old site.new result }
 {
-    match attempt(alloc, words, source, site, limit) {
+    match attempt(alloc, seed, words, source, site, limit) {
         Ok(()) => Status::Done,
         Err(status) => status,
     }

@@ -11,6 +11,7 @@ ghost use Rattle.cube_state.specs.Visits.{schema_of, store_of};
 use cube_schema::Schema;
 use cube_state::{State, Stop};
 use fact_model::{Memory, Text};
+use hash_seed::Seed;
 use reply_text::{leveled, plain, refused_level};
 use roll_up::{LevelList, read_level};
 use script_lang::Block;
@@ -33,13 +34,18 @@ pub fn level(
 {
     match state.store() {
         None => Ok(plain(alloc, "refused no schema")?),
-        Some(store) => Ok(level_over(alloc, &store.forest.schema, levels, name, attr, block)?),
+        Some(store) => {
+            let seed = store.dicts.seed();
+            let schema = &store.forest.schema;
+            Ok(level_over(alloc, seed, schema, levels, name, attr, block)?)
+        }
     }
 }
 
 /// The same over a schema. A block that is too long is refused where the name and the attribute are not.
 fn level_over(
     alloc: Global,
+    seed: Seed,
     schema: &Schema,
     levels: &mut LevelList,
     name: &Text,
@@ -52,17 +58,18 @@ fn level_over(
     ensures added { OnOk result (levels.new ≡ levels.old ++ level_by (Some schema.now) levels.old name.now attr.now block.now) }
 {
     let Block::Whole(text) = block else {
-        return match read_level(alloc, schema, levels, name, attr, b"") {
+        return match read_level(alloc, seed, schema, levels, name, attr, b"") {
             Ok(_) => plain(alloc, "refused block"),
             Err(refusal) => refused_level(alloc, refusal),
         };
     };
-    add_level(alloc, schema, levels, name, attr, text.as_bytes())
+    add_level(alloc, seed, schema, levels, name, attr, text.as_bytes())
 }
 
 /// The same by the bytes of a block.
 fn add_level(
     alloc: Global,
+    seed: Seed,
     schema: &Schema,
     levels: &mut LevelList,
     name: &Text,
@@ -74,7 +81,7 @@ fn add_level(
     ensures said { IfOk result (λ reply. reply.items ≡ read_reply (level_of schema.now levels.old name.now attr.now block.now)) }
     ensures added { OnOk result (levels.new ≡ levels.old ++ level_read (level_of schema.now levels.old name.now attr.now block.now)) }
 {
-    match read_level(alloc, schema, levels, name, attr, block) {
+    match read_level(alloc, seed, schema, levels, name, attr, block) {
         Ok(level) => {
             let reply = leveled(alloc, level.parents.len() as u64)?;
             levels.push(level)?;

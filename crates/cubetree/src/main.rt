@@ -4,11 +4,13 @@
 mod words;
 
 use cube_shell::{Status, run};
+use hash_seed::Seed;
 use real_host::{CurrentFolder, StandardInput};
 use site_folder::{FolderSite, Input};
 use std::io;
 use std::io::Print;
 use std::process::ExitCode;
+use std::random::RandomSource;
 use words::{fault_of_words, words};
 
 /// Writes what went wrong to standard error.
@@ -27,11 +29,19 @@ fn report(rt: &HostRuntime, status: Status) -> io::Result<()> {
     }
 }
 
+/// A seed that is drawn for this run. Where the system gives no bytes it is a fixed one: then texts can be chosen for it.
+fn drawn_seed(rt: &HostRuntime) -> Seed {
+    let mut bytes = [0; 16];
+    let _ = rt.fill_bytes(&mut bytes);
+    Seed::new(u128::from_le_bytes(bytes))
+}
+
 /// Runs the script, where the words can be read as texts.
 fn run_here(rt: &HostRuntime) -> Status {
     match words(rt) {
         Ok(words) => run(
             rt.alloc(),
+            drawn_seed(rt),
             &words,
             &mut Input::new(StandardInput::new(rt.stdin())),
             &mut FolderSite::new(CurrentFolder::new(rt)),

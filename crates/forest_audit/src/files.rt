@@ -18,6 +18,7 @@ use crate::verdict::{AuditStop, Verdict};
 use crate::views::{first_wrong, points_of};
 use forest_open::{OpenStop, open_store};
 use forest_root::Store;
+use hash_seed::Seed;
 use kept_points::TreePoints;
 use page_fmt::PAGE;
 use site_core::{SIDES, Site};
@@ -29,7 +30,11 @@ use tree_audit::{TreeAudit, TreeStop};
 /// `Empty` where no slot is raised; `Yes` where all rules are kept; `No` with the place of the first that is broken: a rule of opening; a page
 /// that is not the one that the numbers of points and the pages before it fix; a view whose counts do not add up to the facts, or which is not
 /// the roll-up of another view that has all its attributes.
-pub fn audit<T: Site>(alloc: Global, site: &mut T) -> Result<Verdict, AuditStop>
+pub fn audit<T: Site>(
+    alloc: Global,
+    seed: Seed,
+    site: &mut T,
+) -> Result<Verdict, AuditStop>
     ensures verdict { IsTrue T.tells → IfOk result (IsVerdict (T.disk site.old).files) }
     // And there is no other verdict of these files.
     ensures exact { IsTrue T.tells → (verdict : verdicts.Verdict) → IsVerdict (T.disk site.old).files verdict → IfOk result (λ found. found ≡ verdict) }
@@ -41,11 +46,15 @@ pub fn audit<T: Site>(alloc: Global, site: &mut T) -> Result<Verdict, AuditStop>
     ensures cost { IsTrue T.tells → CostsAudit (T.disk site.old).files (T.reads site.old) (T.reads site.new) }
     ensures writes { T.writes site.new ≡ T.writes site.old }
 {
-    audit_files(alloc, site)
+    audit_files(alloc, seed, site)
 }
 
 /// The same.
-fn audit_files<T: Site>(alloc: Global, site: &mut T) -> Result<Verdict, AuditStop>
+fn audit_files<T: Site>(
+    alloc: Global,
+    seed: Seed,
+    site: &mut T,
+) -> Result<Verdict, AuditStop>
     ensures verdict { IsTrue T.tells → IfOk result (IsVerdict (T.disk site.old).files) }
     ensures disk { IsTrue T.tells → Settles Stays (T.disk site.old) (T.disk site.new) result }
     ensures calls { CallsOnly T.Site (HasCauseWhere AuditStop.Disk) (1 + 2 ^ 36 + 2 ^ 50) 0 site.old site.new result }
@@ -53,7 +62,7 @@ fn audit_files<T: Site>(alloc: Global, site: &mut T) -> Result<Verdict, AuditSto
         → T.reads site.new ≤ T.reads site.old + (1 + names + trees) }
     ensures writes { T.writes site.new ≡ T.writes site.old }
 {
-    match open_store(alloc, site) {
+    match open_store(alloc, seed, site) {
         Ok(None) => Ok(Verdict::Empty),
         Ok(Some(store)) => audit_store(alloc, site, &store),
         Err(OpenStop::Damaged { file, offset }) => Ok(Verdict::No { file, offset }),

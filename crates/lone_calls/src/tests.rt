@@ -9,6 +9,7 @@ use fact_model::{
 };
 use forest_open::{init, open_store};
 use forest_root::Store;
+use hash_seed::Seed;
 use page_cache::Pages;
 use part_host::PartHost;
 use script_lang::{Command, Lines};
@@ -111,8 +112,8 @@ fn sums_by_year(alloc: Global, site: &mut MemorySite, store: &Store) -> Result<T
 /// Declares a schema in files that keep none.
 fn declared(alloc: Global, site: &mut MemorySite) -> Result<Store, Fail> {
     let schema = Schema::read(alloc, b"attr year number\nmeasure qty\nview year\n")?;
-    match open_store(alloc, site)? {
-        None => Ok(init(alloc, site, schema)?),
+    match open_store(alloc, Seed::new(1), site)? {
+        None => Ok(init(alloc, Seed::new(1), site, schema)?),
         Some(store) => Ok(store),
     }
 }

@@ -14,6 +14,7 @@ use csv::ByteRecord;
 use csv_text::{block_reader, read_record};
 use cube_schema::{Kind, Schema, is_name};
 use fact_model::{LONGEST_TEXT, Memory, Text, Value};
+use hash_seed::Seed;
 use slice_lang::read_coordinate;
 use std::alloc::Global;
 
@@ -23,10 +24,11 @@ const MOST_ROWS: u64 = 262_144;
 /// The most attributes and levels together.
 const MOST_ATTRS: usize = 16;
 
-/// Reads a level of this name, whose block has for values of an attribute their parents, one row for each. It is refused by the first
+/// Reads a level of this name, whose block has for values of an attribute their parents, one row for each. The hash of its values has this seed. It is refused by the first
 /// reason against it in the order of the refusals; of rows the first faulty one is named.
 pub fn read_level(
     alloc: Global,
+    seed: Seed,
     schema: &Schema,
     levels: &LevelList,
     name: &Text,
@@ -42,6 +44,7 @@ pub fn read_level(
 {
     read_named(
         alloc,
+        seed,
         schema,
         levels.as_slice(),
         name.as_bytes(),
@@ -52,6 +55,7 @@ pub fn read_level(
 
 fn read_named(
     alloc: Global,
+    seed: Seed,
     schema: &Schema,
     levels: &[Level],
     name: &[u8],
@@ -70,7 +74,7 @@ fn read_named(
     if schema.attrs.as_slice().len() + levels.len() >= MOST_ATTRS {
         return Err(LevelRefusal::Many);
     }
-    let parents = read_parents(alloc, schema.kind_at(number), block)?;
+    let parents = read_parents(alloc, seed, schema.kind_at(number), block)?;
     Ok(Level {
         name: Text::from_bytes(alloc, name)?,
         attr: number,
@@ -97,12 +101,17 @@ fn is_level(levels: &[Level], name: &[u8]) -> bool
 }
 
 /// The pairs of the rows of a block, or the first fault.
-fn read_parents(alloc: Global, kind: Kind, block: &[u8]) -> Result<ParentList, LevelRefusal>
+fn read_parents(
+    alloc: Global,
+    seed: Seed,
+    kind: Kind,
+    block: &[u8],
+) -> Result<ParentList, LevelRefusal>
     ensures { Answers result (parents_in kind block.now) }
 {
     let mut reader = block_reader(alloc, block);
     let mut fields = ByteRecord::new(alloc);
-    let mut parents = ParentList::new(alloc);
+    let mut parents = ParentList::new(alloc, seed);
     let mut so_far: Result<(), LevelRefusal> = Ok(());
     // Too many rows are refused before any fault, so the records behind the first fault are counted.
     for row in 0..MOST_ROWS {

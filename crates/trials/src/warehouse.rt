@@ -1,6 +1,7 @@
 //! The program of the warehouse.
 
 use cube_shell::{Status, run_within};
+use hash_seed::Seed;
 use site_mem::{MemorySource, ShortSite, SureSite, SureSource};
 use std::alloc::Global;
 use trial_text::{Ended, Program};
@@ -18,7 +19,7 @@ impl Program for Warehouse {
         site: &mut ShortSite,
         limit: u64,
     ) -> Ended {
-        ended(run_within(alloc, words, source, site, limit))
+        ended(run_within(alloc, Seed::new(0), words, source, site, limit))
     }
 
     fn look(
@@ -28,7 +29,7 @@ impl Program for Warehouse {
         site: &mut SureSite,
         limit: u64,
     ) -> Ended {
-        ended(run_within(alloc, &[], source, site, limit))
+        ended(run_within(alloc, Seed::new(0), &[], source, site, limit))
     }
 }
 
