@@ -15,7 +15,6 @@ use crate::names::Names;
 use fact_batch::{Batch, FlatRows, LentValue};
 use fact_model::{Memory, Text};
 use std::alloc::Global;
-use std::mem::replace;
 
 /// What admitting facts gives.
 #[derive(Drop)]
@@ -37,23 +36,11 @@ fn push_entry(entries: &mut Vec<u8>, attr: usize, bytes: &[u8]) -> Result<(), Me
     Ok(entries.extend_from_slice(bytes)?)
 }
 
-/// The text of these bytes, in the vector's room, which is to be given back.
-fn refilled(alloc: Global, room: &mut Vec<u8>, bytes: &[u8]) -> Result<Text, Memory>
-    ensures { IfOk result (λ text. text ≡ bytes.now) }
-{
-    let mut text = replace(room, Vec::new(alloc));
-    text.clear();
-    text.extend_from_slice(bytes)?;
-    Ok(Text::from_vec(text))
-}
-
 /// The code of a text, which is admitted, and whose entry is written where it is new.
 fn code_text(
-    alloc: Global,
     names: &mut Names,
     attr: usize,
     bytes: &[u8],
-    room: &mut Vec<u8>,
     entries: &mut Vec<u8>,
 ) -> Result<u64, Memory>
     requires attr { attr < 256 }
@@ -63,9 +50,7 @@ fn code_text(
     ensures entries { OnOk result (entries.new.items ≡ entries.old.items ++ (if list_any (bytes_eq bytes.now) names.old then [] else entry_text (attr, bytes.now))) }
     ensures grew { Grew names.old names.new }
 {
-    let text = refilled(alloc, room, bytes)?;
-    let (code, fresh) = names.admit(alloc, &text)?;
-    *room = text.into_vec();
+    let (code, fresh) = names.admit(bytes)?;
     if fresh {
         push_entry(entries, attr, bytes)?;
     }
@@ -74,11 +59,9 @@ fn code_text(
 
 /// The code of a value. A text is admitted, and its entry written where it is new.
 fn code_value(
-    alloc: Global,
     names: &mut Vec<Names>,
     attr: usize,
     value: LentValue<'_>,
-    room: &mut Vec<u8>,
     entries: &mut Vec<u8>,
 ) -> Result<u64, Memory>
     requires attr { attr < 256 }
@@ -92,7 +75,7 @@ fn code_value(
 {
     match value {
         LentValue::Number(number) => Ok(number + 1),
-        LentValue::Word(bytes) => code_text(alloc, &mut names[attr], attr, bytes, room, entries),
+        LentValue::Word(bytes) => code_text(&mut names[attr], attr, bytes, entries),
     }
 }
 
@@ -125,11 +108,10 @@ pub(crate) fn code_batch(
     // The batch holds as many values, so the product is met.
     let mut codes = Vec::with_capacity(alloc, rows.saturating_mul(width))?;
     let mut entries = Vec::new(alloc);
-    let mut room = Vec::new(alloc);
     let mut attr = 0;
     let mut values = facts.values();
     while let Some(value) = values.next_value() {
-        codes.push(code_value(alloc, names, attr, value, &mut room, &mut entries)?)?;
+        codes.push(code_value(names, attr, value, &mut entries)?)?;
         attr = behind(attr, width);
     }
     Ok(Admitted {

@@ -24,7 +24,7 @@ use crate::read::{NamesStop, read_entries};
 use crate::take::take_in;
 use cube_schema::{Attr, Kind, Schema};
 use fact_batch::Batch;
-use fact_model::{GREATEST_NUMBER, Memory, Text, Value};
+use fact_model::{GREATEST_NUMBER, Memory, Value};
 use hash_seed::Seed;
 use std::alloc::Global;
 use std::marker::Model;
@@ -33,7 +33,7 @@ use std::marker::Model;
 #[derive(Clone, Copy, Debug, PartialEq, Eq)]
 pub enum ValueRef<'a> {
     /// The value of a text attribute.
-    Word(&'a Text),
+    Word(&'a [u8]),
     /// The value of a number attribute.
     Number(u64),
 }
@@ -87,7 +87,9 @@ impl Dicts {
         ensures back { IfSome result (λ code. value_of self.now attr code ≡ Some value.now) }
     {
         match (self.kinds[attr as usize], value) {
-            (Kind::Word { .. }, Value::Word(text)) => self.names[attr as usize].code_of(text),
+            (Kind::Word { .. }, Value::Word(text)) => {
+                self.names[attr as usize].code_of(text.as_bytes())
+            }
             (Kind::Number, Value::Number(number)) => Some(number + 1),
             _ => None,
         }
@@ -101,7 +103,10 @@ impl Dicts {
     {
         match (self.kinds[attr as usize], value) {
             (Kind::Word { .. }, Value::Word(text)) => {
-                self.names[attr as usize].code_within(shown.at[attr as usize] as usize, text)
+                self.names[attr as usize].code_within(
+                    shown.at[attr as usize] as usize,
+                    text.as_bytes(),
+                )
             }
             (Kind::Number, Value::Number(number)) => Some(number + 1),
             _ => None,
@@ -188,7 +193,7 @@ impl Dicts {
         ensures only { (es : List (ℕ × Text)) → bytes.now ≡ entries_text es → all_enter self.old es ≡ true → IfErr result (λ stop. stop ≡ NamesStop.Memory) }
         ensures same { (es : List (ℕ × Text)) → bytes.now ≡ entries_text es → OnOk result (self.new ≡ after_entries self.old es) }
     {
-        read_entries(self.alloc, self.kinds.as_slice(), &mut self.names, bytes)
+        read_entries(self.kinds.as_slice(), &mut self.names, bytes)
     }
 }
 

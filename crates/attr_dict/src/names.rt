@@ -4,7 +4,8 @@ ghost use Rattle.std.specs.List.{list_any};
 ghost use Rattle.std.specs.Str.{bytes_eq};
 ghost use Rattle.view_points.specs.Codes.{admitted, place};
 
-use fact_model::{Memory, Text};
+use crate::name::{Name, NameRef};
+use fact_model::Memory;
 use hash_seed::Seed;
 use indexmap::IndexSet;
 use std::alloc::Global;
@@ -12,13 +13,17 @@ use std::marker::Model;
 
 /// Distinct texts in order of first appearance. Codes count from 1.
 pub(crate) struct Names {
-    set: IndexSet<Text, Seed>,
+    alloc: Global,
+    set: IndexSet<Name, Seed>,
 }
 
 // By hand, so that the proof that the set is let go stands here alone and not in each crate that lets names go.
 impl Drop for Names {
     fn drop(self) {
-        let Names { set: _set } = self;
+        let Names {
+            alloc: _alloc,
+            set: _set,
+        } = self;
     }
 }
 
@@ -31,11 +36,12 @@ impl Model for Names {
 }
 
 impl Names {
-    /// No names, for a hash of this seed.
+    /// No names, for a hash of this seed. It takes no memory.
     pub(crate) fn new(alloc: Global, seed: Seed) -> Names
         ensures { result ≡ [] }
     {
         Names {
+            alloc,
             set: IndexSet::with_hasher(alloc, seed),
         }
     }
@@ -48,18 +54,18 @@ impl Names {
     }
 
     /// The code of a text that has one.
-    pub(crate) fn code_of(&self, text: &Text) -> Option<u64>
+    pub(crate) fn code_of(&self, text: &[u8]) -> Option<u64>
         ensures { result ≡ option_map suc (place bytes_eq text.now self.now) }
     {
         let _count = self.set.len();
-        match self.set.get_index_of(text) {
+        match self.set.get_index_of(NameRef { bytes: text }) {
             Some(index) => Some(index as u64 + 1),
             None => None,
         }
     }
 
     /// The code of a text that is one of the first so many names.
-    pub(crate) fn code_within(&self, len: usize, text: &Text) -> Option<u64>
+    pub(crate) fn code_within(&self, len: usize, text: &[u8]) -> Option<u64>
         ensures { result ≡ option_map suc (place bytes_eq text.now (take len self.now)) }
     {
         let code = self.code_of(text)?;
@@ -70,15 +76,18 @@ impl Names {
     }
 
     /// The text of a code above 0.
-    pub(crate) fn text_of(&self, code: u64) -> Option<&Text>
+    pub(crate) fn text_of(&self, code: u64) -> Option<&[u8]>
         requires { 0 < code }
         ensures { option_copied result ≡ slice_get self.now (code - 1) }
     {
-        self.set.get_index((code - 1) as usize)
+        match self.set.get_index((code - 1) as usize) {
+            Some(name) => Some(name.as_bytes()),
+            None => None,
+        }
     }
 
     /// The code of a text, and whether it is new. A new text takes the next code.
-    pub(crate) fn admit(&mut self, alloc: Global, text: &Text) -> Result<(u64, bool), Memory>
+    pub(crate) fn admit(&mut self, text: &[u8]) -> Result<(u64, bool), Memory>
         ensures names { OnOk result (self.new ≡ admitted bytes_eq self.old (text.now ∷ [])) }
         ensures code { IfOk result (λ r. Some r.0 ≡ option_map suc (place bytes_eq text.now self.new)) }
         ensures fresh { IfOk result (λ r. r.1 ≡ not (list_any (bytes_eq text.now) self.old)) }
@@ -86,29 +95,30 @@ impl Names {
     {
         match self.code_of(text) {
             Some(code) => Ok((code, false)),
-            None => Ok((self.add(alloc, text)?, true)),
+            None => Ok((self.add(text)?, true)),
         }
     }
 
     /// Puts a text behind the names where it is none of them, and tells whether it was. It is hashed once.
-    pub(crate) fn enter(&mut self, text: Text) -> Result<bool, Memory>
-        ensures names { OnOk result (self.new ≡ admitted bytes_eq self.old (text ∷ [])) }
-        ensures fresh { IfOk result (λ fresh. fresh ≡ not (list_any (bytes_eq text) self.old)) }
+    pub(crate) fn enter(&mut self, text: &[u8]) -> Result<bool, Memory>
+        ensures names { OnOk result (self.new ≡ admitted bytes_eq self.old (text.now ∷ [])) }
+        ensures fresh { IfOk result (λ fresh. fresh ≡ not (list_any (bytes_eq text.now) self.old)) }
         ensures unchanged { OnErr result (self.new ≡ self.old) }
     {
-        let (_, fresh) = self.set.insert_full(text)?;
+        let name = Name::of(self.alloc, text)?;
+        let (_, fresh) = self.set.insert_full(name)?;
         Ok(fresh)
     }
 
     /// Adds a new text, and gives its code.
-    fn add(&mut self, alloc: Global, text: &Text) -> Result<u64, Memory>
+    fn add(&mut self, text: &[u8]) -> Result<u64, Memory>
         requires { list_any (bytes_eq text.now) self.old ≡ false }
         ensures names { OnOk result (self.new ≡ self.old ++ text.now ∷ []) }
         ensures code { IfOk result (λ code. Some code ≡ option_map suc (place bytes_eq text.now self.new)) }
         ensures unchanged { OnErr result (self.new ≡ self.old) }
     {
-        let copy = Text::from_bytes(alloc, text.as_bytes())?;
-        let (index, _) = self.set.insert_full(copy)?;
+        let name = Name::of(self.alloc, text)?;
+        let (index, _) = self.set.insert_full(name)?;
         let _count = self.set.len();
         Ok(index as u64 + 1)
     }

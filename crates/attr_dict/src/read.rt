@@ -7,8 +7,7 @@ ghost use Rattle.attr_dict.specs.Stops.{HasCause, StopsAt};
 
 use crate::names::Names;
 use cube_schema::Kind;
-use fact_model::{Memory, Text};
-use std::alloc::Global;
+use fact_model::Memory;
 
 /// Why names are not read.
 #[derive(Clone, Copy, Debug, PartialEq, Eq)]
@@ -47,13 +46,7 @@ fn front_entry(bytes: &[u8]) -> Option<(usize, &[u8], &[u8])>
 }
 
 /// Enters a text as the newest name of an attribute, where it can, and tells whether it did.
-fn enter(
-    alloc: Global,
-    kinds: &[Kind],
-    names: &mut Vec<Names>,
-    attr: usize,
-    bytes: &[u8],
-) -> Result<bool, Memory>
+fn enter(kinds: &[Kind], names: &mut Vec<Names>, attr: usize, bytes: &[u8]) -> Result<bool, Memory>
     requires { length names.old.items ≡ length kinds.now }
     ensures same { length names.new.items ≡ length names.old.items }
     ensures could { IfOk result (λ could. could ≡ can_enter (record { kinds = kinds.now; names = names.old.items }) (attr, bytes.now)) }
@@ -69,16 +62,13 @@ fn enter(
             if names[attr].len() >= max as usize {
                 return Ok(false);
             }
-            let text = Text::from_bytes(alloc, bytes)?;
-            let fresh = names[attr].enter(text)?;
-            Ok(fresh)
+            names[attr].enter(bytes)
         }
     }
 }
 
 /// Enters the entry in front of the bytes, and gives the bytes behind it. `place` is where the entry begins.
 fn read_entry<'a>(
-    alloc: Global,
     kinds: &[Kind],
     names: &mut Vec<Names>,
     rest: &'a [u8],
@@ -93,7 +83,7 @@ fn read_entry<'a>(
     match front_entry(rest) {
         None => Err(NamesStop::Damaged(place)),
         Some((attr, text, tail)) => {
-            if !enter(alloc, kinds, names, attr, text)? {
+            if !enter(kinds, names, attr, text)? {
                 return Err(NamesStop::Damaged(place));
             }
             Ok(tail)
@@ -103,7 +93,6 @@ fn read_entry<'a>(
 
 /// Enters all entries of the bytes, up to the first that is faulty.
 pub(crate) fn read_entries(
-    alloc: Global,
     kinds: &[Kind],
     names: &mut Vec<Names>,
     bytes: &[u8],
@@ -116,7 +105,7 @@ pub(crate) fn read_entries(
     let mut rest = bytes;
     while !rest.is_empty() {
         let place = (bytes.len() - rest.len()) as u64;
-        rest = read_entry(alloc, kinds, names, rest, place)?;
+        rest = read_entry(kinds, names, rest, place)?;
     }
     Ok(())
 }

@@ -51,7 +51,7 @@ fn lent_value(names: &Dicts, attr: u32, code: u64) -> LentValue<'_>
     ensures { value_of result ≡ value_at_code names.now attr code }
 {
     match names.value_of(attr, code) {
-        Some(ValueRef::Word(text)) => LentValue::Word(text.as_bytes()),
+        Some(ValueRef::Word(text)) => LentValue::Word(text),
         Some(ValueRef::Number(number)) => LentValue::Number(number),
         None => LentValue::Number(0),
     }

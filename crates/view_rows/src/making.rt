@@ -74,7 +74,7 @@ fn value_made(alloc: Global, names: &Dicts, attr: u32, code: u64) -> Result<Valu
 {
     match names.value_of(attr, code) {
         Some(ValueRef::Word(text)) => {
-            let copy = Text::from_bytes(alloc, text.as_bytes())?;
+            let copy = Text::from_bytes(alloc, text)?;
             Ok(Value::Word(copy))
         }
         Some(ValueRef::Number(number)) => Ok(Value::Number(number)),

@@ -196,7 +196,7 @@ fn push_value(names: &Dicts, attr: u32, code: u64, writer: &mut RowWriter) -> Re
     ensures dropped { OnErr result (writer.new ≡ nothing_written) }
 {
     match names.value_of(attr, code) {
-        Some(ValueRef::Word(text)) => writer.push_field(text.as_bytes()),
+        Some(ValueRef::Word(text)) => writer.push_field(text),
         Some(ValueRef::Number(number)) => writer.push_natural(number),
         None => writer.push_natural(0),
     }

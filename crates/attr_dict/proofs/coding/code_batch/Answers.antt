@@ -76,7 +76,7 @@ from_vec-requires c =
     omega (arith, long, count, ap (λ n. width * n) rows, ap length (c.in_default.ensures.end refl))
 
 -- all entries are passed
-passed : (c : goal.After-drop-room-2) (seen : List (ℕ × Text)) → AreNamesOf seen c.args.names.now.items → Onward c.loop-value.names.items c.loop-value.entries.items seen (named c.args.facts.now) []
+passed : (c : goal.After-from_vec-2) (seen : List (ℕ × Text)) → AreNamesOf seen c.args.names.now.items → Onward c.loop-value.names.items c.loop-value.entries.items seen (named c.args.facts.now) []
 passed c seen are =
     let width = c.len-width.result in
     let facts = c.args.facts.now in
