@@ -1,5 +1,5 @@
-use Rattle.std.proofs.Common.{◌*◌, ◌+◌, ◌<◌, ◌^◌, ℕ, arith, ◌∙◌, ap}
-use Rattle.view_rows.specs.Ranks.{rank_by}
+use Rattle.std.proofs.Common.{◌*◌, ◌+◌, ◌<◌, ◌^◌, ℕ, arith, sym, ◌∙◌, ap, subst}
+use Rattle.view_rows.specs.Ranks.{KeepsRanks, rank_by}
 use Rattle.view_rows.proofs.RankKeys.{IsBegun, begun-more}
 use Rattle.view_rows.proofs.ranked.rank_of.Goals as goal
 
@@ -11,6 +11,11 @@ more c =
     let table = c.table-item.result in
     begun-more b c.args.view.now c.args.entry.now c.args.ranks.now c.loop-table.table-index c.loop-table.rank c.rank-digit.result table c.loop-table-test.true c.table-item.is
     (c.rank-digit.ensures ∙ ap (λ (code : ℕ). rank_by b table code) c.coordinate.ensures) c.requires.below c.loop-table.invariant
+
+pub rank-digit-requires-clause-kept : goal.rank-digit-requires-clause-kept
+rank-digit-requires-clause-kept c =
+    let kept = c.requires.kept c.loop-table.table-index c.table-item.result c.loop-table-test.true in
+    subst (KeepsRanks c.args.names.now) (sym c.table-item.is) kept
 
 pub overflow_mul-rank : goal.overflow_mul-rank
 overflow_mul-rank c = let fits = (more c).0 in omega (arith, fits)
