@@ -30,11 +30,7 @@ use tree_audit::{TreeAudit, TreeStop};
 /// `Empty` where no slot is raised; `Yes` where all rules are kept; `No` with the place of the first that is broken: a rule of opening; a page
 /// that is not the one that the numbers of points and the pages before it fix; a view whose counts do not add up to the facts, or which is not
 /// the roll-up of another view that has all its attributes.
-pub fn audit<T: Site>(
-    alloc: Global,
-    seed: Seed,
-    site: &mut T,
-) -> Result<Verdict, AuditStop>
+pub fn audit<T: Site>(alloc: Global, seed: Seed, site: &mut T) -> Result<Verdict, AuditStop>
     ensures verdict { IsTrue T.tells → IfOk result (IsVerdict (T.disk site.old).files) }
     // And there is no other verdict of these files.
     ensures exact { IsTrue T.tells → (verdict : verdicts.Verdict) → IsVerdict (T.disk site.old).files verdict → IfOk result (λ found. found ≡ verdict) }
@@ -50,11 +46,7 @@ pub fn audit<T: Site>(
 }
 
 /// The same.
-fn audit_files<T: Site>(
-    alloc: Global,
-    seed: Seed,
-    site: &mut T,
-) -> Result<Verdict, AuditStop>
+fn audit_files<T: Site>(alloc: Global, seed: Seed, site: &mut T) -> Result<Verdict, AuditStop>
     ensures verdict { IsTrue T.tells → IfOk result (IsVerdict (T.disk site.old).files) }
     ensures disk { IsTrue T.tells → Settles Stays (T.disk site.old) (T.disk site.new) result }
     ensures calls { CallsOnly T.Site (HasCauseWhere AuditStop.Disk) (1 + 2 ^ 36 + 2 ^ 50) 0 site.old site.new result }
