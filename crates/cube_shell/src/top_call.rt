@@ -11,7 +11,7 @@ use std::alloc::Global;
 const SCRIPT_LIMIT: u64 = 1 << 30;
 
 /// Runs a script of at most 2^30 bytes: opens the files, pulls the script from the source, carries out its commands, and tells the
-/// reply to each. It is `run_within` with that limit.
+/// reply to each. It is `run_within` with that limit. The hashes of texts begin with the seed, on which no reply depends.
 pub fn run<S: Source, T: Site>(
     alloc: Global,
     seed: Seed,
