@@ -7,6 +7,7 @@ import sys
 from typing import Callable, Iterator, List, Optional
 
 from .errors import Fault, Refused, Stopped
+from .questions import ranges_of_texts
 from .schema import Schema
 from .words import shown
 
@@ -126,6 +127,9 @@ def answer_all(tool: str, asked: Asked, texts: Iterator[Optional[str]]) -> int:
             print(f"{tool}: {refusal(asked, text, fault) if isinstance(fault, Refused) else fault}", file=sys.stderr)
             status = 1
             continue
+        schema = asked.schema()
+        for said in ranges_of_texts(text, schema.numbers) if schema else ():
+            print(f"{tool}: {said}", file=sys.stderr)
         printed = "".join(["" if first else "\n"] + [line + "\n" for line in lines])
         if not is_taken_at_once(printed):
             asked.pause()

@@ -71,3 +71,13 @@ def conditions_of(conditions: str, text: str) -> "list[Condition]":
         found.append(Condition(condition["name"], value))
         place = condition.end()
     return found
+
+
+def ranges_of_texts(text: str, numbers: Container[str]) -> "list[str]":
+    """What to say of each condition of a slice that looks like a range and is one value, its attribute not being one of these numbers."""
+    parts = PARTS.fullmatch(text)
+    found = CONDITION.finditer(parts["conditions"] or "") if parts else ()
+    return [
+        f"{each['name']} is a text: {each['plain']} is one value, no range (a range needs a number, as 202503..202506)"
+        for each in found if ".." in (each["plain"] or "") and each["name"] not in numbers
+    ]

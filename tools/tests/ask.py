@@ -4,7 +4,7 @@ import os
 
 from cubetree.runs import program
 from test_cubetree import SCHEMA
-from tests.case import Case, ask, run
+from tests.case import Case, ask, load, run
 
 
 class Ask(Case):
@@ -32,6 +32,17 @@ class Ask(Case):
         told, said = ask("--in", "w", "--csv", given=b"slice count\n\nsum(cost)\r\ncount by part where year=1998\n", status=1)
         self.assertEqual(told, "count\n4\n\npart,count\nbolt,1\n")
         self.assertEqual(said, "ask: refused measure 5: no measure has this name; there are qty\n  sum(cost)\n      ^\n")
+
+    def test_ranges_of_texts(self):
+        """A text that looks like a range is one value, and is said to be."""
+        told, said = ask("--in", "w", "count by year where part=a..c and year=1997..1998")
+        self.assertEqual(told, "year  count\n----  -----\n(0 rows)\n")
+        self.assertEqual(said, "ask: part is a text: a..c is one value, no range (a range needs a number, as 202503..202506)\n")
+        self.assertEqual(ask("--in", "w", 'count where part="a..c, year=1..2" and year=1997..1998')[1], "")
+        self.put("file", "part,year,qty\n2025-03,1997,5\n")
+        self.put("asked", "sum(qty) where part=2025-03..2025-06\n")
+        said = load("--propose", "--ask", "asked", "file")[1]
+        self.assertEqual(said, "load-csv: part is a text: 2025-03..2025-06 is one value, no range (a range needs a number, as 202503..202506)\n")
 
     def test_refusals(self):
         os.mkdir("empty")
