@@ -7,7 +7,9 @@ import sys
 from typing import Callable, Iterator, List, Optional
 
 from .errors import Fault, Refused, Stopped
-from .questions import ranges_of_texts
+from .queries import is_query
+from .questions import question_of, ranges_of_texts
+from .replicas import MOST_OF_A_VIEW
 from .schema import Schema
 from .words import shown
 
@@ -28,12 +30,17 @@ MEANINGS = {
     "long": "a text has at most 255 bytes",
     "block": "a level has at most 67,108,864 bytes",
     "rows": "a level has at most 262,144 rows",
-    "sql syntax": "something else is due here: a query is SELECT ITEMS FROM facts WHERE TESTS GROUP BY NAMES",
+    "sql syntax": "something else is due here: a query is SELECT ITEMS FROM facts WHERE TESTS GROUP BY NAMES; no ORDER BY, LIMIT, AS or `;`",
     "sql table": "there is one table, facts",
     "sql name": "no attribute or measure that can stand here has this name; there are",
     "sql group": "an attribute that is asked for stands in GROUP BY, and stands there once",
     "sql value": "no such value can be: a text stands in '..', a number does not, and texts have no order",
 }
+
+# An unquoted value to the place of a refusal, and what can stand there: the rest of a text that has to be quoted, and what makes a number odd.
+VALUE = re.compile(r"(?P<name>[^ =]+)=(?P<front>[A-Za-z0-9_.+-]*)$")
+PLAIN = re.compile(r"[^\"=,()<>]+?(?= and |$)")
+ODD_NUMBER = re.compile(r"\"|[^ ]*[^ 0-9.]")
 
 
 class Asked:
@@ -43,13 +50,42 @@ class Asked:
         self.answered, self.schema, self.levels, self.pause = answered, schema, levels, pause
 
 
-def refusal(asked: Asked, text: str, refused: Refused) -> str:
+def refusal(tool: str, asked: Asked, text: str, refused: Refused) -> str:
     """A refusal in words, below it the slice with a mark at the byte."""
-    lines = [meaning(asked.schema(), asked.levels(), refused)]
-    if refused.byte:
-        front = text.encode("utf-8", "surrogateescape")[: refused.byte - 1].decode("utf-8", "surrogateescape")
-        lines += [f"  {shown(text)}", f"  {' ' * len(shown(front))}^"]
-    return "\n".join(lines)
+    schema, levels = asked.schema(), asked.levels()
+    said = meaning(schema, levels, refused)
+    if refused.reply == "refused notcovered" and schema and not is_query(text):
+        return said + view_hint(question_of(text).attributes(), schema)
+    if not refused.byte:
+        return said
+    line = text.encode("utf-8", "surrogateescape")
+    front, rest = (part.decode("utf-8", "surrogateescape") for part in (line[: refused.byte - 1], line[refused.byte - 1 :]))
+    value = VALUE.search(front)
+    if value and schema and value["name"] in schema.numbers and ODD_NUMBER.match(rest):
+        said = f"{refused.reply}: {value['name']} is a number: 202503, or 202503..202506"
+    elif refused.reply.startswith("refused syntax"):
+        said += syntax_hint(front, rest)
+    elif refused.reply.startswith("refused sql name") and re.split(r"\W", rest)[0] in levels:
+        said += "; SQL has no levels"
+    elif refused.reply.startswith("refused attribute") and tool == "ask" and not levels:
+        said += "; a level needs --level NAME ATTR FILE"
+    return "\n".join([said, f"  {shown(text)}", f"  {' ' * len(shown(front))}^"])
+
+
+def view_hint(names: "list[str]", schema: Schema) -> str:
+    """Which view a slice of these attributes needs, where a view can have them; nothing where one is a level."""
+    fits = len(names) <= MOST_OF_A_VIEW and set(names) <= set(schema.attributes)
+    return f"; load into a new folder with a view of {','.join(names)}" if fits else ""
+
+
+def syntax_hint(front: str, rest: str) -> str:
+    """What helps where a slice has an error of form between these two parts."""
+    value, more = VALUE.search(front), PLAIN.match(rest)
+    if value and more:
+        return "; quote a value as {}=\"{}\"".format(value["name"], value["front"] + more[0])
+    if re.fullmatch("([^ ]*,)?", front):
+        return "; columns are count, sum, min, max in small letters"
+    return "; a range is 202503..202506" if rest[:1] in ("<", ">") else ""
 
 
 def meaning(schema: Optional[Schema], levels: "list[str]", refused: Refused) -> str:
@@ -57,8 +93,10 @@ def meaning(schema: Optional[Schema], levels: "list[str]", refused: Refused) -> 
     words = refused.reply.split()[1:]
     word = " ".join(words[:2]) if words[0] in ("sql", "level") else words[2] if words[0] == "row" else words[0]
     lists = {"measure": "measures", "attribute": "attributes", "level attribute": "own", "notcovered": "views", "sql name": "columns"}
-    names = ("; " if word == "notcovered" else ", ").join(listed(schema, levels, lists[word]) if word in lists else [])
+    found = listed(schema, levels, lists[word]) if word in lists else []
+    names = ("; " if word == "notcovered" else ", ").join(name or "none" for name in found)
     means = "an earlier row has this value" if refused.row and word == "repeated" else MEANINGS.get(word, "")
+    means = means.replace("there are", "there is") if len(found) == 1 else means
     return f"{refused.reply}: {means} {names}".rstrip(" :")
 
 
@@ -124,10 +162,10 @@ def answer_all(tool: str, asked: Asked, texts: Iterator[Optional[str]]) -> int:
         except Stopped:
             raise
         except Fault as fault:
-            print(f"{tool}: {refusal(asked, text, fault) if isinstance(fault, Refused) else fault}", file=sys.stderr)
+            print(f"{tool}: {refusal(tool, asked, text, fault) if isinstance(fault, Refused) else fault}", file=sys.stderr)
             status = 1
             continue
-        schema = asked.schema()
+        schema = asked.schema() if ".." in text else None
         for said in ranges_of_texts(text, schema.numbers) if schema else ():
             print(f"{tool}: {said}", file=sys.stderr)
         printed = "".join(["" if first else "\n"] + [line + "\n" for line in lines])

@@ -31,7 +31,7 @@ class Ask(Case):
     def test_lines(self):
         told, said = ask("--in", "w", "--csv", given=b"slice count\n\nsum(cost)\r\ncount by part where year=1998\n", status=1)
         self.assertEqual(told, "count\n4\n\npart,count\nbolt,1\n")
-        self.assertEqual(said, "ask: refused measure 5: no measure has this name; there are qty\n  sum(cost)\n      ^\n")
+        self.assertEqual(said, "ask: refused measure 5: no measure has this name; there is qty\n  sum(cost)\n      ^\n")
 
     def test_ranges_of_texts(self):
         """A text that looks like a range is one value, and is said to be."""
@@ -48,9 +48,17 @@ class Ask(Case):
         os.mkdir("empty")
         for words, wanted in [
             (["--in", "w", "sum(qty) by"], "refused syntax 9"),
-            (["--in", "w", "count by colour"], "refused attribute 10: no attribute has this name; there are part, year"),
+            (["--in", "w", "count by colour"], "refused attribute 10: no attribute has this name; there are part, year; a level needs --level NAME ATTR FILE\n"),
             (["--in", "w", "count by part,part"], "refused repeated 15"),
-            (["--in", "w", "count by part where year=x"], "refused value 26"),
+            (["--in", "w", "count by part where year=x"], "refused value 26: year is a number: 202503, or 202503..202506\n"),
+            (["--in", "w", "count by part where year=1997-03..1997-04"], "refused value 26: year is a number: 202503"),
+            (["--in", "w", "count by part where year=1997/03"], "refused syntax 30: year is a number: 202503"),
+            (["--in", "w", "count where part=a" + 255 * "b"], "refused value 18: no such value can be"),
+            (["--in", "w", "count where part=K\u00f6ln"], '; quote a value as part="K\u00f6ln"\n'),
+            (["--in", "w", "count where part=St. Gallen and year=1997"], '; quote a value as part="St. Gallen"\n'),
+            (["--in", "w", "count,Sum(qty) by part"], "; columns are count, sum, min, max in small letters\n"),
+            (["--in", "w", "count where year>=1997"], "; a range is 202503..202506\n"),
+            (["--in", "w", "count where part=a or part=b"], "NAME=VALUE and ..\n"),
             (["--in", "w", "status"], "refused syntax 1"),
             (["--in", "empty", "count"], "refused no schema: no schema is declared in the folder"),
             (["--in", "nowhere", "count"], "no such folder: nowhere"),
@@ -60,8 +68,10 @@ class Ask(Case):
                 self.assertIn(wanted, ask(*words, status=1)[1])
         ask("--never", status=2)
         os.mkdir("narrow")
-        run(program(), given=b"schema\nattr part text\nattr year number\nmeasure qty\nview part\nview year\nend\n", cwd="narrow")
-        self.assertIn("no view has all attributes that are grouped by or have a condition; the views are of part; year\n", ask("--in", "narrow", "count by part,year", status=1)[1])
+        run(program(), given=b"schema\nattr part text\nattr year number\nmeasure qty\nview part\nview\nend\n", cwd="narrow")
+        said = ask("--in", "narrow", "count by part where year=1", status=1)[1]
+        self.assertIn("have a condition; the views are of part; none; load into a new folder with a view of part,year\n", said)
+        self.assertIn("the views are of part; none\n", ask("--in", "narrow", "select part, year from facts group by part, year", status=1)[1])
 
     def test_damaged(self):
         with open("w/root", "r+b") as root:

@@ -158,6 +158,7 @@ class Levels(Case):
         self.assertEqual([json.loads(line) for line in told.splitlines() if line],
                          [{"decade": "", "count": 1}, {"decade": 'the "90s"', "count": 2}, {"count(*)": 3}, {"part": "bolt", "count": 2}, {"part": "nut", "count": 1}])
         self.assertEqual(said, "ask: refused attribute 10: no attribute has this name; there are part, year, kind, decade\n  count by colour\n           ^\n")
+        self.assertIn("; SQL has no levels\n", ask(*words, "select kind from facts group by kind", status=1)[1])
         self.assertEqual(subprocess.run(["flock", "-n", "w", "true"]).returncode, 0)
 
     def test_ask_refusals(self) -> None:

@@ -86,6 +86,7 @@ class Queries(Case):
         said = ask("--in", "w", "select colour from facts", status=1)[1]
         self.assertEqual(said, "ask: refused sql name 8: no attribute or measure that can stand here has this name; there are part, year, qty\n"
                                "  select colour from facts\n         ^\n")
+        self.assertIn("GROUP BY NAMES; no ORDER BY, LIMIT, AS or `;`\n", ask("--in", "w", "select count(*) from facts limit 3", status=1)[1])
 
 
 class Databases(Case):

@@ -211,7 +211,7 @@ class Explained(Case):
         told = ask("--in", "w", "--explain", "--csv", given=b"count by year where part=p0\n\nslice count by part where year=1\n")[0]
         self.assertEqual(told, 'view,suffix,run,pages,of\n"year,part",1,yes,2,3\n\nview,suffix,run,pages,of\n"part,year",1,yes,2,3\n')
         self.assertEqual(ask("--in", "w", "--explain", "--json", "count")[0], '{"view": "part,year", "suffix": 0, "run": "yes", "pages": 3, "of": 3}\n')
-        self.assertIn("refused attribute 10: no attribute has this name; there are part, year\n", ask("--in", "w", "--explain", "count by colour", status=1)[1])
+        self.assertIn("refused attribute 10: no attribute has this name; there are part, year; a level needs --level NAME ATTR FILE\n", ask("--in", "w", "--explain", "count by colour", status=1)[1])
 
 
 class Proposed(Case):
