@@ -24,7 +24,7 @@ class Column:
     which no more are kept than a text attribute has by itself."""
 
     def __init__(self, name: str) -> None:
-        self.name, self.is_number = name, True
+        self.name, self.is_number, self.note = name, True, ""
         self.values: set[str] = set()
         self.least: Optional[int] = None
         self.greatest: Optional[int] = None
@@ -52,7 +52,7 @@ class Column:
         """What was seen of it, in words."""
         many = f"more than {MOST_TEXTS:,} different values" if len(self.values) > MOST_TEXTS else counted(len(self.values), "different value")
         if self.is_number:
-            return many + (f", {self.least} to {self.greatest}" if self.values else "")
+            return many + (f", {self.least} to {self.greatest}" if self.values else "") + self.note
         return many + ("; whole numbers, without points and empty fields, could be a measure" if self.is_nearly_number() else "")
 
     def is_nearly_number(self) -> bool:
@@ -99,7 +99,17 @@ def column_lines(attributes: "list[Column]", measures: "list[Column]", has_one: 
 def measures_of(columns: "list[Column]") -> "list[Column]":
     """The columns that are proposed as measures by themselves."""
     measures = [column for column in columns if column.is_measure()]
-    return measures or [column for column in columns if column.is_number and len(columns) > 1][-1:]
+    numbers = [column for column in columns if column.is_number and len(columns) > 1]
+    if not measures and len(numbers) > 1:
+        numbers[-1].note = "; the last column of numbers: another may be the measure"
+    return measures or numbers[-1:]
+
+
+def delimiter_lines(columns: "list[Column]") -> "list[str]":
+    """A comment where the file has one column and each value a character that may part it."""
+    words = {";": "';'", "\t": "tab", "|": "'|'"}
+    found = [word for mark, word in words.items() if len(columns) == 1 and all(mark in value for value in columns[0].values)]
+    return [f"# one column: try --delimiter {word}" for word in found[:1]]
 
 
 def proposal(names: Sequence[str], rows: "Iterable[list[str]]") -> "list[str]":
@@ -110,7 +120,7 @@ def proposal(names: Sequence[str], rows: "Iterable[list[str]]") -> "list[str]":
     attributes = [column for column in columns if column not in measures]
     if not attributes:
         raise Fault("all columns are measures: no attribute is there to group by, so write a schema by hand")
-    lines = column_lines(attributes[:MOST_ATTRIBUTES], measures[:MOST_MEASURES], not measures)
+    lines = column_lines(attributes[:MOST_ATTRIBUTES], measures[:MOST_MEASURES], not measures) + delimiter_lines(columns)
     left = [column.name for column in attributes[MOST_ATTRIBUTES:] + measures[MOST_MEASURES:]]
     lines += [f"# left out, being too many: {', '.join(left)}"] if left else []
     own = [column.name for column in attributes[:MOST_ATTRIBUTES]]

@@ -44,7 +44,8 @@ class Table:
         for row in self.records():
             self.row += 1
             if len(row) != width:
-                raise Fault(f"{self.place()} has {counted(len(row), 'field')}, and the header has {width}")
+                hint = ": try --delimiter ';'" if width == 1 and ";" in row[0] else ""
+                raise Fault(f"{self.place()} has {counted(len(row), 'field')}, and the header has {width}{hint}")
             yield row
 
     def go_on(self, row: int, lines: int) -> None:

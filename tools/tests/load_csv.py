@@ -125,6 +125,14 @@ class LoadCsv(Case):
         self.assertIn("measure one", lines)
         load("--into", "w", "file")
         self.assertEqual(self.rows("sum(one) by a"), [["x", "1"]])
+        for content, line in [
+            ("k,n,m\nx,1,4\n", "# m: 1 different value, 4 to 4; the last column of numbers: another may be the measure"),
+            ("k,n\nx,1\n", "# n: 1 different value, 1 to 1"),
+            ("k;n\nx;1\n", "# one column: try --delimiter ';'"),
+            ("k\tn\nx\t1\n", "# one column: try --delimiter tab"),
+        ]:
+            self.assertIn(line, load("--propose", self.put("file", content))[0].splitlines())
+        self.assertIn("the header has 1: try --delimiter ';'\n", load("--propose", self.put("file", "k;n\nx;1,5\n"), status=1)[1])
         self.assertIn("no rows behind the header", load("--propose", self.put("file", "a,b\n"), status=1)[1])
 
     def test_great_numbers(self):
@@ -215,5 +223,5 @@ class LoadCsv(Case):
     def test_words(self):
         for words in ([], ["--batch", "0", "f"], ["--go-on", "f"], ["--from-row", "0", "f"], ["--number", "0", "f"], ["--delimiter", "xx", "f"], ["--never", "f"]):
             load(*words, status=2)
-        self.assertIn("nothing: No such file", load("nothing", status=1)[1])
+        self.assertTrue(load("nothing", status=1)[1].startswith("load-csv: nothing: No such file"))
         self.assertIn("usage", load("--help")[0])
