@@ -60,14 +60,14 @@ def refusal(tool: str, asked: Asked, text: str, refused: Refused) -> str:
         return said
     line = text.encode("utf-8", "surrogateescape")
     front, rest = (part.decode("utf-8", "surrogateescape") for part in (line[: refused.byte - 1], line[refused.byte - 1 :]))
-    value = VALUE.search(front)
-    if value and schema and value["name"] in schema.numbers and ODD_NUMBER.match(rest):
-        said = f"{refused.reply}: {value['name']} is a number: 202503, or 202503..202506"
-    elif refused.reply.startswith("refused syntax"):
+    value, word = VALUE.search(front), refused.reply.split()[1]
+    if value and schema and value["name"] in schema.numbers and word in ("syntax", "value"):
+        said = f"{refused.reply}: {value['name']} is a number: 202503, or 202503..202506" if ODD_NUMBER.match(rest) else said
+    elif word == "syntax":
         said += syntax_hint(front, rest)
     elif refused.reply.startswith("refused sql name") and re.split(r"\W", rest)[0] in levels:
         said += "; SQL has no levels"
-    elif refused.reply.startswith("refused attribute") and tool == "ask" and not levels:
+    elif word == "attribute" and tool == "ask" and not levels:
         said += "; a level needs --level NAME ATTR FILE"
     return "\n".join([said, f"  {shown(text)}", f"  {' ' * len(shown(front))}^"])
 
@@ -82,7 +82,7 @@ def syntax_hint(front: str, rest: str) -> str:
     """What helps where a slice has an error of form between these two parts."""
     value, more = VALUE.search(front), PLAIN.match(rest)
     if value and more:
-        return "; quote a value as {}=\"{}\"".format(value["name"], value["front"] + more[0])
+        return "; quote a value as {}=\"{}\"".format(value["name"], shown(value["front"] + more[0]))
     if re.fullmatch("([^ ]*,)?", front):
         return "; columns are count, sum, min, max in small letters"
     return "; a range is 202503..202506" if rest[:1] in ("<", ">") else ""

@@ -59,6 +59,8 @@ class Ask(Case):
             (["--in", "w", "count,Sum(qty) by part"], "; columns are count, sum, min, max in small letters\n"),
             (["--in", "w", "count where year>=1997"], "; a range is 202503..202506\n"),
             (["--in", "w", "count where part=a or part=b"], "NAME=VALUE and ..\n"),
+            (["--in", "w", "count where year=1997 or 1998"], "NAME=VALUE and ..\n"),
+            (["--in", "w", "select count(*) from facts where year='x'"], "refused sql value 39: no such value can be: a text stands in '..'"),
             (["--in", "w", "status"], "refused syntax 1"),
             (["--in", "empty", "count"], "refused no schema: no schema is declared in the folder"),
             (["--in", "nowhere", "count"], "no such folder: nowhere"),
