@@ -63,7 +63,7 @@ def refusal(tool: str, asked: Asked, text: str, refused: Refused) -> str:
     value, word = VALUE.search(front), refused.reply.split()[1]
     if value and schema and value["name"] in schema.numbers and word in ("syntax", "value"):
         said = f"{refused.reply}: {value['name']} is a number: 202503, or 202503..202506" if ODD_NUMBER.match(rest) else said
-    elif word == "syntax":
+    elif word == "syntax" and not is_query(text):
         said += syntax_hint(front, rest)
     elif refused.reply.startswith("refused sql name") and re.split(r"\W", rest)[0] in levels:
         said += "; SQL has no levels"

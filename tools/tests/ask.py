@@ -61,6 +61,7 @@ class Ask(Case):
             (["--in", "w", "count where part=a or part=b"], "NAME=VALUE and ..\n"),
             (["--in", "w", "count where year=1997 or 1998"], "NAME=VALUE and ..\n"),
             (["--in", "w", "select count(*) from facts where year='x'"], "refused sql value 39: no such value can be: a text stands in '..'"),
+            (["--in", "w", "--explain", "select count(*) from facts"], "NAME=VALUE and ..\n"),
             (["--in", "w", "status"], "refused syntax 1"),
             (["--in", "empty", "count"], "refused no schema: no schema is declared in the folder"),
             (["--in", "nowhere", "count"], "no such folder: nowhere"),
