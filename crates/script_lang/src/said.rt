@@ -1,6 +1,6 @@
 //! What one line of a script says.
-ghost use Rattle.std.specs.Prelude.{◌≡◌, IfOk};
-ghost use Rattle.std.specs.List.{before_first, after_first};
+ghost use Rattle.std.specs.Prelude.{◌≡◌, IfOk, nat_eq};
+ghost use Rattle.std.specs.List.{before_first, after_first, starts_with};
 ghost use Rattle.script_lang.specs.Script.{KeepsLimit, SaysNoBlock};
 ghost use Rattle.script_lang.specs.Said.{is_text, said_in, said_with, said_by, is_end, is_space, level_in, load_in, step_in, generate_in, count_in};
 
@@ -91,32 +91,32 @@ fn said_with(alloc: Global, line: &[u8]) -> Result<Said, Memory>
     ensures said { IfOk result (λ said. said ≡ said_with line.now) }
     ensures fits { IfOk result SaysNoBlock }
 {
-    if line.starts_with(b"load ") {
+    if begins(line, b"load ") {
         return Ok(load(after(line, 5)));
     }
-    if line.starts_with(b"slice ") {
+    if begins(line, b"slice ") {
         let text = Text::from_bytes(alloc, after(line, 6))?;
         return Ok(Said::Says(Command::Slice(text)));
     }
-    if line.starts_with(b"explain ") {
+    if begins(line, b"explain ") {
         let text = Text::from_bytes(alloc, after(line, 8))?;
         return Ok(Said::Says(Command::Explain(text)));
     }
-    if line.starts_with(b"sql ") {
+    if begins(line, b"sql ") {
         let text = Text::from_bytes(alloc, after(line, 4))?;
         return Ok(Said::Says(Command::Sql(text)));
     }
-    if line.starts_with(b"rollup ") {
+    if begins(line, b"rollup ") {
         let text = Text::from_bytes(alloc, after(line, 7))?;
         return Ok(Said::Says(Command::Rollup(text)));
     }
-    if line.starts_with(b"level ") {
+    if begins(line, b"level ") {
         return level(alloc, after(line, 6));
     }
-    if line.starts_with(b"step ") {
+    if begins(line, b"step ") {
         return Ok(Said::Says(step(after(line, 5))));
     }
-    if line.starts_with(b"generate ") {
+    if begins(line, b"generate ") {
         return Ok(Said::Says(generate(after(line, 9))));
     }
     Ok(Said::Says(Command::Unknown))
@@ -175,5 +175,21 @@ fn generate(words: &[u8]) -> Command
 fn is_text(text: &str, line: &[u8]) -> bool
     ensures { result ≡ is_text text.now line.now }
 {
-    line == text.as_bytes()
+    let text = text.as_bytes();
+    match (line, text) {
+        // Most texts differ in their first two bytes, which cost less to look at than a call.
+        ([first, second, ..], [one, other, ..]) if first != one || second != other => false,
+        _ => line == text,
+    }
+}
+
+/// Whether the line begins with this word.
+#[inline(always)]
+fn begins(line: &[u8], word: &[u8]) -> bool
+    ensures { result ≡ starts_with nat_eq line.now word.now }
+{
+    match (line, word) {
+        ([first, second, ..], [one, other, ..]) if first != one || second != other => false,
+        _ => line.starts_with(word),
+    }
 }
