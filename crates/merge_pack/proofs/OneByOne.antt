@@ -129,11 +129,12 @@ module _ (new : List Entry) (next : Option Point) (a : ℕ) where
     olds : w.old_counts ≡ many_more n a v.old_counts
     news : w.new_counts ≡ many_more n a v.new_counts
 
-  module _ (n : ℕ) (v : Merger) (safe : IsSafe v new) (is : first_point (drop v.taken new) ≡ next) (ready : Ready (suc n) v) (leaf inner : List ℕ) where
+  module _ (n : ℕ) (v : Merger) (safe : IsSafe v new) (is : first_point (drop v.taken new) ≡ next) (ready : Ready (suc n) v) (leaf inner : List ℕ) (ahead : ℕ) where
     abbrev u : Merger
     u = record {
       scan = record v.scan { held = drop 1 v.scan.held };
       taken = v.taken;
+      ahead = ahead;
       file = v.file;
       at = with_points (take 1 v.scan.held) v.at;
       leaf = leaf;
@@ -208,8 +209,8 @@ module _ (new : List Entry) (next : Option Point) (a : ℕ) where
 
   -- ---- all of them
 
-  carries-from : (n : ℕ) (v w : Merger) → IsSafe v new → first_point (drop v.taken new) ≡ next → Ready n v → Moved n v w → v.leaf ≡ w.leaf → v.inner ≡ w.inner → Carries new n v w
-  carries-from zero v w safe is ready moved leaf inner =
+  carries-from : (n : ℕ) (v w : Merger) → IsSafe v new → first_point (drop v.taken new) ≡ next → Ready n v → Moved n v w → v.leaf ≡ w.leaf → v.inner ≡ w.inner → v.ahead ≡ w.ahead → Carries new n v w
+  carries-from zero v w safe is ready moved leaf inner ahead =
       let at : v.at ≡ w.at = ap (λ (l : List Entry). record v.at { buffer = l }) (sym (append-nil v.at.buffer)) ∙ sym moved.at in
       let olds : v.old_counts ≡ w.old_counts = sym (moved.olds ∙ more-none a v.old_counts) in
       let news : v.new_counts ≡ w.new_counts = sym (moved.news ∙ more-none a v.new_counts) in
@@ -220,19 +221,20 @@ module _ (new : List Entry) (next : Option Point) (a : ℕ) where
         at = at i;
         leaf = leaf i;
         inner = inner i;
+        ahead = ahead i;
         old_counts = olds i;
         new_counts = news i;
       }) in
       subst (Carries new 0 v) whole carries_none
-  carries-from (suc n) v w safe is ready moved leaf inner =
-      carries_one (one-goes n v safe is ready w.leaf w.inner) (one-keeps n v safe is ready w.leaf w.inner) refl
-      (carries-from n (u n v safe is ready w.leaf w.inner) w (one-safe n v safe is ready w.leaf w.inner) is (one-ready n v safe is ready w.leaf w.inner) (one-moved n v safe is ready w.leaf w.inner w moved) refl refl)
+  carries-from (suc n) v w safe is ready moved leaf inner ahead =
+      carries_one (one-goes n v safe is ready w.leaf w.inner w.ahead) (one-keeps n v safe is ready w.leaf w.inner w.ahead) refl
+      (carries-from n (u n v safe is ready w.leaf w.inner w.ahead) w (one-safe n v safe is ready w.leaf w.inner w.ahead) is (one-ready n v safe is ready w.leaf w.inner w.ahead) (one-moved n v safe is ready w.leaf w.inner w.ahead w moved) refl refl refl)
 
   adds-all : (n : ℕ) (v : Merger) → IsSafe v new → first_point (drop v.taken new) ≡ next → Ready n v → MayAddAll v.at.shape v.at.buffer (take n v.scan.held)
   adds-all zero v safe is ready = tt
   adds-all (suc n) v safe is ready =
-      add-first v.at.shape v.at.buffer v.scan.held n (some n v safe is ready v.leaf v.inner) (one-may n v safe is ready v.leaf v.inner)
-      (adds-all n (u n v safe is ready v.leaf v.inner) (one-safe n v safe is ready v.leaf v.inner) is (one-ready n v safe is ready v.leaf v.inner))
+      add-first v.at.shape v.at.buffer v.scan.held n (some n v safe is ready v.leaf v.inner v.ahead) (one-may n v safe is ready v.leaf v.inner v.ahead)
+      (adds-all n (u n v safe is ready v.leaf v.inner v.ahead) (one-safe n v safe is ready v.leaf v.inner v.ahead) is (one-ready n v safe is ready v.leaf v.inner v.ahead))
 
 -- ---- as the code has them
 
@@ -251,7 +253,7 @@ module _ (new : List Entry) (next : Option Point) (n : ℕ) (v : Merger) (safe :
     some = omega arith;
     shape = may.room.shape;
     held = may.room.held;
-    arity = one-arity new next first n v safe is is-ready v.leaf v.inner;
+    arity = one-arity new next first n v safe is is-ready v.leaf v.inner v.ahead;
     counts = (may-less (falls v.scan.left (merging_of v new)) (suc n) v.old_counts few-left safe.counts.passed, may-less (falls v.scan.left (merging_of v new)) (suc n) v.new_counts few-left safe.counts.moved);
     may = adds-all new next first (suc n) v safe is is-ready;
   }
@@ -259,9 +261,9 @@ module _ (new : List Entry) (next : Option Point) (n : ℕ) (v : Merger) (safe :
   run-carries : (w : Merger) → HasMovedRun (suc n) v w → Carries new (suc n) v w
   run-carries w moved =
       let has : Moved new next first (suc n) v w = record { scan = moved.scan; taken = moved.taken; file = moved.file; at = moved.at; olds = moved.old_counts; news = moved.new_counts } in
-      carries_one (one-goes new next first n v safe is is-ready w.leaf w.inner) (one-keeps new next first n v safe is is-ready w.leaf w.inner) refl
-      (carries-from new next first n (u new next first n v safe is is-ready w.leaf w.inner) w (one-safe new next first n v safe is is-ready w.leaf w.inner) is
-      (one-ready new next first n v safe is is-ready w.leaf w.inner) (one-moved new next first n v safe is is-ready w.leaf w.inner w has) refl refl)
+      carries_one (one-goes new next first n v safe is is-ready w.leaf w.inner w.ahead) (one-keeps new next first n v safe is is-ready w.leaf w.inner w.ahead) refl
+      (carries-from new next first n (u new next first n v safe is is-ready w.leaf w.inner w.ahead) w (one-safe new next first n v safe is is-ready w.leaf w.inner w.ahead) is
+      (one-ready new next first n v safe is is-ready w.leaf w.inner w.ahead) (one-moved new next first n v safe is is-ready w.leaf w.inner w.ahead w has) refl refl refl)
 
 pub may-run : (new : List Entry) (next : Option Point) (n : ℕ) (v : Merger) → IsSafe v new → first_point (drop v.taken new) ≡ next → 0 < n → MayMoveAtOnce n next v.scan v.at → MayMoveRun n v
 may-run new next zero v safe is pos may = absurd (omega (arith, pos))

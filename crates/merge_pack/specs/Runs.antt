@@ -10,7 +10,7 @@ use Rattle.page_fmt.specs.Writing.{leaf_arity}
 use Rattle.leaf_pack.specs.Leaf.{MayAddAll}
 use Rattle.tree_pack.specs.Moving.{Moving, with_points}
 use Rattle.tree_scan.specs.Streaming.{Scanned}
-use Rattle.merge_pack.specs.Merging.{Merger, turns_at}
+use Rattle.merge_pack.specs.Merging.{Merger, first_point, turns_at}
 use Rattle.merge_pack.specs.Safe.{MayCount}
 
 -- so many more of this arity
@@ -21,6 +21,15 @@ many_more count arity counts = set counts arity (slice_index counts arity + coun
 abbrev pub ComeBefore : Option Point → List Entry → Type 0
 ComeBefore None es = Unit {0}
 ComeBefore (Some p) es = All (Precedes p) es
+
+-- the first so many of these points come before this one, if there is one
+pub record AreAhead (count : ℕ) (next : Option Point) (old : List Entry) : Type 0 where
+  pub held : count ≤ length old
+  pub before : ComeBefore next (take count old)
+
+-- what the merge keeps of the next old points is so
+abbrev pub KnowsAhead : List Entry → Merger → Type 0
+KnowsAhead new v = AreAhead v.ahead (first_point (drop v.taken new)) v.scan.held
 
 -- as far as the tree and the leaf let them, the first so many old points may be moved at once
 pub record HasRoomFor (count : ℕ) (scan : Scanned) (at : Moving) : Type 0 where

@@ -6,11 +6,20 @@ ghost use Rattle.page_fmt.specs.Taking.{ascend, entry_before};
 ghost use Rattle.page_fmt.specs.Writing.{leaf_arity};
 ghost use Rattle.tree_pack.specs.Moving.{with_points};
 ghost use Rattle.merge_pack.specs.Merging.{turns_at};
-ghost use Rattle.merge_pack.specs.Runs.{ComeBefore, HasRoomFor, MayMoveAtOnce};
+ghost use Rattle.merge_pack.specs.Runs.{ComeBefore, HasRoomFor};
 
 use cube_point::Point;
 use tree_pack::Packer;
 use tree_scan::Scan;
+
+/// The next old points that come before the next new one.
+#[derive(Clone, Copy)]
+pub(crate) struct Stretch {
+    /// How many of them may be moved at once.
+    pub count: usize,
+    /// How many are known; none where none may be moved.
+    pub ahead: usize,
+}
 
 /// The arity of the next old point; 0 where none is held.
 pub(crate) fn next_arity(scan: &Scan) -> u8
@@ -33,15 +42,12 @@ pub(crate) fn turns(packer: &Packer, arity: u8) -> bool
 }
 
 /// How many of the next old points may be moved at once, as far as the page, the leaf and a limit let them: none where a level is full, the leaf
-/// is of another arity, the trees are of two shapes, or the limit is a single move.
-fn room_at_once(scan: &Scan, packer: &Packer, limit: u64) -> usize
+/// is of another arity, or the trees are of two shapes.
+pub(crate) fn room_at_once(scan: &Scan, packer: &Packer, limit: u64) -> usize
     requires arity { leaf_arity scan.now.held ≤ 8 }
     ensures limit { result ≤ limit }
     ensures room { 0 < result → HasRoomFor result scan.now packer.now.at }
 {
-    if limit < 2 {
-        return 0;
-    }
     let arity = next_arity(scan);
     if packer.full().is_some() || turns(packer, arity) || scan.shape() != packer.shape() {
         return 0;
@@ -51,7 +57,7 @@ fn room_at_once(scan: &Scan, packer: &Packer, limit: u64) -> usize
 }
 
 /// How many of so many next old points come before the next new one, where there is one.
-fn count_before(scan: &Scan, most: usize, new: &Option<Point>) -> usize
+pub(crate) fn count_before(scan: &Scan, most: usize, new: &Option<Point>) -> usize
     requires some { 0 < most }
     requires held { most ≤ length scan.now.held }
     requires order { ascend entry_before scan.now.held ≡ true }
@@ -62,20 +68,6 @@ fn count_before(scan: &Scan, most: usize, new: &Option<Point>) -> usize
         Some(point) => scan.run(most).count_before(point),
         None => most,
     }
-}
-
-/// How many of the next old points may be moved at once, where `new` is the point of the next new one.
-pub(crate) fn count_at_once(scan: &Scan, packer: &Packer, new: &Option<Point>, limit: u64) -> usize
-    requires arity { leaf_arity scan.now.held ≤ 8 }
-    requires order { ascend entry_before scan.now.held ≡ true }
-    ensures limit { result ≤ limit }
-    ensures may { 0 < result → MayMoveAtOnce result new.now scan.now packer.now.at }
-{
-    let most = room_at_once(scan, packer, limit);
-    if most == 0 {
-        return 0;
-    }
-    count_before(scan, most, new)
 }
 
 /// Moves so many of the next old points at once, by copying their bytes.
