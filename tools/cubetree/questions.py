@@ -78,6 +78,6 @@ def ranges_of_texts(text: str, numbers: Container[str]) -> "list[str]":
     parts = PARTS.fullmatch(text)
     found = CONDITION.finditer(parts["conditions"] or "") if parts else ()
     return [
-        f"{each['name']} is a text: {each['plain']} is one value, no range (a range needs a number, as 202503..202506)"
+        f"{each['name']} is a text: {each['plain']} is one value, no range (ranges need an attribute of numbers, in a new folder)"
         for each in found if ".." in (each["plain"] or "") and each["name"] not in numbers
     ]

@@ -37,12 +37,12 @@ class Ask(Case):
         """A text that looks like a range is one value, and is said to be."""
         told, said = ask("--in", "w", "count by year where part=a..c and year=1997..1998")
         self.assertEqual(told, "year  count\n----  -----\n(0 rows)\n")
-        self.assertEqual(said, "ask: part is a text: a..c is one value, no range (a range needs a number, as 202503..202506)\n")
+        self.assertEqual(said, "ask: part is a text: a..c is one value, no range (ranges need an attribute of numbers, in a new folder)\n")
         self.assertEqual(ask("--in", "w", 'count where part="a..c, year=1..2" and year=1997..1998')[1], "")
         self.put("file", "part,year,qty\n2025-03,1997,5\n")
         self.put("asked", "sum(qty) where part=2025-03..2025-06\n")
         said = load("--propose", "--ask", "asked", "file")[1]
-        self.assertEqual(said, "load-csv: part is a text: 2025-03..2025-06 is one value, no range (a range needs a number, as 202503..202506)\n")
+        self.assertEqual(said, "load-csv: part is a text: 2025-03..2025-06 is one value, no range (ranges need an attribute of numbers, in a new folder)\n")
 
     def test_refusals(self):
         os.mkdir("empty")
