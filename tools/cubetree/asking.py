@@ -54,8 +54,8 @@ def refusal(tool: str, asked: Asked, text: str, refused: Refused) -> str:
     """A refusal in words, below it the slice with a mark at the byte."""
     schema, levels = asked.schema(), asked.levels()
     said = meaning(schema, levels, refused)
-    if refused.reply == "refused notcovered" and schema and not is_query(text):
-        return said + view_hint(question_of(text).attributes(), schema)
+    if refused.reply == "refused notcovered" and schema:
+        return said + view_hint([] if is_query(text) else question_of(text).attributes(), schema)
     if not refused.byte:
         return said
     line = text.encode("utf-8", "surrogateescape")
@@ -73,9 +73,11 @@ def refusal(tool: str, asked: Asked, text: str, refused: Refused) -> str:
 
 
 def view_hint(names: "list[str]", schema: Schema) -> str:
-    """Which view a slice of these attributes needs, where a view can have them; nothing where one is a level."""
-    fits = len(names) <= MOST_OF_A_VIEW and set(names) <= set(schema.attributes)
-    return f"; load into a new folder with a view of {','.join(names)}" if fits else ""
+    """Which view a question of these attributes needs, by name where all of them are known as attributes; nothing where they are too many for a view."""
+    if len(names) > MOST_OF_A_VIEW:
+        return ""
+    is_known = names and set(names) <= set(schema.attributes)
+    return "; load into a new folder with a view " + (f"of {','.join(names)}" if is_known else "that has them all")
 
 
 def syntax_hint(front: str, rest: str) -> str:

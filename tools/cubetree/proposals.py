@@ -13,6 +13,7 @@ from .words import counted, shown
 
 NUMBER = re.compile(r"-?(0|[1-9][0-9]*)", re.ASCII)
 CONDITION = re.compile(r"[+-]?[0-9]+(\.\.[+-]?[0-9]+)?", re.ASCII)
+DATE = re.compile(r"[0-9]{4}-[0-9]{2}(-[0-9]{2})?", re.ASCII)
 DECIMAL = re.compile(NUMBER.pattern + r"(\.[0-9]+)?", re.ASCII)
 MOST_ATTRIBUTES, MOST_MEASURES, MOST_VIEWS = 16, 4, 32
 MOST_TEXTS, GREATEST_MAX, GREATEST_VALUE, GREATEST_NARROW, FEW_VALUES = 1_000_000, 16_777_215, (1 << 63) - 1, 4_294_967_293, 1000
@@ -53,12 +54,14 @@ class Column:
         many = f"more than {MOST_TEXTS:,} different values" if len(self.values) > MOST_TEXTS else counted(len(self.values), "different value")
         if self.is_number:
             return many + (f", {self.least} to {self.greatest}" if self.values else "") + self.note
-        return many + ("; whole numbers, without points and empty fields, could be a measure" if self.is_nearly_number() else "")
+        if self.is_all(DECIMAL):
+            return many + "; whole numbers, without points and empty fields, could be a measure"
+        return many + ("; write a month as 202503 to ask for ranges" if self.is_all(DATE) else "")
 
-    def is_nearly_number(self) -> bool:
-        """Whether it would be of numbers but for points and empty fields."""
+    def is_all(self, form: "re.Pattern[str]") -> bool:
+        """Whether it has values, and all but empty ones are of this form."""
         values = self.values - {""}
-        return bool(values) and all(DECIMAL.fullmatch(value) for value in values)
+        return bool(values) and all(form.fullmatch(value) for value in values)
 
     def declaration(self) -> str:
         """The line of a schema that declares it as an attribute."""

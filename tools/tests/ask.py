@@ -74,7 +74,8 @@ class Ask(Case):
         run(program(), given=b"schema\nattr part text\nattr year number\nmeasure qty\nview part\nview\nend\n", cwd="narrow")
         said = ask("--in", "narrow", "count by part where year=1", status=1)[1]
         self.assertIn("have a condition; the views are of part; none; load into a new folder with a view of part,year\n", said)
-        self.assertIn("the views are of part; none\n", ask("--in", "narrow", "select part, year from facts group by part, year", status=1)[1])
+        said = ask("--in", "narrow", "select part, year from facts group by part, year", status=1)[1]
+        self.assertIn("the views are of part; none; load into a new folder with a view that has them all\n", said)
 
     def test_damaged(self):
         with open("w/root", "r+b") as root:

@@ -100,7 +100,7 @@ class LoadCsv(Case):
         said = load("--schema", "schema", "--into", "w", "--batch", "2", "file", status=1)[1]
         self.assertIn("rows 3 to 3 were refused: refused names part; the folder keeps 2 facts", said)
         self.put("other", "# mine\nschema\nattr part text max 3\nmeasure qty\nview part\nend\n")
-        self.assertIn("the folder has another schema than other", load("--schema", "other", "--into", "w", "--go-on", "file", status=1)[1])
+        self.assertIn("the folder has another schema than other: give a new folder; ", load("--schema", "other", "--into", "w", "--go-on", "file", status=1)[1])
         os.mkdir("v")
         self.put("faulty", "attr part text\n# of what\nmeasure QTY\nview part\n")
         self.put("file", "part,qty\n")
@@ -128,6 +128,8 @@ class LoadCsv(Case):
         for content, line in [
             ("k,n,m\nx,1,4\n", "# m: 1 different value, 4 to 4; the last column of numbers: another may be the measure"),
             ("k,n\nx,1\n", "# n: 1 different value, 1 to 1"),
+            ("k,n\n2025-03,1\n2025-04,1\n", "# k: 2 different values; write a month as 202503 to ask for ranges"),
+            ("k,n\n2025-03,1\nx,1\n", "# k: 2 different values"),
             ("k;n\nx;1\n", "# one column: try --delimiter ';'"),
             ("k\tn\nx\t1\n", "# one column: try --delimiter tab"),
         ]:
