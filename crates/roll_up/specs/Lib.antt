@@ -1,4 +1,5 @@
 pub mod Bases
+pub mod Children
 pub mod Levels
 pub mod Lifted
 pub mod Parents

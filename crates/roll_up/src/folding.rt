@@ -14,10 +14,10 @@ ghost use Rattle.roll_up.specs.Lifted.{HasForm, groups_of, rolled_up};
 
 use crate::base::base_of;
 use crate::level::LevelList;
-use crate::lifting::{Lifting, Room};
+use crate::lifting::Lifting;
 use cube_schema::Schema;
 use fact_model::{Memory, Rows, Slice};
-use row_fold::{LentRow, LentRows, RowFold};
+use row_fold::{LentRow, LentRows, LentValue, RowFold};
 use std::alloc::Global;
 
 /// Rolls the rows of the base slice up: those whose keys meet the conditions on levels, grouped anew, and their numbers joined. Where the
@@ -81,7 +81,7 @@ fn fold_of<'a, R: LentRows>(
 {
     let mut fold = RowFold::new(alloc);
     let mut row = LentRow::new(alloc);
-    let mut room = Room::new(alloc);
+    let mut room = Vec::new(alloc);
     for place in 0..rows.count() {
         rows.lend(place, &mut row)?;
         take_row(alloc, &lifting, &row, &mut room, &mut fold)?;
@@ -94,7 +94,7 @@ fn take_row<'a>(
     alloc: Global,
     lifting: &Lifting<'a>,
     row: &LentRow<'a>,
-    room: &mut Room<'a>,
+    room: &mut Vec<LentValue<'a>>,
     fold: &mut RowFold<'a>,
 ) -> Result<(), Memory>
     requires group { lifting.now.group.now ≡ (base lifting.now.arity lifting.now.levels.now lifting.now.slice.now).group }
@@ -104,14 +104,14 @@ fn take_row<'a>(
         → fold.new ≡ groups_of lifting.now.arity lifting.now.levels.now lifting.now.slice.now (rows ++ row_in row.now ∷ [])) }
 {
     let key = row.key.as_slice();
-    if !lifting.keeps(alloc, key, &mut room.text)? {
+    if !lifting.keeps(key) {
         return Ok(());
     }
-    lifting.roll(alloc, key, room)?;
+    lifting.roll(key, room)?;
     fold.take(
         alloc,
         lifting.slice.columns.as_slice(),
-        room.key.as_slice(),
+        room.as_slice(),
         row.numbers.as_slice(),
     )
 }

@@ -2,6 +2,7 @@
 #![tactic(auto)]
 
 mod base;
+mod child;
 mod extending;
 mod folding;
 mod level;

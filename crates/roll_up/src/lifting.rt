@@ -1,5 +1,5 @@
 //! The keys of base rows, rolled up.
-ghost use Rattle.std.specs.Prelude.{◌≡◌, IfOk, OnOk, map};
+ghost use Rattle.std.specs.Prelude.{◌≡◌, OnOk, map};
 ghost use Rattle.row_fold.specs.Lent.{value_of};
 ghost use Rattle.roll_up.specs.Bases.{base};
 ghost use Rattle.roll_up.specs.Lifted.{is_kept, is_met, rolled, value_for, value_in};
@@ -8,7 +8,6 @@ ghost use Rattle.roll_up.specs.Parents.{parent_of};
 use crate::level::Level;
 use fact_model::{Cond, Memory, Slice};
 use row_fold::LentValue;
-use std::alloc::Global;
 
 /// What a roll-up asks of the base rows.
 #[derive(Clone, Copy)]
@@ -23,81 +22,47 @@ pub(crate) struct Lifting<'a> {
     pub(crate) group: &'a [u32],
 }
 
-/// Room that is used for row after row.
-#[derive(Drop)]
-pub(crate) struct Room<'a> {
-    /// For a key, rolled up.
-    pub(crate) key: Vec<LentValue<'a>>,
-    /// For a text that is looked up.
-    pub(crate) text: Vec<u8>,
-}
-
-impl<'a> Room<'a> {
-    /// No room yet. It takes no memory.
-    pub(crate) fn new(alloc: Global) -> Room<'a> {
-        Room {
-            key: Vec::new(alloc),
-            text: Vec::new(alloc),
-        }
-    }
-}
-
 impl<'a> Lifting<'a> {
-    /// Makes the key of the room that of a base row, rolled up.
+    /// Puts into the room, which is used for row after row, the key of a base row, rolled up.
     pub(crate) fn roll(
         &self,
-        alloc: Global,
         key: &[LentValue<'a>],
-        room: &mut Room<'a>,
+        room: &mut Vec<LentValue<'a>>,
     ) -> Result<(), Memory>
         requires { self.now.group.now ≡ (base self.now.arity self.now.levels.now self.now.slice.now).group }
-        ensures { OnOk result (map value_of room.new.key.items ≡ rolled self.now.arity self.now.levels.now self.now.slice.now (map value_of key.now)) }
+        ensures { OnOk result (map value_of room.new.items ≡ rolled self.now.arity self.now.levels.now self.now.slice.now (map value_of key.now)) }
     {
-        room.key.clear();
+        room.clear();
         for attr in self.slice.group.as_slice() {
-            let value = self.value(alloc, key, *attr, &mut room.text)?;
-            room.key.push(value)?;
+            room.push(self.value(key, *attr))?;
         }
         Ok(())
     }
 
     /// Whether the key of a base row meets the conditions on levels.
-    pub(crate) fn keeps(
-        &self,
-        alloc: Global,
-        key: &[LentValue<'a>],
-        room: &mut Vec<u8>,
-    ) -> Result<bool, Memory>
+    pub(crate) fn keeps(&self, key: &[LentValue<'a>]) -> bool
         requires { self.now.group.now ≡ (base self.now.arity self.now.levels.now self.now.slice.now).group }
-        ensures { IfOk result (λ kept. kept ≡ is_kept self.now.arity self.now.levels.now self.now.slice.now (map value_of key.now)) }
+        ensures { result ≡ is_kept self.now.arity self.now.levels.now self.now.slice.now (map value_of key.now) }
     {
         for cond in self.slice.conds.as_slice() {
-            if cond.attr() >= self.arity
-                && !is_met(cond, self.value(alloc, key, cond.attr(), room)?)
-            {
-                return Ok(false);
+            if cond.attr() >= self.arity && !is_met(cond, self.value(key, cond.attr())) {
+                return false;
             }
         }
-        Ok(true)
+        true
     }
 
     /// A base row's value of an attribute of the extended schema. It is the number 0 for one that there is not.
-    fn value(
-        &self,
-        alloc: Global,
-        key: &[LentValue<'a>],
-        attr: u32,
-        room: &mut Vec<u8>,
-    ) -> Result<LentValue<'a>, Memory>
+    fn value(&self, key: &[LentValue<'a>], attr: u32) -> LentValue<'a>
         requires { self.now.group.now ≡ (base self.now.arity self.now.levels.now self.now.slice.now).group }
-        ensures { IfOk result (λ value. value_of value ≡ value_in self.now.arity self.now.levels.now self.now.slice.now (map value_of key.now) attr) }
+        ensures { value_of result ≡ value_in self.now.arity self.now.levels.now self.now.slice.now (map value_of key.now) attr }
     {
         if attr < self.arity {
-            return Ok(value_for(self.group, key, attr));
+            return value_for(self.group, key, attr);
         }
         match self.levels.get((attr - self.arity) as usize) {
-            Some(level) => Ok(LentValue::Word(parent_for(alloc, self.group, key, level, room)?)),
-            None => Ok(LentValue::Number(0)),
+            Some(level) => LentValue::Word(parent_for(self.group, key, level)),
+            None => LentValue::Number(0),
         }
     }
 }
@@ -115,18 +80,10 @@ fn value_for<'a>(group: &[u32], key: &[LentValue<'a>], attr: u32) -> LentValue<'
 }
 
 /// The parent that a level gives the value of its attribute in a key.
-fn parent_for<'a>(
-    alloc: Global,
-    group: &[u32],
-    key: &[LentValue<'_>],
-    level: &'a Level,
-    room: &mut Vec<u8>,
-) -> Result<&'a [u8], Memory>
-    ensures { IfOk result (λ parent. parent.now ≡ parent_of level.now.parents (value_for group.now (map value_of key.now) level.now.attr)) }
+fn parent_for<'a>(group: &[u32], key: &[LentValue<'_>], level: &'a Level) -> &'a [u8]
+    ensures { result.now ≡ parent_of level.now.parents (value_for group.now (map value_of key.now) level.now.attr) }
 {
-    level
-        .parents
-        .parent_of(alloc, value_for(group, key, level.attr), room)
+    level.parents.parent_of(value_for(group, key, level.attr))
 }
 
 /// Whether the value meets the condition.

@@ -1,9 +1,10 @@
 //! Reading a level.
-ghost use Rattle.std.specs.Prelude.{◌≡◌, ◌++◌, ◌∷◌, [], Ok, IfOk, get_or};
+ghost use Rattle.std.specs.Prelude.{◌≡◌, ◌++◌, ◌∷◌, [], Ok, IfOk, get_or, option_map};
 ghost use Rattle.std.specs.List.{list_any};
 ghost use Rattle.std.specs.Str.{bytes_eq};
 ghost use Rattle.csv.specs.Records.{fields_of};
 ghost use Rattle.cube_schema.specs.Lawful.{IsSchema};
+ghost use Rattle.row_fold.specs.Lent as lent;
 ghost use Rattle.roll_up.specs.Levels.{Fit};
 ghost use Rattle.roll_up.specs.Reading.{Answers, after_row, is_free, level_of, parents_in, so_far_of, value_of};
 ghost use Rattle.roll_up.specs.declared.level.Level as known;
@@ -13,8 +14,9 @@ use crate::refusal::LevelRefusal;
 use csv::ByteRecord;
 use csv_text::{block_reader, read_record};
 use cube_schema::{Kind, Schema, is_name};
-use fact_model::{LONGEST_TEXT, Memory, Text, Value};
+use fact_model::{LONGEST_TEXT, Text};
 use hash_seed::Seed;
+use row_fold::LentValue;
 use slice_lang::read_coordinate;
 use std::alloc::Global;
 
@@ -154,7 +156,7 @@ fn read_row(
     if fields.len() != 2 {
         return Err(LevelRefusal::Fields(row));
     }
-    let Some(value) = read_value(alloc, kind, field(fields, 0))? else {
+    let Some(value) = read_value(kind, field(fields, 0)) else {
         return Err(LevelRefusal::Number(row));
     };
     if field(fields, 0).len() > LONGEST_TEXT {
@@ -163,19 +165,22 @@ fn read_row(
     if field(fields, 1).len() > LONGEST_TEXT {
         return Err(LevelRefusal::Long { row, field: 2 });
     }
-    if !parents.add(value, Text::from_bytes(alloc, field(fields, 1))?)? {
+    if !parents.add(alloc, value, field(fields, 1))? {
         return Err(LevelRefusal::Repeated(row));
     }
     Ok(())
 }
 
 /// The value of an attribute that a field writes.
-fn read_value(alloc: Global, kind: Kind, bytes: &[u8]) -> Result<Option<Value>, Memory>
-    ensures { IfOk result (λ value. value ≡ value_of kind bytes.now) }
+fn read_value(kind: Kind, bytes: &[u8]) -> Option<LentValue<'_>>
+    ensures { option_map lent.value_of result ≡ value_of kind bytes.now }
 {
     match kind {
-        Kind::Word { .. } => Ok(Some(Value::Word(Text::from_bytes(alloc, bytes)?))),
-        Kind::Number => Ok(read_coordinate(bytes).map(Value::Number)),
+        Kind::Word { .. } => Some(LentValue::Word(bytes)),
+        Kind::Number => match read_coordinate(bytes) {
+            Some(number) => Some(LentValue::Number(number)),
+            None => None,
+        },
     }
 }
 

@@ -1,4 +1,4 @@
-use Rattle.std.proofs.Common.{◌≡◌, ◌<◌, ◌+◌, ◌++◌, ◌∷◌, ◌∙◌, [], List, ap, arith, get_or, length, sym, take}
+use Rattle.std.proofs.Common.{◌≡◌, ◌<◌, ◌+◌, ◌++◌, ◌∷◌, ◌∙◌, [], List, ap, arith, length, sym, take}
 use Rattle.std.proofs.lemmas.List.{take_more}
 use Rattle.fact_model.specs.declared.slice.Row.{Row}
 use Rattle.row_fold.specs.Lent.{row_in}

@@ -21,6 +21,6 @@ returns c =
     let keys = ap (map value_of) c.as_slice-2.ensures.value ∙ (c.in_ok-roll.ensures ∙ ap up values) in
     let numbers = c.as_slice-3.ensures.value in
     on_ok_weaker c.take.result
-    (λ more. λ rows so_far. taken-in cs kept up rows row c.args.fold.now c.take.new.self (ap kept (sym values) ∙ (sym c.in_ok-keeps.ensures ∙ c.if-not-branch.false))
+    (λ more. λ rows so_far. taken-in cs kept up rows row c.args.fold.now c.take.new.self (ap kept (sym values) ∙ (sym c.keeps.ensures ∙ c.if-not-keeps.false))
     (λ qs is. more qs (is ∙ ap (λ ds. by_key ds qs) (sym columns)) ∙ (λ i. by_key (columns i) (qs ++ record { key = keys i; numbers = numbers i } ∷ []))) so_far)
     c.take.ensures.taken

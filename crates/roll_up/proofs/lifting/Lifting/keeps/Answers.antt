@@ -18,4 +18,4 @@ returns-then-not-is_met c =
     sym (ap (λ cs. list_all met (filter (is_on_level l.arity) cs)) (sym c.as_slice-cond-items.ensures)
     ∙ one-fails (is_on_level l.arity) met c.as_slice-cond-items.result.now c.loop-cond.cond-index c.cond-item.result c.loop-cond-test.true c.cond-item.is
     (le-true l.arity (attr_of c.cond-item.result) (subst (λ a. l.arity ≤ a) c.attr.ensures c.if-attr-self.true))
-    (ap (is_met c.cond-item.result) (ap (value_in l.arity l.levels.now l.slice.now key) (sym c.attr-then-attr-self.ensures) ∙ sym c.in_ok-value.ensures) ∙ (sym c.is_met.ensures ∙ c.if-not-is_met.true)))
+    (ap (is_met c.cond-item.result) (ap (value_in l.arity l.levels.now l.slice.now key) (sym c.attr-then-attr-self.ensures) ∙ sym c.value.ensures) ∙ (sym c.is_met.ensures ∙ c.if-not-is_met.true)))

@@ -5,4 +5,4 @@ use Rattle.roll_up.proofs.lifting.Lifting.roll.Given as goal
 
 -- the values of the attributes passed
 abbrev pub invariant-loop-attr : goal.invariant-loop-attr
-invariant-loop-attr l = map value_of l.room.key.items ≡ map (value_in l.self.arity l.self.levels.now l.self.slice.now (map value_of l.key)) (take l.attr-index l.self.slice.now.group)
+invariant-loop-attr l = map value_of l.room.items ≡ map (value_in l.self.arity l.self.levels.now l.self.slice.now (map value_of l.key)) (take l.attr-index l.self.slice.now.group)
