@@ -22,7 +22,8 @@ use Rattle.merge_pack.specs.declared.side.Advance.TheVariants as advances
 use Rattle.merge_pack.specs.declared.side.Side.{Side}
 use Rattle.merge_pack.specs.declared.side.Side.TheVariants as sides
 use Rattle.merge_pack.specs.Merging.{Goes, KeepsOn, Merger, arity_on, first_point, merging_of, moves_point, new_after, old_after, one_more, side_by, side_of, turns_at}
-use Rattle.merge_pack.specs.Runs.{ComeBefore, HasMovedRun, MayMoveAtOnce, MayMoveRun, many_more}
+use Rattle.merge_pack.specs.Ready.{ComeBefore, KnowsReady, MayMoveAtOnce}
+use Rattle.merge_pack.specs.Runs.{HasMovedRun, MayMoveRun, many_more}
 use Rattle.merge_pack.specs.Safe.{IsSafe, falls}
 use Rattle.merge_pack.proofs.Counting.{may-less}
 use Rattle.merge_pack.proofs.Points.{moves-old, no_entry, old-next}
@@ -31,7 +32,7 @@ use Rattle.merge_pack.proofs.Safety.{goes-safe, safe-may}
 -- so many old points are moved, one after another
 pub data Carries (new : List Entry) : ℕ → Merger → Merger → Type 0 where
   carries_none : {v : Merger} → Carries new 0 v v
-  carries_one : {n : ℕ} {v u w : Merger} → Goes v.scan.left (merging_of v new) advances.Point (merging_of u new) → KeepsOn advances.Point new v u → u.taken ≡ v.taken → Carries new n u w → Carries new (suc n) v w
+  carries_one : {n : ℕ} {v u w : Merger} → Goes v.scan.left (merging_of v new) advances.Point (merging_of u new) → KeepsOn advances.Point new v u → u.taken ≡ v.taken → KnowsReady new u → Carries new n u w → Carries new (suc n) v w
 
 -- ---- lists
 
@@ -114,6 +115,7 @@ module _ (new : List Entry) (next : Option Point) (a : ℕ) where
   -- so many may be moved
   record Ready (n : ℕ) (v : Merger) : Type 0 where
     none : full_level (fanout_of v.at.shape) v.at.levels ≡ None
+    shape : v.scan.shape ≡ v.at.shape
     held : n ≤ length v.scan.held
     arities : All (λ (e : Entry). e.point.arity ≡ a) v.scan.held
     turn : turns_at v.at.buffer a ≡ false
@@ -129,11 +131,27 @@ module _ (new : List Entry) (next : Option Point) (a : ℕ) where
     olds : w.old_counts ≡ many_more n a v.old_counts
     news : w.new_counts ≡ many_more n a v.new_counts
 
+  may-of : (n : ℕ) (v : Merger) → Ready n v → 0 < n → MayMoveAtOnce n next v.scan v.at
+  may-of n v ready some =
+      let arity : leaf_arity v.scan.held ≡ a = first-arity a v.scan.held (omega (arith, some, ready.held)) ready.arities in
+      record {
+        room = record {
+          none = ready.none;
+          shape = ready.shape;
+          held = ready.held;
+          arities = subst (λ (k : ℕ). All (λ (e : Entry). e.point.arity ≡ k) v.scan.held) (sym arity) ready.arities;
+          turn = ap (turns_at v.at.buffer) arity ∙ ready.turn;
+          room = omega (arith, ready.room, ap (room_of v.at.shape) arity);
+        };
+        before = ready.before;
+      }
+
   module _ (n : ℕ) (v : Merger) (safe : IsSafe v new) (is : first_point (drop v.taken new) ≡ next) (ready : Ready (suc n) v) (leaf inner : List ℕ) where
     abbrev u : Merger
     u = record {
       scan = record v.scan { held = drop 1 v.scan.held };
       taken = v.taken;
+      ready = n;
       file = v.file;
       at = with_points (take 1 v.scan.held) v.at;
       leaf = leaf;
@@ -172,18 +190,22 @@ module _ (new : List Entry) (next : Option Point) (a : ℕ) where
       new_counts = sym (ap (λ (s : Option Side). new_after s v.scan.held ds v.new_counts) side ∙ ap (λ (k : ℕ). one_more k v.new_counts) arity);
     }
 
-    one-safe : IsSafe u new
-    one-safe = goes-safe v new safe u advances.Point one-goes (λ e. cc) one-keeps safe.within
-
     one-ready : Ready n u
     one-ready = record {
       none = ready.none;
+      shape = ready.shape;
       held = omega (arith, length-drop 1 v.scan.held, ready.held);
       arities = rest-arities a v.scan.held ready.arities;
       turn = turns-on v.at.buffer v.scan.held a some ready.arities ready.turn;
       room = omega (arith, length-append v.at.buffer (take 1 v.scan.held), take-one v.scan.held some, ready.room);
       before = before-rest next n v.scan.held some ready.before;
     }
+
+    one-knows : KnowsReady new u
+    one-knows = λ more. subst (λ (p : Option Point). MayMoveAtOnce n p u.scan u.at) (sym is) (may-of n u one-ready more)
+
+    one-safe : IsSafe u new
+    one-safe = goes-safe v new safe u advances.Point one-goes (λ e. cc) one-keeps safe.within one-knows
 
     one-may : (o : Entry) (os : List Entry) → v.scan.held ≡ o ∷ os → MayAdd v.at.shape v.at.buffer o
     one-may o os head =
@@ -193,29 +215,31 @@ module _ (new : List Entry) (next : Option Point) (a : ℕ) where
     one-arity : a ≤ 8
     one-arity = omega (arith, (safe.led.held.arities 0 no_entry some), safe.sound.shape.dims, arity)
 
-    one-moved : (w : Merger) → Moved (suc n) v w → Moved n u w
-    one-moved w moved =
+    one-moved : (k : ℕ) (w : Merger) → Moved (suc k) v w → Moved k u w
+    one-moved k w moved =
         let nine_old : a < length v.old_counts = omega (arith, one-arity, safe.counts.passed.nine) in
         let nine_new : a < length v.new_counts = omega (arith, one-arity, safe.counts.moved.nine) in
         record {
-          scan = moved.scan ∙ ap (λ (l : List Entry). record v.scan { held = l }) (drop-first n v.scan.held some);
+          scan = moved.scan ∙ ap (λ (l : List Entry). record v.scan { held = l }) (drop-first k v.scan.held some);
           taken = moved.taken;
           file = moved.file;
-          at = moved.at ∙ ap (λ (l : List Entry). record v.at { buffer = l }) (ap (λ (l : List Entry). v.at.buffer ++ l) (take-first n v.scan.held some) ∙ sym (append_assoc v.at.buffer (take 1 v.scan.held) (take n (drop 1 v.scan.held))));
-          olds = moved.olds ∙ more-first n a v.old_counts nine_old;
-          news = moved.news ∙ more-first n a v.new_counts nine_new;
+          at = moved.at ∙ ap (λ (l : List Entry). record v.at { buffer = l }) (ap (λ (l : List Entry). v.at.buffer ++ l) (take-first k v.scan.held some) ∙ sym (append_assoc v.at.buffer (take 1 v.scan.held) (take k (drop 1 v.scan.held))));
+          olds = moved.olds ∙ more-first k a v.old_counts nine_old;
+          news = moved.news ∙ more-first k a v.new_counts nine_new;
         }
 
   -- ---- all of them
 
-  carries-from : (n : ℕ) (v w : Merger) → IsSafe v new → first_point (drop v.taken new) ≡ next → Ready n v → Moved n v w → v.leaf ≡ w.leaf → v.inner ≡ w.inner → Carries new n v w
-  carries-from zero v w safe is ready moved leaf inner =
+  carries-from : (n : ℕ) (v w : Merger) → IsSafe v new → first_point (drop v.taken new) ≡ next → Ready (n + w.ready) v → Moved n v w → v.leaf ≡ w.leaf → v.inner ≡ w.inner → v.ready ≡ n + w.ready → Carries new n v w
+  carries-from zero v w safe is ready moved leaf inner rest =
       let at : v.at ≡ w.at = ap (λ (l : List Entry). record v.at { buffer = l }) (sym (append-nil v.at.buffer)) ∙ sym moved.at in
       let olds : v.old_counts ≡ w.old_counts = sym (moved.olds ∙ more-none a v.old_counts) in
       let news : v.new_counts ≡ w.new_counts = sym (moved.news ∙ more-none a v.new_counts) in
+      let known : v.ready ≡ w.ready = omega (arith, rest) in
       let whole : v ≡ w = (λ i. record {
         scan = sym moved.scan i;
         taken = sym moved.taken i;
+        ready = known i;
         file = sym moved.file i;
         at = at i;
         leaf = leaf i;
@@ -224,9 +248,11 @@ module _ (new : List Entry) (next : Option Point) (a : ℕ) where
         new_counts = news i;
       }) in
       subst (Carries new 0 v) whole carries_none
-  carries-from (suc n) v w safe is ready moved leaf inner =
-      carries_one (one-goes n v safe is ready w.leaf w.inner) (one-keeps n v safe is ready w.leaf w.inner) refl
-      (carries-from n (u n v safe is ready w.leaf w.inner) w (one-safe n v safe is ready w.leaf w.inner) is (one-ready n v safe is ready w.leaf w.inner) (one-moved n v safe is ready w.leaf w.inner w moved) refl refl)
+  carries-from (suc n) v w safe is ready moved leaf inner rest =
+      let more = n + w.ready in
+      let all : Ready (suc more) v = subst (λ (k : ℕ). Ready k v) (omega arith) ready in
+      carries_one (one-goes more v safe is all w.leaf w.inner) (one-keeps more v safe is all w.leaf w.inner) refl (one-knows more v safe is all w.leaf w.inner)
+      (carries-from n (u more v safe is all w.leaf w.inner) w (one-safe more v safe is all w.leaf w.inner) is (one-ready more v safe is all w.leaf w.inner) (one-moved more v safe is all w.leaf w.inner n w moved) refl refl refl)
 
   adds-all : (n : ℕ) (v : Merger) → IsSafe v new → first_point (drop v.taken new) ≡ next → Ready n v → MayAddAll v.at.shape v.at.buffer (take n v.scan.held)
   adds-all zero v safe is ready = tt
@@ -241,7 +267,7 @@ module _ (new : List Entry) (next : Option Point) (n : ℕ) (v : Merger) (safe :
   first = leaf_arity v.scan.held
 
   is-ready : Ready new next first (suc n) v
-  is-ready = record { none = may.room.none; held = may.room.held; arities = may.room.arities; turn = may.room.turn; room = may.room.room; before = may.before }
+  is-ready = record { none = may.room.none; shape = may.room.shape; held = may.room.held; arities = may.room.arities; turn = may.room.turn; room = may.room.room; before = may.before }
 
   few-left : suc n ≤ falls v.scan.left (merging_of v new)
   few-left = omega (arith, may.room.held)
@@ -256,17 +282,19 @@ module _ (new : List Entry) (next : Option Point) (n : ℕ) (v : Merger) (safe :
     may = adds-all new next first (suc n) v safe is is-ready;
   }
 
-  run-carries : (w : Merger) → HasMovedRun (suc n) v w → Carries new (suc n) v w
-  run-carries w moved =
-      let has : Moved new next first (suc n) v w = record { scan = moved.scan; taken = moved.taken; file = moved.file; at = moved.at; olds = moved.old_counts; news = moved.new_counts } in
-      carries_one (one-goes new next first n v safe is is-ready w.leaf w.inner) (one-keeps new next first n v safe is is-ready w.leaf w.inner) refl
-      (carries-from new next first n (u new next first n v safe is is-ready w.leaf w.inner) w (one-safe new next first n v safe is is-ready w.leaf w.inner) is
-      (one-ready new next first n v safe is is-ready w.leaf w.inner) (one-moved new next first n v safe is is-ready w.leaf w.inner w has) refl refl)
-
 pub may-run : (new : List Entry) (next : Option Point) (n : ℕ) (v : Merger) → IsSafe v new → first_point (drop v.taken new) ≡ next → 0 < n → MayMoveAtOnce n next v.scan v.at → MayMoveRun n v
 may-run new next zero v safe is pos may = absurd (omega (arith, pos))
 may-run new next (suc n) v safe is pos may = run-may new next n v safe is may
 
-pub moves-run : (new : List Entry) (next : Option Point) (n : ℕ) (v w : Merger) → IsSafe v new → first_point (drop v.taken new) ≡ next → 0 < n → MayMoveAtOnce n next v.scan v.at → HasMovedRun n v w → Carries new n v w
+-- of those that are ready so many are moved, and the others are known
+pub moves-run : (new : List Entry) (next : Option Point) (n : ℕ) (v w : Merger) → IsSafe v new → first_point (drop v.taken new) ≡ next → 0 < n → MayMoveAtOnce (n + w.ready) next v.scan v.at → HasMovedRun n v w → Carries new n v w
 moves-run new next zero v w safe is pos may moved = absurd (omega (arith, pos))
-moves-run new next (suc n) v w safe is pos may moved = run-carries new next n v safe is may w moved
+moves-run new next (suc n) v w safe is pos may moved =
+    let a = leaf_arity v.scan.held in
+    let more = n + w.ready in
+    let all : MayMoveAtOnce (suc more) next v.scan v.at = subst (λ (k : ℕ). MayMoveAtOnce k next v.scan v.at) (omega arith) may in
+    let ready = is-ready new next more v safe is all in
+    let has : Moved new next a (suc n) v w = record { scan = moved.scan; taken = moved.taken; file = moved.file; at = moved.at; olds = moved.old_counts; news = moved.new_counts } in
+    carries_one (one-goes new next a more v safe is ready w.leaf w.inner) (one-keeps new next a more v safe is ready w.leaf w.inner) refl (one-knows new next a more v safe is ready w.leaf w.inner)
+    (carries-from new next a n (u new next a more v safe is ready w.leaf w.inner) w (one-safe new next a more v safe is ready w.leaf w.inner) is (one-ready new next a more v safe is ready w.leaf w.inner)
+    (one-moved new next a more v safe is ready w.leaf w.inner n w has) refl refl refl)

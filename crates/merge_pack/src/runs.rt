@@ -6,7 +6,7 @@ ghost use Rattle.page_fmt.specs.Taking.{ascend, entry_before};
 ghost use Rattle.page_fmt.specs.Writing.{leaf_arity};
 ghost use Rattle.tree_pack.specs.Moving.{with_points};
 ghost use Rattle.merge_pack.specs.Merging.{turns_at};
-ghost use Rattle.merge_pack.specs.Runs.{ComeBefore, HasRoomFor, MayMoveAtOnce};
+ghost use Rattle.merge_pack.specs.Ready.{ComeBefore, HasRoomFor, MayMoveAtOnce};
 
 use cube_point::Point;
 use tree_pack::Packer;
@@ -32,22 +32,17 @@ pub(crate) fn turns(packer: &Packer, arity: u8) -> bool
     }
 }
 
-/// How many of the next old points may be moved at once, as far as the page, the leaf and a limit let them: none where a level is full, the leaf
-/// is of another arity, the trees are of two shapes, or the limit is a single move.
-fn room_at_once(scan: &Scan, packer: &Packer, limit: u64) -> usize
+/// How many of the next old points may be moved at once, as far as the page and the leaf let them: none where a level is full, the leaf is of
+/// another arity, or the trees are of two shapes.
+fn room_at_once(scan: &Scan, packer: &Packer) -> usize
     requires arity { leaf_arity scan.now.held ≤ 8 }
-    ensures limit { result ≤ limit }
-    ensures room { 0 < result → HasRoomFor result scan.now packer.now.at }
+    ensures { 0 < result → HasRoomFor result scan.now packer.now.at }
 {
-    if limit < 2 {
-        return 0;
-    }
     let arity = next_arity(scan);
     if packer.full().is_some() || turns(packer, arity) || scan.shape() != packer.shape() {
         return 0;
     }
-    let most = scan.held().min(packer.room_left(arity));
-    limit.min(most as u64) as usize
+    scan.held().min(packer.room_left(arity))
 }
 
 /// How many of so many next old points come before the next new one, where there is one.
@@ -65,13 +60,12 @@ fn count_before(scan: &Scan, most: usize, new: &Option<Point>) -> usize
 }
 
 /// How many of the next old points may be moved at once, where `new` is the point of the next new one.
-pub(crate) fn count_at_once(scan: &Scan, packer: &Packer, new: &Option<Point>, limit: u64) -> usize
+pub(crate) fn count_at_once(scan: &Scan, packer: &Packer, new: &Option<Point>) -> usize
     requires arity { leaf_arity scan.now.held ≤ 8 }
     requires order { ascend entry_before scan.now.held ≡ true }
-    ensures limit { result ≤ limit }
-    ensures may { 0 < result → MayMoveAtOnce result new.now scan.now packer.now.at }
+    ensures { 0 < result → MayMoveAtOnce result new.now scan.now packer.now.at }
 {
-    let most = room_at_once(scan, packer, limit);
+    let most = room_at_once(scan, packer);
     if most == 0 {
         return 0;
     }

@@ -5,7 +5,7 @@ use Rattle.cube_point.specs.declared.point.Entry.{Entry}
 use Rattle.cube_point.specs.declared.point.Point.{Point}
 use Rattle.page_fmt.specs.Runs.{Precedes}
 use Rattle.page_fmt.specs.Taking.{ascend, entry_before}
-use Rattle.merge_pack.specs.Runs.{ComeBefore}
+use Rattle.merge_pack.specs.Ready.{ComeBefore}
 use Rattle.merge_pack.proofs.OneByOne.{take-ascends}
 use Rattle.merge_pack.proofs.runs.count_before.Goals as goal
 
