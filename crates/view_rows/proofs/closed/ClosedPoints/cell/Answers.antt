@@ -1,0 +1,25 @@
+use Rattle.std.proofs.Common.{rules, arith, ◌≡◌, ◌<◌, ◌++◌, ◌∷◌, [], ℕ, List, get_or, length, set, refl, ap, sym, subst, ◌∙◌}
+use Rattle.std.proofs.lemmas.List.{get_or_default}
+use Rattle.cube_point.specs.declared.point.Entry.{Entry}
+use Rattle.fact_model.specs.declared.cell.Part.{Part}
+use Rattle.fact_model.specs.Cell.{part_of}
+use Rattle.view_rows.specs.Bare.{bare, with_cell}
+use Rattle.view_rows.specs.Flat.{closed_at, closed_points}
+use Rattle.view_rows.specs.Grouped.{nowhere}
+use Rattle.view_rows.specs.Lists.{numbers_at, parts_at}
+use Rattle.view_rows.proofs.ClosedLists.{celled, closed-long, found, within}
+use Rattle.view_rows.proofs.closed.ClosedPoints.cell.Goals as goal
+
+pub index-requires : goal.index-requires
+index-requires c = search (rules, within c.self.inside c.args.self.now c.args.number c.self.view_is c.requires)
+
+pub returns : goal.returns
+returns c =
+    let at = c.args.number in
+    let e = found c.self.inside c.args.self.now at c.self.view_is c.requires in
+    let count = c.number_at.ensures ∙ (ap (λ (l : List ℕ). get_or l at 0) c.deref.ensures.value ∙ ap (λ (e : Entry). e.cell.count) e) in
+    let measures = c.index.ensures
+    ∙ (get_or_default c.self.inside.measures.items at c.index.result.now 0 (within c.self.inside c.args.self.now at c.self.view_is c.requires)
+    ∙ ap (λ (e : Entry). e.cell.measures) e) in
+    let parts = c.parts_at.ensures ∙ ap (λ (e : Entry). e.cell.parts) e in
+    λ i. record { count = count i; measures = measures i; parts = parts i }

@@ -1,0 +1,16 @@
+use Rattle.std.proofs.Common.{rules, arith, ◌≡◌, ◌<◌, ◌++◌, ◌∷◌, [], ℕ, List, get_or, length, set, ap, sym, subst, ◌∙◌}
+use Rattle.cube_point.specs.declared.point.Entry.{Entry}
+use Rattle.fact_model.specs.declared.cell.Part.{Part}
+use Rattle.fact_model.specs.Cell.{part_of}
+use Rattle.view_rows.specs.Bare.{bare, with_cell}
+use Rattle.view_rows.specs.Flat.{closed_at, closed_points}
+use Rattle.view_rows.specs.Grouped.{nowhere}
+use Rattle.view_rows.specs.Lists.{numbers_at, parts_at}
+use Rattle.view_rows.proofs.ClosedLists.{celled, closed-long, found, in-list, part-in-list, past-all, past-parts, within}
+use Rattle.view_rows.proofs.closed.ClosedPoints.count.Goals as goal
+
+pub returns : goal.returns
+returns c =
+    c.number_at.ensures
+    ∙ (ap (λ (l : List ℕ). get_or l c.args.number 0) c.deref.ensures.value
+    ∙ ap (λ (e : Entry). e.cell.count) (found c.self.inside c.args.self.now c.args.number c.self.view_is c.requires))

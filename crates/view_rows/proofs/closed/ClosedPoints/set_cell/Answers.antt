@@ -1,0 +1,25 @@
+use Rattle.std.proofs.Common.{rules, arith, ◌≡◌, ◌<◌, ◌++◌, ◌∷◌, [], ℕ, List, get_or, length, set, refl, ap, sym, subst, ◌∙◌}
+use Rattle.std.proofs.lemmas.List.{get_or_default}
+use Rattle.cube_point.specs.declared.point.Entry.{Entry}
+use Rattle.fact_model.specs.declared.cell.Part.{Part}
+use Rattle.fact_model.specs.Cell.{part_of}
+use Rattle.view_rows.specs.Bare.{bare, with_cell}
+use Rattle.view_rows.specs.Flat.{closed_at, closed_points}
+use Rattle.view_rows.specs.Grouped.{nowhere}
+use Rattle.view_rows.specs.Lists.{numbers_at, parts_at}
+use Rattle.view_rows.proofs.ClosedLists.{celled, closed-long, found, within}
+use Rattle.view_rows.proofs.closed.ClosedPoints.set_cell.Goals as goal
+
+pub index_mut-requires : goal.index_mut-requires
+index_mut-requires c = search (rules, within c.self.inside c.args.self.now c.args.number c.self.view_is c.requires)
+
+pub returns : goal.returns
+returns c =
+    let was = c.self.inside in
+    let at = c.args.number in
+    let cell = c.args.cell.now in
+    celled was
+    (record { counts = c.put_number.new.numbers; measures = Rattle.std.specs.Vec.with_item was.measures at cell.measures; coordinates = was.coordinates; parts = c.put_parts.new.lists })
+    at (λ k other. refl) c.in_ok-put_number.ensures.others c.in_ok-put_parts.ensures.others cell
+    (within was c.args.self.now at c.self.view_is c.requires) refl refl c.in_ok-put_number.ensures.there c.in_ok-put_parts.ensures.there
+    ∙ ap (λ (es : List Entry). set es at (with_cell (get_or es at nowhere) cell)) c.self.view_is

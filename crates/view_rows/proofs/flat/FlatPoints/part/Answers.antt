@@ -1,0 +1,28 @@
+use Rattle.std.proofs.Common.{rules, arith, ◌≡◌, ◌<◌, ◌++◌, ◌∷◌, [], ℕ, ◌-◌, List, get_or, length, map, set, refl, ap, sym, subst, ◌∙◌, append-nil, append_assoc}
+use Rattle.std.specs.Prelude.{OnOk, IfErr}
+use Rattle.std.proofs.lemmas.List.{get_or_default, map-append}
+use Rattle.std.proofs.lemmas.Result.{on_ok_weaker}
+use Rattle.cube_point.specs.declared.point.Entry.{Entry}
+use Rattle.fact_model.specs.Cell.{join, part_of}
+use Rattle.page_fmt.specs.Cells.{EndsInZeros}
+use Rattle.view_rows.specs.Bare.{bare}
+use Rattle.view_rows.specs.Grouped.{Joins, nowhere}
+use Rattle.view_rows.specs.declared.stop.RowsStop.TheVariants as stops
+use Rattle.view_rows.proofs.FlatLists.{all-long, closed-places, in-closed, in-recent, joined-closed, joined-recent, recent-places}
+use Rattle.view_rows.proofs.flat.FlatPoints.part.Goals as goal
+
+pub returns-then-number-closed : goal.returns-then-number-closed
+returns-then-number-closed c =
+    let its = c.self.inside in
+    let es = c.args.self.now in
+    let n = c.args.number in
+    c.part.ensures ∙ ap (λ (e : Entry). get_or e.cell.parts c.args.measure (part_of [])) (in-closed its.closed its.recent.items es c.self.view_is n (omega (arith, c.if-number-closed.true, c.len-closed.ensures.count)))
+
+pub returns : goal.returns
+returns c =
+    let its = c.self.inside in
+    let es = c.args.self.now in
+    let n = c.args.number in
+    c.part_of.ensures
+    ∙ (ap (λ (l : List Entry). (λ (e : Entry). get_or e.cell.parts c.args.measure (part_of [])) (get_or l (n - c.len-closed.result) nowhere)) c.deref.ensures.value
+    ∙ ap (λ (e : Entry). get_or e.cell.parts c.args.measure (part_of [])) (in-recent its.closed its.recent.items es c.self.view_is n (n - c.len-closed.result) (omega (arith, c.if-number-closed.false, c.len-closed.ensures.count)) (ap (λ (k : ℕ). n - k) c.len-closed.ensures.count)))

@@ -1,0 +1,12 @@
+use Rattle.std.proofs.Common.{map, ap, refl, get_or, ◌∙◌}
+use Rattle.std.proofs.Math.Seq.{map-set_same}
+use Rattle.view_rows.specs.Bare.{with_cell}
+use Rattle.view_rows.specs.Grouped.{nowhere}
+use Rattle.view_rows.specs.Kept.{place_of}
+use Rattle.view_rows.proofs.flat.join_closed.Goals as goal
+
+pub returns-clause-places : goal.returns-clause-places
+returns-clause-places c =
+    let es = c.args.points.now in
+    let n = c.args.number in
+    ap (map place_of) c.in_ok-set_cell.ensures ∙ map-set_same place_of es n (with_cell (get_or es n nowhere) c.join_next.new.last) nowhere refl
