@@ -1,14 +1,13 @@
 //! The rows of points, lent.
-ghost use Rattle.std.specs.Prelude.{◌≡◌, ◌<◌, All, OnOk, length, map};
+ghost use Rattle.std.specs.Prelude.{◌≡◌, ◌<◌, All, OnOk, get_or, length, map};
 ghost use Rattle.row_fold.specs.Lent.{row_in, value_of};
 ghost use Rattle.view_points.specs.Answer.{column_of, row_from};
-ghost use Rattle.view_rows.specs.Grouped.{key_of_entry, keyed, value_at_code};
+ghost use Rattle.view_rows.specs.Grouped.{key_of_entry, keyed, nowhere, value_at_code};
 
+use crate::flat::FlatPoints;
 use crate::keys::coordinate;
-use crate::rows::column_of;
 use attr_dict::{Dicts, ValueRef};
-use cube_point::Entry;
-use fact_model::{Cell, Column, Memory, Slice};
+use fact_model::{Column, Memory, Slice};
 use row_fold::{LentRow, LentValue};
 
 /// Makes a row the one of a point.
@@ -16,14 +15,22 @@ pub(crate) fn lend_row<'a>(
     names: &'a Dicts,
     view: &[u32],
     slice: &Slice,
-    entry: &Entry,
+    points: &FlatPoints,
+    number: usize,
     row: &mut LentRow<'a>,
 ) -> Result<(), Memory>
     requires { All (λ a. a < length names.now.kinds) slice.now.group }
-    ensures { OnOk result (row_in row.new ≡ row_from slice.now.columns (keyed names.now view.now slice.now.group entry.now)) }
+    ensures { OnOk result (row_in row.new ≡ row_from slice.now.columns (keyed names.now view.now slice.now.group (get_or points.now number nowhere))) }
 {
-    lend_key(names, view, slice.group.as_slice(), entry, &mut row.key)?;
-    lend_numbers(slice.columns.as_slice(), &entry.cell, &mut row.numbers)
+    lend_key(
+        names,
+        view,
+        slice.group.as_slice(),
+        points,
+        number,
+        &mut row.key,
+    )?;
+    lend_numbers(slice.columns.as_slice(), points, number, &mut row.numbers)
 }
 
 /// Lends the values of the grouped attributes at a point.
@@ -31,15 +38,16 @@ fn lend_key<'a>(
     names: &'a Dicts,
     view: &[u32],
     group: &[u32],
-    entry: &Entry,
+    points: &FlatPoints,
+    number: usize,
     key: &mut Vec<LentValue<'a>>,
 ) -> Result<(), Memory>
     requires { All (λ a. a < length names.now.kinds) group.now }
-    ensures { OnOk result (map value_of key.new.items ≡ key_of_entry names.now view.now group.now entry.now) }
+    ensures { OnOk result (map value_of key.new.items ≡ key_of_entry names.now view.now group.now (get_or points.now number nowhere)) }
 {
     key.clear();
     for attr in group {
-        let code = coordinate(view, &entry.point.at, *attr);
+        let code = coordinate(view, points, number, *attr);
         key.push(lent_value(names, *attr, code))?;
     }
     Ok(())
@@ -58,12 +66,17 @@ fn lent_value(names: &Dicts, attr: u32, code: u64) -> LentValue<'_>
 }
 
 /// Makes these numbers the columns of a cell.
-fn lend_numbers(columns: &[Column], cell: &Cell, numbers: &mut Vec<i128>) -> Result<(), Memory>
-    ensures { OnOk result (numbers.new.items ≡ map (column_of cell.now) columns.now) }
+fn lend_numbers(
+    columns: &[Column],
+    points: &FlatPoints,
+    number: usize,
+    numbers: &mut Vec<i128>,
+) -> Result<(), Memory>
+    ensures { OnOk result (numbers.new.items ≡ map (column_of (get_or points.now number nowhere).cell) columns.now) }
 {
     numbers.clear();
     for column in columns {
-        numbers.push(column_of(cell, *column))?;
+        numbers.push(points.column(number, *column))?;
     }
     Ok(())
 }

@@ -1,16 +1,13 @@
 //! The rows of points, made.
-ghost use Rattle.std.specs.Prelude.{◌≡◌, ◌<◌, All, IfOk, length, map};
+ghost use Rattle.std.specs.Prelude.{◌≡◌, ◌<◌, All, IfOk, get_or, length, map};
 ghost use Rattle.view_points.specs.Answer.{column_of, row_from};
-ghost use Rattle.view_rows.specs.Grouped.{key_of_entry, keyed, value_at_code};
+ghost use Rattle.view_rows.specs.Grouped.{key_of_entry, keyed, nowhere, value_at_code};
 
+use crate::flat::FlatPoints;
 use crate::keys::coordinate;
 use crate::ordered::OrderedPoints;
-use crate::rows::column_of;
 use attr_dict::{Dicts, ValueRef};
-use cube_point::Entry;
-use fact_model::{
-    Cell, Column, ListOf, Memory, NumberList, Row, Rows, Slice, Text, Value, ValueList,
-};
+use fact_model::{Column, ListOf, Memory, NumberList, Row, Rows, Slice, Text, Value, ValueList};
 use std::alloc::Global;
 
 /// The row of each point.
@@ -26,7 +23,8 @@ pub(crate) fn rows_made(
 {
     let mut rows = ListOf::new(alloc);
     for place in 0..points.len() {
-        rows.push(row_made(alloc, names, view, slice, points.at(place))?)?;
+        let (points, number) = points.at(place);
+        rows.push(row_made(alloc, names, view, slice, points, number)?)?;
     }
     Ok(rows)
 }
@@ -37,14 +35,15 @@ fn row_made(
     names: &Dicts,
     view: &[u32],
     slice: &Slice,
-    entry: &Entry,
+    points: &FlatPoints,
+    number: usize,
 ) -> Result<Row, Memory>
     requires { All (λ a. a < length names.now.kinds) slice.now.group }
-    ensures { IfOk result (λ row. row ≡ row_from slice.now.columns (keyed names.now view.now slice.now.group entry.now)) }
+    ensures { IfOk result (λ row. row ≡ row_from slice.now.columns (keyed names.now view.now slice.now.group (get_or points.now number nowhere))) }
 {
     Ok(Row {
-        key: key_made(alloc, names, view, slice.group.as_slice(), entry)?,
-        numbers: numbers_made(alloc, slice.columns.as_slice(), &entry.cell)?,
+        key: key_made(alloc, names, view, slice.group.as_slice(), points, number)?,
+        numbers: numbers_made(alloc, slice.columns.as_slice(), points, number)?,
     })
 }
 
@@ -54,14 +53,15 @@ fn key_made(
     names: &Dicts,
     view: &[u32],
     group: &[u32],
-    entry: &Entry,
+    points: &FlatPoints,
+    number: usize,
 ) -> Result<ValueList, Memory>
     requires { All (λ a. a < length names.now.kinds) group.now }
-    ensures { IfOk result (λ key. key ≡ key_of_entry names.now view.now group.now entry.now) }
+    ensures { IfOk result (λ key. key ≡ key_of_entry names.now view.now group.now (get_or points.now number nowhere)) }
 {
     let mut key = Vec::with_capacity(alloc, group.len())?;
     for attr in group {
-        let code = coordinate(view, &entry.point.at, *attr);
+        let code = coordinate(view, points, number, *attr);
         key.push(value_made(alloc, names, *attr, code)?)?;
     }
     Ok(ListOf::from_vec(key))
@@ -83,12 +83,17 @@ fn value_made(alloc: Global, names: &Dicts, attr: u32, code: u64) -> Result<Valu
 }
 
 /// The columns of a cell.
-fn numbers_made(alloc: Global, columns: &[Column], cell: &Cell) -> Result<NumberList, Memory>
-    ensures { IfOk result (λ numbers. numbers ≡ map (column_of cell.now) columns.now) }
+fn numbers_made(
+    alloc: Global,
+    columns: &[Column],
+    points: &FlatPoints,
+    number: usize,
+) -> Result<NumberList, Memory>
+    ensures { IfOk result (λ numbers. numbers ≡ map (column_of (get_or points.now number nowhere).cell) columns.now) }
 {
     let mut numbers = Vec::with_capacity(alloc, columns.len())?;
     for column in columns {
-        numbers.push(column_of(cell, *column))?;
+        numbers.push(points.column(number, *column))?;
     }
     Ok(ListOf::from_vec(numbers))
 }

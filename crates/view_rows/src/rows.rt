@@ -3,20 +3,19 @@ ghost use Rattle.std.specs.Prelude.{◌≡◌, ◌<◌, ◌↔◌, [], pos, All,
 ghost use Rattle.std.specs.Fmt.{signed_decimal};
 ghost use Rattle.csv_text.specs.Rows.{nothing_written, row_fields, value_text, with_end, with_field, with_fields, with_rows};
 ghost use Rattle.fact_model.specs.Adds.{AddUp, number_in};
-ghost use Rattle.fact_model.specs.Cell.{part_of};
 ghost use Rattle.fact_model.specs.declared.slice.Row as answers;
 ghost use Rattle.view_points.specs.Answer.{column_of, row_from};
-ghost use Rattle.view_rows.specs.Grouped.{key_of_entry, keyed, value_at_code};
+ghost use Rattle.view_rows.specs.Grouped.{key_of_entry, keyed, nowhere, value_at_code};
 
 use crate::adding::add_up;
+use crate::flat::FlatPoints;
 use crate::keys::coordinate;
 use crate::lending::lend_row;
 use crate::making::rows_made;
 use crate::ordered::OrderedPoints;
 use attr_dict::{Dicts, ValueRef};
 use csv_text::RowWriter;
-use cube_point::Entry;
-use fact_model::{Cell, Column, Memory, Part, Rows, Slice};
+use fact_model::{Column, Memory, Rows, Slice};
 use row_fold::{LentRow, LentRows};
 use std::alloc::Global;
 use std::marker::Model;
@@ -97,11 +96,8 @@ impl<'a> SliceRows<'a> {
         requires { place < length self.now }
         ensures { (d : answers.Row) → result ≡ number_in column (get_or self.now place d) }
     {
-        number_at(
-            self.slice.columns.as_slice(),
-            &self.points.at(place).cell,
-            column,
-        )
+        let (points, number) = self.points.at(place);
+        number_at(self.slice.columns.as_slice(), points, number, column)
     }
 
     /// Writes the rows, where no row has begun. Want of memory alone makes it fail, and the writer is then as a new one.
@@ -122,13 +118,8 @@ impl LentRows for SliceRows<'_> {
     }
 
     fn lend<'a>(&'a self, place: usize, row: &mut LentRow<'a>) -> Result<(), Memory> {
-        lend_row(
-            self.names,
-            self.view,
-            self.slice,
-            self.points.at(place),
-            row,
-        )
+        let (points, number) = self.points.at(place);
+        lend_row(self.names, self.view, self.slice, points, number, row)
     }
 }
 
@@ -147,7 +138,8 @@ fn push_rows(
     ensures dropped { OnErr result (writer.new ≡ nothing_written) }
 {
     for place in 0..points.len() {
-        push_row(names, view, slice, points.at(place), writer)?;
+        let (points, number) = points.at(place);
+        push_row(names, view, slice, points, number, writer)?;
     }
     Ok(())
 }
@@ -157,16 +149,17 @@ fn push_row(
     names: &Dicts,
     view: &[u32],
     slice: &Slice,
-    entry: &Entry,
+    points: &FlatPoints,
+    number: usize,
     writer: &mut RowWriter,
 ) -> Result<(), Memory>
     requires { All (λ a. a < length names.now.kinds) slice.now.group }
     ensures pushed { OnOk result (writer.new
-        ≡ with_end (with_fields writer.old (row_fields (row_from slice.now.columns (keyed names.now view.now slice.now.group entry.now))))) }
+        ≡ with_end (with_fields writer.old (row_fields (row_from slice.now.columns (keyed names.now view.now slice.now.group (get_or points.now number nowhere)))))) }
     ensures dropped { OnErr result (writer.new ≡ nothing_written) }
 {
-    push_key(names, view, slice.group.as_slice(), entry, writer)?;
-    push_numbers(slice.columns.as_slice(), &entry.cell, writer)?;
+    push_key(names, view, slice.group.as_slice(), points, number, writer)?;
+    push_numbers(slice.columns.as_slice(), points, number, writer)?;
     writer.end_row()
 }
 
@@ -175,15 +168,16 @@ fn push_key(
     names: &Dicts,
     view: &[u32],
     group: &[u32],
-    entry: &Entry,
+    points: &FlatPoints,
+    number: usize,
     writer: &mut RowWriter,
 ) -> Result<(), Memory>
     requires { All (λ a. a < length names.now.kinds) group.now }
-    ensures pushed { OnOk result (writer.new ≡ with_fields writer.old (map value_text (key_of_entry names.now view.now group.now entry.now))) }
+    ensures pushed { OnOk result (writer.new ≡ with_fields writer.old (map value_text (key_of_entry names.now view.now group.now (get_or points.now number nowhere)))) }
     ensures dropped { OnErr result (writer.new ≡ nothing_written) }
 {
     for attr in group {
-        let code = coordinate(view, &entry.point.at, *attr);
+        let code = coordinate(view, points, number, *attr);
         push_value(names, *attr, code, writer)?;
     }
     Ok(())
@@ -203,48 +197,27 @@ fn push_value(names: &Dicts, attr: u32, code: u64, writer: &mut RowWriter) -> Re
 }
 
 /// Appends the columns of a cell to the row.
-fn push_numbers(columns: &[Column], cell: &Cell, writer: &mut RowWriter) -> Result<(), Memory>
-    ensures pushed { OnOk result (writer.new ≡ with_fields writer.old (map signed_decimal (map (column_of cell.now) columns.now))) }
+fn push_numbers(
+    columns: &[Column],
+    points: &FlatPoints,
+    number: usize,
+    writer: &mut RowWriter,
+) -> Result<(), Memory>
+    ensures pushed { OnOk result (writer.new ≡ with_fields writer.old (map signed_decimal (map (column_of (get_or points.now number nowhere).cell) columns.now))) }
     ensures dropped { OnErr result (writer.new ≡ nothing_written) }
 {
     for column in columns {
-        writer.push_number(column_of(cell, *column))?;
+        writer.push_number(points.column(number, *column))?;
     }
     Ok(())
 }
 
-/// A column of a cell, which is 0 for a measure that a cell does not have.
-pub(crate) fn column_of(cell: &Cell, column: Column) -> i128
-    ensures { result ≡ column_of cell.now column }
-{
-    match column {
-        Column::Count => cell.count as i128,
-        Column::Sum(measure) => part_of(cell, measure).sum,
-        Column::Min(measure) => part_of(cell, measure).low,
-        Column::Max(measure) => part_of(cell, measure).high,
-    }
-}
-
 /// A column of a cell by its place among the columns, and 0 past them.
-fn number_at(columns: &[Column], cell: &Cell, place: usize) -> i128
-    ensures { result ≡ get_or (map (column_of cell.now) columns.now) place (pos 0) }
+fn number_at(columns: &[Column], points: &FlatPoints, number: usize, place: usize) -> i128
+    ensures { result ≡ get_or (map (column_of (get_or points.now number nowhere).cell) columns.now) place (pos 0) }
 {
     match columns.get(place) {
-        Some(column) => column_of(cell, *column),
+        Some(column) => points.column(number, *column),
         None => 0,
-    }
-}
-
-/// The part of a measure, which is zero for a measure that a cell does not have.
-fn part_of(cell: &Cell, measure: u32) -> Part
-    ensures { result ≡ get_or cell.now.parts measure (part_of []) }
-{
-    match cell.parts.get(measure as usize) {
-        Some(part) => *part,
-        None => Part {
-            sum: 0,
-            low: 0,
-            high: 0,
-        },
     }
 }

@@ -1,15 +1,16 @@
-use Rattle.std.proofs.Common.{◌*◌, ◌+◌, ◌<◌, ◌^◌, ℕ, arith, sym, ◌∙◌, ap, subst}
+use Rattle.std.proofs.Common.{get_or, ◌*◌, ◌+◌, ◌<◌, ◌^◌, ℕ, arith, sym, ◌∙◌, ap, subst}
+use Rattle.view_rows.specs.Grouped.{nowhere}
 use Rattle.view_rows.specs.Ranks.{KeepsRanks, rank_by}
 use Rattle.view_rows.proofs.RankKeys.{IsBegun, begun-more}
 use Rattle.view_rows.proofs.ranked.rank_of.Goals as goal
 
 -- there is room for the digit
 more : (c : goal.After-rank-digit) → (c.loop-table.rank * c.table-item.result.count + c.rank-digit.result < 2 ^ 64)
-    × IsBegun c.args.names.now c.args.view.now c.args.entry.now c.args.ranks.now (c.loop-table.table-index + 1) (c.loop-table.rank * c.table-item.result.count + c.rank-digit.result)
+    × IsBegun c.args.names.now c.args.view.now (get_or c.args.points.now c.args.number nowhere) c.args.ranks.now (c.loop-table.table-index + 1) (c.loop-table.rank * c.table-item.result.count + c.rank-digit.result)
 more c =
     let b = c.args.names.now in
     let table = c.table-item.result in
-    begun-more b c.args.view.now c.args.entry.now c.args.ranks.now c.loop-table.table-index c.loop-table.rank c.rank-digit.result table c.loop-table-test.true c.table-item.is
+    begun-more b c.args.view.now (get_or c.args.points.now c.args.number nowhere) c.args.ranks.now c.loop-table.table-index c.loop-table.rank c.rank-digit.result table c.loop-table-test.true c.table-item.is
     (c.rank-digit.ensures ∙ ap (λ (code : ℕ). rank_by b table code) c.coordinate.ensures) c.requires.below c.loop-table.invariant
 
 pub rank-digit-requires-clause-kept : goal.rank-digit-requires-clause-kept

@@ -1,6 +1,6 @@
-use Rattle.std.proofs.Common.{◌∙◌}
+use Rattle.std.proofs.Common.{get_or, ◌∙◌}
 use Rattle.std.proofs.lemmas.Result.{on_ok_weaker}
-use Rattle.view_rows.specs.Grouped.{keyed}
+use Rattle.view_rows.specs.Grouped.{keyed, nowhere}
 use Rattle.view_rows.proofs.LentRows.{row-there}
 use Rattle.view_rows.proofs.rows.SliceRowsLentRows.lend.Goals as goal
 
@@ -8,5 +8,5 @@ pub returns : goal.returns
 returns c = λ d.
     let its = c.self.inside in
     on_ok_weaker c.lend_row.result
-    (λ is. is ∙ row-there its.slice.now.columns (keyed its.names.now its.view.now its.slice.now.group) c.args.self.now its.points c.args.place c.at.result.now c.self.view_is c.requires c.at.ensures d)
+    (λ is. is ∙ row-there its.slice.now.columns (keyed its.names.now its.view.now its.slice.now.group) c.args.self.now its.points c.args.place (get_or c.at.result.0.now c.at.result.1 nowhere) c.self.view_is c.requires (c.at.ensures (get_or c.at.result.0.now c.at.result.1 nowhere)) d)
     c.lend_row.ensures
