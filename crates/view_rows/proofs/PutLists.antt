@@ -1,6 +1,6 @@
 -- Lists that stand together, of which one after another gets what belongs to a place.
 use Rattle.std.proofs.Common.{◌≡◌, ℕ, ◌+◌, ◌<◌, ◌≢◌, List, map, length, get_or, set, sym, ◌∙◌, ap, arith, below_more}
-use Rattle.std.proofs.lemmas.List.{get_or-map, get_or-set_other, get_or-set_same, get_or_default, length-map, map-set, same_lists}
+use Rattle.std.proofs.lemmas.List.{get_or-set_other, get_or-set_same, get_or_default, length-map, map-set, same_lists}
 
 module _ {X : Type 0} (ys xs : List X) (i : ℕ) (v d : X) (low : i < length ys) (is : v ≡ get_or xs i d) where
   -- those passed are there, and this one too

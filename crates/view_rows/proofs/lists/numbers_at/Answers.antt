@@ -1,4 +1,4 @@
-use Rattle.std.proofs.Common.{arith, ◌<◌, ◌≡◌, ℕ, List, Vec, Global, get_or, length, map, sym, ◌∙◌, ap}
+use Rattle.std.proofs.Common.{arith, ◌<◌, ℕ, List, Vec, Global, get_or, length, sym, ◌∙◌, ap}
 use Rattle.std.proofs.lemmas.List.{get_or-map, length-map, length-set}
 use Rattle.view_rows.specs.Lists.{numbers_at}
 use Rattle.view_rows.proofs.PutLists.{all-there, set-there}

@@ -1,9 +1,9 @@
-use Rattle.std.proofs.Common.{rules, arith, ◌≡◌, ◌<◌, [], ℕ, List, Vec, Global, get_or, length, map, ap, sym, ◌∙◌}
+use Rattle.std.proofs.Common.{arith, [], List, Vec, Global, get_or, ap, sym, ◌∙◌}
 use Rattle.std.proofs.Math.ListN.{get_or-eq_default}
 use Rattle.std.proofs.lemmas.List.{get_or-map, length-map}
 use Rattle.fact_model.specs.declared.cell.Part.{Part}
 use Rattle.fact_model.specs.Cell.{part_of}
-use Rattle.view_rows.specs.Lists.{numbers_at, parts_at}
+use Rattle.view_rows.specs.Lists.{parts_at}
 use Rattle.view_rows.proofs.lists.part_in.Goals as goal
 
 pub returns-then-index-lt4 : goal.returns-then-index-lt4

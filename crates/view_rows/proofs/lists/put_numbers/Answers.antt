@@ -1,4 +1,4 @@
-use Rattle.std.proofs.Common.{rules, arith, ◌<◌, ◌≡◌, ℕ, List, Vec, Global, get_or, length, map, sym, ◌∙◌, ap}
+use Rattle.std.proofs.Common.{rules, arith, ◌<◌, ℕ, Vec, Global, get_or, length, ◌∙◌}
 use Rattle.std.proofs.Math.Seq.{map-set_same}
 use Rattle.std.proofs.lemmas.List.{length-map, length-set}
 use Rattle.view_rows.specs.Lists.{numbers_at}

@@ -1,4 +1,4 @@
-use Rattle.std.proofs.Common.{◌≡◌, ◌≤◌, ℕ, inl, inr, get_or, ap, arith}
+use Rattle.std.proofs.Common.{◌≤◌, ℕ, inl, inr, get_or, ap, arith}
 use Rattle.std.proofs.lemmas.Bool.{cases_eq}
 use Rattle.std.proofs.lemmas.List.Elements.{All-from_get_or}
 use Rattle.cube_point.specs.declared.point.Entry.{Entry}

@@ -1,13 +1,8 @@
-use Rattle.std.proofs.Common.{rules, arith, ◌≡◌, ◌<◌, ◌++◌, ◌∷◌, [], ℕ, List, get_or, length, set, refl, ap, sym, subst, ◌∙◌}
-use Rattle.std.proofs.lemmas.List.{get_or_default}
+use Rattle.std.proofs.Common.{rules, List, get_or, set, refl, ap, ◌∙◌}
 use Rattle.cube_point.specs.declared.point.Entry.{Entry}
-use Rattle.fact_model.specs.declared.cell.Part.{Part}
-use Rattle.fact_model.specs.Cell.{part_of}
-use Rattle.view_rows.specs.Bare.{bare, with_cell}
-use Rattle.view_rows.specs.Flat.{closed_at, closed_points}
+use Rattle.view_rows.specs.Bare.{with_cell}
 use Rattle.view_rows.specs.Grouped.{nowhere}
-use Rattle.view_rows.specs.Lists.{numbers_at, parts_at}
-use Rattle.view_rows.proofs.ClosedLists.{celled, closed-long, found, within}
+use Rattle.view_rows.proofs.ClosedLists.{celled, within}
 use Rattle.view_rows.proofs.closed.ClosedPoints.set_cell.Goals as goal
 
 pub index_mut-requires : goal.index_mut-requires
