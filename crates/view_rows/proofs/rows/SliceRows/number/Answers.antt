@@ -9,9 +9,9 @@ use Rattle.view_rows.proofs.rows.SliceRows.number.Goals as goal
 pub returns : goal.returns
 returns c = λ d.
     let its = c.self.inside in
-    let e = (get_or c.at.result.0.now c.at.result.1 nowhere) in
+    let e = get_or c.at-number.result.0.now c.at-number.result.1 nowhere in
     let as_is : to_z w128 (of_z w128 c.number_at.result) ≡ c.number_at.result = search rules in
     as_is
     ∙ (c.number_at.ensures
     ∙ (ap (λ columns. get_or (map (column_of e.cell) columns) c.args.column (pos 0)) c.as_slice.ensures
-    ∙ ap (number_in c.args.column) (row-there its.slice.now.columns (keyed its.names.now its.view.now its.slice.now.group) c.args.self.now its.points c.args.place e c.self.view_is c.requires (c.at.ensures e) d)))
+    ∙ ap (number_in c.args.column) (row-there its.slice.now.columns (keyed its.names.now its.view.now its.slice.now.group) c.args.self.now its.points c.args.place e c.self.view_is c.requires (c.at-number.ensures e) d)))
