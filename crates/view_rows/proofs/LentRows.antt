@@ -1,5 +1,5 @@
 -- The rows of points, one by one, and the sums of their columns.
-use Rattle.std.proofs.Common.{◌≡◌, ◌<◌, ◌≤◌, ◌+◌, ◌↔◌, ℕ, zero, suc, List, [], ◌∷◌, map, length, get_or, take, pos, nat_abs, sum_by, IsTrue, true, refl, sym, ◌∙◌, ap, subst, arith}
+use Rattle.std.proofs.Common.{◌≡◌, ◌<◌, ◌≤◌, ◌+◌, ◌↔◌, ℕ, zero, suc, List, [], ◌∷◌, map, length, get_or, take, nat_abs, sum_by, IsTrue, true, refl, sym, ◌∙◌, ap, subst, arith}
 use Rattle.std.proofs.lemmas.List.{length-map}
 use Rattle.std.specs.List.{All}
 use Rattle.fact_model.specs.Adds.{AddUp, number_in, numbers_in}

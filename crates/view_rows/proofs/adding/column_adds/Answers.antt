@@ -1,7 +1,5 @@
-use Rattle.std.proofs.Common.{rules, ◌≡◌, ◌<◌, ◌+◌, ◌≤◌, ◌∙◌, ap, arith, get_or, length, nat_abs, of_z, refl, sum_by, take, to_z}
+use Rattle.std.proofs.Common.{rules, ◌≡◌, ◌<◌, ◌+◌, ◌∙◌, ap, arith, get_or, length, nat_abs, of_z, refl, to_z}
 use Rattle.std.specs.Int.{w128}
-use Rattle.fact_model.specs.Adds.{numbers_in}
-use Rattle.fact_model.specs.Fact.{mass_limit}
 use Rattle.fact_model.proofs.Sums.{too_many}
 use Rattle.view_rows.proofs.LentRows.{next-sum, no_row}
 use Rattle.view_rows.proofs.adding.column_adds.Goals as goal

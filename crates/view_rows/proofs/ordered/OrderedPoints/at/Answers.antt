@@ -1,4 +1,4 @@
-use Rattle.std.proofs.Common.{rules, arith, ◌≡◌, ◌<◌, ℕ, List, get_or, length, map, ap, sym, ◌∙◌}
+use Rattle.std.proofs.Common.{rules, arith, ◌<◌, ℕ, List, get_or, length, ap, sym, ◌∙◌}
 use Rattle.std.proofs.lemmas.List.{get_or-map, length-map}
 use Rattle.cube_point.specs.declared.point.Entry.{Entry}
 use Rattle.view_rows.specs.Grouped.{nowhere}
