@@ -24,15 +24,17 @@ returns-then-not-is_lt c =
     let es = c.args.points.now in
     let i = c.loop-i.i in
     let on : i - 1 + 1 ≡ i = omega arith in
-    let within : i - 1 + 1 < _ = omega (arith, c.loop-i-test.true, c.len-i-end.ensures) in
-    (λ h. absurd (true≢false (sym h)),
-     λ up. sym c.if-not-is_lt.true ∙ (c.is_lt.ensures ∙ (ap is_lt c.compare_keys.ensures
-     ∙ (ap (λ n. is_before c.args.names.now c.args.view.now c.args.group.now (get_or es (i - 1) nowhere) (get_or es n nowhere)) (sym on) ∙ up (i - 1) nowhere within))))
+    let within : i - 1 + 1 < _ = omega (arith, c.loop-i-test.true, c.len-i-end.ensures) in (
+      λ h. absurd (true≢false (sym h)),
+      λ up. sym c.if-not-is_lt.true ∙ (c.is_lt.ensures ∙ (ap is_lt c.compare_keys.ensures
+          ∙ (ap (λ n. is_before c.args.names.now c.args.view.now c.args.group.now (get_or es (i - 1) nowhere) (get_or es n nowhere)) (sym on) ∙ up (i - 1) nowhere within))),
+    )
 
 pub returns : goal.returns
 returns c =
-    let es = c.args.points.now in
-    (λ h k d low.
-     (λ j. is_before c.args.names.now c.args.view.now c.args.group.now (get_or_default es k d nowhere (omega (arith, low)) j) (get_or_default es (k + 1) d nowhere low j))
-     ∙ c.loop-i.invariant k (omega (arith, low, c.loop-i-test.false, c.len-i-end.ensures)),
-     λ h. refl)
+    let es = c.args.points.now in (
+      λ h k d low.
+          (λ j. is_before c.args.names.now c.args.view.now c.args.group.now (get_or_default es k d nowhere (omega (arith, low)) j) (get_or_default es (k + 1) d nowhere low j))
+          ∙ c.loop-i.invariant k (omega (arith, low, c.loop-i-test.false, c.len-i-end.ensures)),
+      λ h. refl,
+    )
