@@ -1,11 +1,13 @@
 //! Points held small.
-ghost use Rattle.std.specs.Prelude.{◌≡◌, ◌<◌, ◌^◌, ◌++◌, ◌∷◌, [], OnOk, get_or, length, set};
+ghost use Rattle.std.specs.Prelude.{◌≡◌, ◌<◌, ◌≤◌, ◌^◌, ◌++◌, ◌∷◌, [], All, OnOk, get_or, length, set};
 ghost use Rattle.fact_model.specs.Cell.{part_of};
+ghost use Rattle.cube_point.specs.declared.point.Entry as entries;
 ghost use Rattle.view_rows.specs.Bare.{bare, with_cell};
 ghost use Rattle.view_rows.specs.Grouped.{nowhere};
 
 use crate::lists::{
-    number_at, number_in, numbers_at, part_in, parts_at, put_number, put_numbers, put_parts,
+    greatest_in, number_at, number_in, numbers_at, part_in, parts_at, put_number, put_numbers,
+    put_parts,
 };
 use cube_point::{Entry, Point};
 use fact_model::{Cell, Memory, Part};
@@ -76,6 +78,13 @@ impl ClosedPoints {
         ensures { result ≡ get_or (get_or self.now number nowhere).point.at dimension 0 }
     {
         number_in(&self.coordinates, number, dimension)
+    }
+
+    /// The greatest coordinate in a dimension, and 0 past the eight and where there is no point.
+    pub fn greatest(&self, dimension: usize) -> u64
+        ensures { All (λ (e : entries.Entry). get_or e.point.at dimension 0 ≤ result) self.now }
+    {
+        greatest_in(&self.coordinates, dimension)
     }
 
     /// The place of a point.

@@ -1,5 +1,6 @@
 //! Points of a view, held small where they are many.
-ghost use Rattle.std.specs.Prelude.{◌≡◌, ◌<◌, ◌++◌, ◌∷◌, [], IfErr, OnErr, OnOk, get_or, length, map, set};
+ghost use Rattle.std.specs.Prelude.{◌≡◌, ◌<◌, ◌≤◌, ◌++◌, ◌∷◌, [], All, IfErr, OnErr, OnOk, get_or, length, map, set};
+ghost use Rattle.cube_point.specs.declared.point.Entry as entries;
 ghost use Rattle.fact_model.specs.Cell.{join, part_of};
 ghost use Rattle.page_fmt.specs.Cells.{EndsInZeros};
 ghost use Rattle.view_points.specs.Answer.{column_of};
@@ -67,6 +68,15 @@ impl FlatPoints {
             return self.closed.coordinate(number, dimension);
         }
         coordinate_at(&self.recent, number - closed, dimension)
+    }
+
+    /// The greatest coordinate in a dimension, and 0 past the eight and where there is no point.
+    pub fn greatest(&self, dimension: usize) -> u64
+        ensures { All (λ (e : entries.Entry). get_or e.point.at dimension 0 ≤ result) self.now }
+    {
+        self.closed
+            .greatest(dimension)
+            .max(greatest_at(&self.recent, dimension))
     }
 
     /// The place of a point.
@@ -245,6 +255,17 @@ fn coordinate_at(points: &[Entry], place: usize, dimension: usize) -> u64
         Some(entry) => coordinate_of(&entry.point, dimension),
         None => 0,
     }
+}
+
+/// The greatest coordinate of points in a dimension, and 0 where there is no point.
+fn greatest_at(points: &[Entry], dimension: usize) -> u64
+    ensures { All (λ (e : entries.Entry). get_or e.point.at dimension 0 ≤ result) points.now }
+{
+    let mut greatest = 0;
+    for entry in points {
+        greatest = coordinate_of(&entry.point, dimension).max(greatest);
+    }
+    greatest
 }
 
 /// A coordinate of a point, and 0 past its eight.

@@ -1,6 +1,6 @@
 //! Lists that stand for points together: each has one number, or one part, of each point. What stands past the end of a list is zero, so
 //! that a list of zeros alone takes no room.
-ghost use Rattle.std.specs.Prelude.{◌≡◌, ◌≢◌, ◌≤◌, ◌-◌, ◌++◌, ℕ, [], OnOk, get_or, length, replicate};
+ghost use Rattle.std.specs.Prelude.{◌≡◌, ◌≢◌, ◌≤◌, ◌-◌, ◌++◌, ℕ, [], All, OnOk, get_or, length, replicate};
 ghost use Rattle.fact_model.specs.Cell.{part_of};
 ghost use Rattle.view_rows.specs.Lists.{numbers_at, parts_at};
 
@@ -53,6 +53,27 @@ pub(crate) fn part_in(lists: &[Vec<Part>; 4], place: usize, index: usize) -> Par
         return part_at(&lists[index], place);
     }
     NO_PART
+}
+
+/// The greatest of some numbers, and 0 where there is none.
+fn greatest_of(numbers: &[u64]) -> u64
+    ensures { All (λ n. n ≤ result) numbers.now }
+{
+    let mut greatest = 0;
+    for number in numbers {
+        greatest = (*number).max(greatest);
+    }
+    greatest
+}
+
+/// The greatest number of one of the lists, and 0 past the lists.
+pub(crate) fn greatest_in(lists: &[Vec<u64>; 8], index: usize) -> u64
+    ensures { (place : ℕ) → get_or (numbers_at place lists.now) index 0 ≤ result }
+{
+    if index < 8 {
+        return greatest_of(&lists[index]);
+    }
+    0
 }
 
 /// The number of each list at a place.
