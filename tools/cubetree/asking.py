@@ -67,9 +67,16 @@ def refusal(tool: str, asked: Asked, text: str, refused: Refused) -> str:
         said += syntax_hint(front, rest)
     elif refused.reply.startswith("refused sql name") and re.split(r"\W", rest)[0] in levels:
         said += "; SQL has no levels"
-    elif word == "attribute" and tool == "ask" and not levels:
-        said += "; a level needs --level NAME ATTR FILE"
+    elif schema and word in ("measure", "attribute"):
+        said += other_kind(schema, re.split(r"\W", rest)[0]) or ("; a level needs --level NAME ATTR FILE" if word == "attribute" and tool == "ask" and not levels else "")
     return "\n".join([said, f"  {shown(text)}", f"  {' ' * len(shown(front))}^"])
+
+
+def other_kind(schema: Schema, name: str) -> str:
+    """That a name is one of the other kind, where it is."""
+    if name in schema.measures:
+        return f"; {name} is a measure"
+    return f"; {name} is an attribute" if name in schema.attributes else ""
 
 
 def view_hint(names: "list[str]", schema: Schema) -> str:
@@ -84,7 +91,7 @@ def syntax_hint(front: str, rest: str) -> str:
     """What helps where a slice has an error of form between these two parts."""
     value, more = VALUE.search(front), PLAIN.match(rest)
     if value and more:
-        return "; quote a value as {}=\"{}\"".format(value["name"], shown(value["front"] + more[0]))
+        return "; quote a value as {}=\"{}\"".format(value["name"], shown(value["front"] + more[0]).strip("'"))
     if re.fullmatch("([^ ]*,)?", front):
         return "; columns are count, sum, min, max in small letters"
     return "; a range is 202503..202506" if rest[:1] in ("<", ">") else ""

@@ -13,8 +13,9 @@ from .words import counted, shown
 
 NUMBER = re.compile(r"-?(0|[1-9][0-9]*)", re.ASCII)
 CONDITION = re.compile(r"[+-]?[0-9]+(\.\.[+-]?[0-9]+)?", re.ASCII)
+NO_LETTER = re.compile("[\udc80-\udcff]")  # a byte that is none of UTF-8
 DATE = re.compile(r"[0-9]{4}-[0-9]{2}(-[0-9]{2})?", re.ASCII)
-DECIMAL = re.compile(NUMBER.pattern + r"(\.[0-9]+)?", re.ASCII)
+DECIMAL = re.compile(r"-?[0-9]+(\.[0-9]+)?", re.ASCII)
 MOST_ATTRIBUTES, MOST_MEASURES, MOST_VIEWS = 16, 4, 32
 MOST_TEXTS, GREATEST_MAX, GREATEST_VALUE, GREATEST_NARROW, FEW_VALUES = 1_000_000, 16_777_215, (1 << 63) - 1, 4_294_967_293, 1000
 PIECE = 10_000  # rows that are looked at together
@@ -54,9 +55,23 @@ class Column:
         many = f"more than {MOST_TEXTS:,} different values" if len(self.values) > MOST_TEXTS else counted(len(self.values), "different value")
         if self.is_number:
             return many + (f", {self.least} to {self.greatest}" if self.values else "") + self.note
+        return many + self.hint()
+
+    def hint(self) -> str:
+        """What would make more of a text: a measure, a range, or letters that read as they were written."""
         if self.is_all(DECIMAL):
-            return many + "; whole numbers, without points and empty fields, could be a measure"
-        return many + ("; write a month as 202503 to ask for ranges" if self.is_all(DATE) else "")
+            return self.number_hint()
+        if self.is_all(DATE):
+            return "; write a month as 202503 to ask for ranges"
+        return "; not in UTF-8: try iconv -f cp1252 -t utf-8" if any(map(NO_LETTER.search, self.values)) else ""
+
+    def number_hint(self) -> str:
+        """What keeps it from being of whole numbers; codes of one length, as 01234, are no numbers."""
+        if any("." in value for value in self.values):
+            return "; as whole numbers it could be a measure: write 12.50 as 1250"
+        if "" in self.values:
+            return "; as whole numbers it could be a measure: write 0 in empty fields"
+        return "; as whole numbers without leading zeros it could be a measure" if len(set(map(len, self.values))) > 1 else ""
 
     def is_all(self, form: "re.Pattern[str]") -> bool:
         """Whether it has values, and all but empty ones are of this form."""

@@ -113,7 +113,7 @@ class LoadCsv(Case):
         rows = [f"{i % 7:03},{i % 9},{i},{-(i % 2)},12.5" for i in range(1200)]
         self.put("file", "\n".join(["Zip code,Shop,Id,Sign,Price", *rows]))
         lines = load("--propose", "file")[0].splitlines()
-        self.assertIn("# price: 1 different value; whole numbers, without points and empty fields, could be a measure", lines)
+        self.assertIn("# price: 1 different value; as whole numbers it could be a measure: write 12.50 as 1250", lines)
         self.assertIn("# zip_code: 7 different values", lines)
         lines = [line for line in lines if not line.startswith("#")]
         attributes = ["attr zip_code text", "attr shop number", "attr price text"]
@@ -130,6 +130,9 @@ class LoadCsv(Case):
             ("k,n\nx,1\n", "# n: 1 different value, 1 to 1"),
             ("k,n\n2025-03,1\n2025-04,1\n", "# k: 2 different values; write a month as 202503 to ask for ranges"),
             ("k,n\n2025-03,1\nx,1\n", "# k: 2 different values"),
+            ("k,n\n099,1\n1250,1\n", "# k: 2 different values; as whole numbers without leading zeros it could be a measure"),
+            ("k,n\n,1\n1250,1\n", "# k: 2 different values; as whole numbers it could be a measure: write 0 in empty fields"),
+            (b"k,n\nB\xfcro,1\n", "# k: 1 different value; not in UTF-8: try iconv -f cp1252 -t utf-8"),
             ("k;n\nx;1\n", "# one column: try --delimiter ';'"),
             ("k\tn\nx\t1\n", "# one column: try --delimiter tab"),
         ]:
