@@ -14,10 +14,10 @@ use Rattle.forest_moves.specs.Forest.{forest_moves}
 use Rattle.forest_refresh.specs.Begun.{moves_of}
 use Rattle.std.proofs.Common.{Option, ◌≤◌}
 use Rattle.cube_state.proofs.Standing.{keeps_from}
-use Rattle.forest_store.proofs.Standing.{in_some}
-use Rattle.forest_store.specs.Held.{KeepsAs}
-use Rattle.plain_machine.specs.Keeps.{IsFrom}
-use Rattle.forest_store.specs.Sides.{page_count}
+use Rattle.kept_forest.proofs.Standing.{in_some}
+use Rattle.kept_forest.specs.Held.{KeepsAs}
+use Rattle.kept_worlds.specs.Keeps.{IsFrom}
+use Rattle.kept_forest.specs.Sides.{page_count}
 use Rattle.forest_root.specs.declared.body.Body.{Body}
 use Rattle.cube_state.specs.Cached.{generation}
 use Rattle.cube_state.specs.Costs.{Spends}

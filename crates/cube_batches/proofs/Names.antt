@@ -21,12 +21,13 @@ pub use Rattle.forest_refresh.specs.Begun.{Begun, IsGoing, IsNextStore, IsReady,
 pub use Rattle.forest_refresh.{proofs.Rooted.same-first-damage, proofs.Rooted.same-whole, specs.Back.BeginCause, specs.Back.IsBack, specs.Limits.TellsLimit, specs.Next.last_behind}
 pub use Rattle.forest_refresh.{specs.Trees.AreAllWhole, specs.Trees.TellsFirstDamage, specs.Trees.deltas_by, specs.declared.stop.BeginFault.BeginFault, specs.declared.stop.BeginStop.BeginStop}
 pub use Rattle.forest_refresh.{specs.declared.stop.RefreshStop.RefreshStop}
-pub use Rattle.forest_store.{specs.Held.AreAccepted, specs.Held.IsLive, specs.Held.KeepsFacts, specs.Opened.IsOpened, specs.Sides.page_total, specs.Stored.IsStoreOf}
+pub use Rattle.kept_forest.{specs.Held.AreAccepted, specs.Held.IsLive, specs.Held.KeepsFacts, specs.Opened.IsOpened, specs.Sides.page_total, specs.Stored.IsStoreOf}
+pub use Rattle.kept_worlds.specs.Keeps.{IsLawful, Keeps}
 pub use Rattle.plain_machine.proofs.Acts.{act_abandon, act_begin, act_finish, act_generate, act_load, act_load_numbered, act_step, nothing_added}
 pub use Rattle.plain_machine.specs.Machine.{Answer, Given, act, asked_by, batch_from, begun, block_read, committed, in_turn, load, pending_over, read_by, refusal_of, replies_with, take_over, unless}
 pub use Rattle.plain_machine.specs.Machine.{with_last, with_number}
-pub use Rattle.plain_machine.{specs.Histories.batch_by, specs.Histories.batch_given, specs.Histories.batch_sent, specs.Histories.batch_with, specs.Histories.number_of, specs.Keeps.IsLawful}
-pub use Rattle.plain_machine.{specs.Keeps.Keeps, specs.Stages.makes_stage, specs.Stages.size, specs.World.Kept, specs.World.Knows, specs.World.Warehouse, specs.World.World}
+pub use Rattle.plain_machine.{specs.Histories.batch_by, specs.Histories.batch_given, specs.Histories.batch_sent, specs.Histories.batch_with, specs.Histories.number_of}
+pub use Rattle.plain_machine.{specs.Stages.makes_stage, specs.Stages.size, specs.World.Kept, specs.World.Knows, specs.World.Warehouse, specs.World.World}
 pub use Rattle.plain_machine.{specs.declared.batch_source.BatchSource.BatchSource, specs.declared.batch_source.BatchSource.TheVariants.Generator}
 pub use Rattle.plain_machine.{specs.declared.batch_source.BatchSource.TheVariants.Numbered, specs.declared.batch_source.BatchSource.TheVariants.Rows}
 pub use Rattle.site_core.{proofs.Files.with_file-other, proofs.Run.holds_to, proofs.Run.joined, proofs.Run.stable_holds, proofs.Run.wider, specs.Causes.HasCauseWhere, specs.Disk.Disk}

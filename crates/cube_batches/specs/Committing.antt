@@ -7,7 +7,7 @@ use Rattle.fact_model.specs.declared.fact.Fact.{Fact}
 use Rattle.forest_moves.specs.Forest.{forest_moves}
 use Rattle.forest_refresh.specs.Begun.{Begun, next_side}
 use Rattle.forest_root.specs.declared.body.Body.{Body}
-use Rattle.forest_store.specs.Sides.{page_count}
+use Rattle.kept_forest.specs.Sides.{page_count}
 use Rattle.page_cache.specs.Giving.{Cache}
 use Rattle.reply_text.specs.Replies.{committed_text, line, upgraded_text}
 use Rattle.roll_up.specs.declared.level.Level.{Level}

@@ -11,7 +11,7 @@ use Rattle.forest_refresh.specs.declared.stop.BeginStop.{BeginStop}
 use Rattle.forest_refresh.specs.declared.stop.BeginStop.TheVariants as begins
 use Rattle.forest_root.specs.Root.{ClosesGate}
 use Rattle.forest_root.specs.declared.forest.Store.{Store}
-use Rattle.forest_store.specs.Held.{format_for}
+use Rattle.kept_forest.specs.Held.{format_for}
 use Rattle.reply_text.specs.Replies.{line}
 use Rattle.roll_up.specs.declared.level.Level.{Level}
 use Rattle.script_lang.specs.declared.command.Command.{Command}

@@ -8,9 +8,9 @@ pub use Rattle.cube_session.specs.Session.{Answers, AnswersByWorld, RepliesTo, R
 pub use Rattle.cube_state.{proofs.Answering.OnlyNow, proofs.Moves.stands_moved, proofs.SliceCosts.query_costs, proofs.SliceCosts.rollup_costs, proofs.SliceCosts.slice_costs, proofs.Standing.stands_left, proofs.Standing.stands_read, specs.Commands.CostTogether}
 pub use Rattle.cube_state.{specs.Commands.Costs, specs.Commands.none_cost, specs.Commands.one_costs, specs.Costs.Cost, specs.Costs.Spends, specs.Costs.both, specs.Moves.HasMovedTo}
 pub use Rattle.cube_state.{specs.Stops.IsNoDamage, specs.Stops.StopCause, specs.declared.stop.Stop.Stop}
-pub use Rattle.plain_machine.{proofs.Histories.goes_on_once, proofs.Stages.at_rest, proofs.Stages.carried_more as carried_command, proofs.Stages.carried_none as carried_start}
-pub use Rattle.plain_machine.{proofs.Stages.carried_then, proofs.Stages.during, specs.Keeps.Keeps, specs.Machine.act, specs.Stages.AfterStop, specs.Stages.replies_from, specs.World.Kept}
-pub use Rattle.plain_machine.{specs.World.World, specs.World.bare}
+pub use Rattle.kept_worlds.{proofs.Once.goes_on_once, proofs.Stops.at_rest, proofs.Stops.carried_more as carried_command, proofs.Stops.carried_none as carried_start}
+pub use Rattle.kept_worlds.{proofs.Stops.carried_then, proofs.Stops.during, specs.Keeps.Keeps, specs.Stops.AfterStop}
+pub use Rattle.plain_machine.{specs.Machine.act, specs.Stages.replies_from, specs.World.Kept, specs.World.World, specs.World.bare}
 pub use Rattle.script_lang.specs.Reading.{Gives, IsFirstWhole, Reading, nothing_read, ready, to_come, whole_with, with_more}
 pub use Rattle.script_lang.{proofs.Feeding.ended as feeding_ended, proofs.Feeding.fed, proofs.Feeding.fed_whole, proofs.Feeding.none_to_come, proofs.Feeding.none_whole, specs.Script.commands}
 pub use Rattle.script_lang.{specs.Script.whole, specs.declared.command.Command.Command}

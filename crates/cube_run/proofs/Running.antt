@@ -10,10 +10,10 @@ use Rattle.script_lang.specs.declared.command.Command.TheVariants as says
 use Rattle.cube_state.specs.declared.stop.Stop.TheVariants as stops
 use Rattle.cube_words.specs.declared.words.WordsStop.TheVariants as words
 use Rattle.cube_run.specs.declared.exit.Status.TheVariants.{Done, Usage, Input, Memory, TooLong}
-use Rattle.plain_machine.specs.Keeps.{HasFormat}
-use Rattle.plain_machine.proofs.Formats.{has_format}
+use Rattle.kept_worlds.specs.Keeps.{HasFormat}
+use Rattle.kept_worlds.proofs.Formats.{has_format}
 use Rattle.cube_state.specs.Moves.{KeepsFormat, Reached, reached_behind, unmoved}
-use Rattle.plain_machine.specs.Stages.{AfterStop}
+use Rattle.kept_worlds.specs.Stops.{AfterStop}
 use Rattle.site_core.specs.Moments.{LeavesOnly}
 use Rattle.cube_session.specs.Session.{reached_for}
 

@@ -8,7 +8,7 @@ use Rattle.forest_open.specs.Breaks.{BreaksAt}
 use Rattle.forest_open.specs.Opening.{Place}
 use Rattle.script_lang.specs.Script.{commands}
 use Rattle.cube_words.specs.Words.{AreValid}
-use Rattle.plain_machine.specs.Keeps.{Keeps}
+use Rattle.kept_worlds.specs.Keeps.{Keeps}
 use Rattle.plain_machine.specs.World.{Kept, bare}
 use Rattle.cube_state.specs.Moves.{FromFormat}
 use Rattle.cube_run.specs.Costs.{CostsRun}

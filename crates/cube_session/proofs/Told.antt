@@ -16,7 +16,7 @@ use Rattle.cube_state.specs.Moves.{KeepsFormat, Reached, format_of, format_told,
 use Rattle.cube_state.proofs.Moves.{format_past, format_untold, format_within, reached_more, stands_known}
 use Rattle.cube_state.proofs.Standing.{stands_from}
 use Rattle.page_fmt.specs.Formats.{wide_format}
-use Rattle.plain_machine.specs.Keeps.{IsFrom}
+use Rattle.kept_worlds.specs.Keeps.{IsFrom}
 use Rattle.std.proofs.Common.{Bool, false, inl, length-take, nat_lt, true, ◌∷◌, ◌+◌, ◌<◌, ◌≤◌, ◌⊎◌}
 use Rattle.std.proofs.lemmas.Bool.Decides.{nat_tests}
 

@@ -10,8 +10,8 @@ use Rattle.fact_model.specs.declared.fact.Fact.{Fact}
 use Rattle.fact_model.specs.declared.slice.Column.{Column}
 use Rattle.fact_model.specs.declared.slice.Column.TheVariants.{Count, Sum, Min, Max}
 use Rattle.fact_model.specs.declared.slice.Slice.{Slice}
-use Rattle.forest_store.proofs.Schemas.{few_measures}
-use Rattle.forest_store.specs.Held.{AreAccepted}
+use Rattle.kept_forest.proofs.Schemas.{few_measures}
+use Rattle.kept_forest.specs.Held.{AreAccepted}
 use Rattle.row_fold.proofs.Adding.{rows-add}
 use Rattle.row_fold.specs.Folds.{KeepsMass}
 use Rattle.slice_lang.specs.Agreeing.{SliceAgrees, is_column}

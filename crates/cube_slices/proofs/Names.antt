@@ -15,8 +15,8 @@ pub use Rattle.std.proofs.Common.{Bool, Err, IfErr, IfOk, IsTrue, List, None, Ok
 pub use Rattle.std.proofs.Common.{true≢false, ℕ, ◌+◌, ◌∙◌, ◌≡◌, ◌≤◌}
 pub use Rattle.std.{proofs.lemmas.Bool.cases_Bool, proofs.lemmas.Result.IfOk-weaker, specs.Prelude.IsErrOf, specs.Prelude.option_copied, specs.Prelude.◌↔◌, specs.declared.alloc.Global.Global}
 pub use Rattle.{cube_schema.specs.declared.schema.Schema.Schema, fact_model.specs.Rows.rows, fact_model.specs.declared.fact.Fact.Fact, fact_model.specs.declared.slice.Row.Row}
-pub use Rattle.{fact_model.specs.declared.slice.Slice.Slice, forest_root.specs.declared.body.Body.Body, forest_root.specs.declared.forest.Store.Store, forest_store.specs.Sides.side_of}
-pub use Rattle.{forest_store.specs.Stored.IsStoreOf, page_cache.specs.Giving.Cache, page_cache.specs.Keeping.Agrees, page_cache.specs.Keeping.HasRoom, page_cache.specs.Keeping.Keeps}
+pub use Rattle.{fact_model.specs.declared.slice.Slice.Slice, forest_root.specs.declared.body.Body.Body, forest_root.specs.declared.forest.Store.Store, kept_forest.specs.Sides.side_of}
+pub use Rattle.{kept_forest.specs.Stored.IsStoreOf, page_cache.specs.Giving.Cache, page_cache.specs.Keeping.Agrees, page_cache.specs.Keeping.HasRoom, page_cache.specs.Keeping.Keeps}
 pub use Rattle.{page_cache.specs.Keeping.LiesIn, plain_machine.proofs.Acts.act_slice, plain_machine.specs.World.Kept, plain_machine.specs.World.Warehouse, plain_machine.specs.World.World}
 pub use Rattle.{reply_text.specs.Replies.answer_text, reply_text.specs.Replies.line, reply_text.specs.Replies.no_schema, reply_text.specs.Replies.not_covered, reply_text.specs.Replies.slice_text}
 pub use Rattle.{script_lang.specs.declared.command.Command.Command, site_core.specs.Causes.HasCauseWhere, site_core.specs.Disk.Disk, site_core.specs.Disk.Files, site_core.specs.Frames.Looks}

@@ -5,7 +5,7 @@ use Rattle.site_core.proofs.Run.{each_moment, started}
 use Rattle.site_core.specs.Calls.{Rests, Stays, TellsNothing}
 use Rattle.site_core.specs.Moments.{Elapses}
 use Rattle.plain_machine.specs.World.{World}
-use Rattle.plain_machine.specs.Keeps.{IsFrom, Keeps}
+use Rattle.kept_worlds.specs.Keeps.{IsFrom, Keeps}
 use Rattle.cube_state.specs.declared.state.State.{State}
 use Rattle.cube_state.specs.Session.{IsFit, Stands, Between, KeepsEither}
 use Rattle.cube_state.specs.Moves.{format_of}

@@ -5,10 +5,10 @@ use Rattle.forest_audit.specs.Cost.{CostsAudit}
 use Rattle.forest_audit.proofs.States.{state-answered}
 use Rattle.forest_open.specs.Opening.{names_pages}
 use Rattle.forest_root.specs.declared.forest.Store.{Store}
-use Rattle.forest_store.specs.Held.{names_text}
-use Rattle.forest_store.specs.Sides.{page_count}
-use Rattle.forest_store.proofs.Standing.{live_keeps}
-use Rattle.plain_machine.specs.Keeps.{Keeps}
+use Rattle.kept_forest.specs.Held.{names_text}
+use Rattle.kept_forest.specs.Sides.{page_count}
+use Rattle.kept_forest.proofs.Standing.{live_keeps}
+use Rattle.kept_worlds.specs.Keeps.{Keeps}
 use Rattle.plain_machine.specs.Machine.{audit_over}
 use Rattle.plain_machine.specs.World.{Kept, Warehouse, World}
 use Rattle.site_core.specs.Disk.{Disk, Files}

@@ -6,13 +6,13 @@ use Rattle.cube_state.specs.Moves.{batch_moves, format_behind, format_with, move
 use Rattle.cube_state.specs.Session.{AttendsAs}
 use Rattle.fact_model.specs.declared.fact.Fact.{Fact}
 use Rattle.forest_moves.specs.Forest.{forest_moves}
-use Rattle.forest_pages.proofs.Scanned.{forest-long}
-use Rattle.forest_pages.specs.Forest.{body_counts}
+use Rattle.forest_bytes.proofs.Scanned.{forest-long}
+use Rattle.view_route.specs.Counts.{body_counts}
 use Rattle.forest_refresh.specs.Begun.{Begun}
 use Rattle.forest_root.specs.Forest.{pages_of_all}
-use Rattle.forest_store.proofs.Storable.{storable}
-use Rattle.forest_store.specs.Held.{format_for}
-use Rattle.forest_store.specs.Sides.{page_count, page_total}
+use Rattle.kept_forest.proofs.Storable.{storable}
+use Rattle.kept_forest.specs.Held.{format_for}
+use Rattle.kept_forest.specs.Sides.{page_count, page_total}
 use Rattle.packing.proofs.Moves.{reads-more, written-more}
 use Rattle.packing.specs.Moves.{KeepsTo, Move}
 use Rattle.plain_machine.proofs.Acts.{act_finish}

@@ -15,7 +15,7 @@ use Rattle.cube_state.specs.declared.state.State.{State}
 use Rattle.cube_state.specs.declared.state.State.TheVariants.{Empty, Hollow, Idle, Pending}
 use Rattle.cube_state.specs.declared.stop.Stop.{Stop}
 use Rattle.fact_model.specs.declared.fact.Fact.{Fact}
-use Rattle.forest_pages.specs.Forest.{body_counts}
+use Rattle.view_route.specs.Counts.{body_counts}
 use Rattle.forest_refresh.specs.Begun.{batch_size}
 use Rattle.forest_root.specs.declared.forest.Store.{Store}
 use Rattle.page_cache.specs.Giving.{Cache}

@@ -4,7 +4,7 @@ use Rattle.fact_model.specs.declared.fact.Fact.{Fact}
 use Rattle.packing.specs.Moves.{Move, reads_in, written}
 use Rattle.page_fmt.specs.Formats.{wide_format}
 use Rattle.forest_moves.specs.Forest.{forest_moves}
-use Rattle.forest_store.specs.Sides.{page_count}
+use Rattle.kept_forest.specs.Sides.{page_count}
 use Rattle.script_lang.specs.declared.command.Block.{Block}
 use Rattle.script_lang.specs.declared.command.Command.{Command}
 use Rattle.script_lang.specs.declared.command.Command.TheVariants as says

@@ -8,12 +8,12 @@ use Rattle.forest_moves.specs.Forest.{bytes_after, forest_moves}
 use Rattle.forest_root.specs.Live.{IsLiveBody}
 use Rattle.forest_root.specs.declared.body.Body.{Body}
 use Rattle.forest_refresh.specs.Begun.{next_side}
-use Rattle.forest_store.specs.Held.{format_for}
+use Rattle.kept_forest.specs.Held.{format_for}
 use Rattle.script_lang.specs.declared.command.Command.{Command}
 use Rattle.script_lang.specs.declared.command.Command.TheVariants as says
 use Rattle.plain_machine.specs.Histories.{Batch, batch_by}
 use Rattle.plain_machine.specs.Machine.{act}
-use Rattle.plain_machine.specs.Keeps.{HasFormat, IsFrom}
+use Rattle.kept_worlds.specs.Keeps.{HasFormat, IsFrom}
 use Rattle.plain_machine.specs.Stages.{makes_stage}
 use Rattle.plain_machine.specs.World.{Kept, Warehouse, World}
 use Rattle.cube_state.specs.Cached.{live_of}

@@ -3,7 +3,7 @@ use Rattle.std.specs.Prelude.{◌≡◌, ℕ, Bool, true, false, List, length, O
 use Rattle.fact_model.specs.declared.fact.Fact.{Fact}
 use Rattle.fact_model.specs.declared.slice.Slice.{Slice}
 use Rattle.cube_schema.specs.declared.schema.Schema.{Schema}
-use Rattle.forest_pages.specs.Forest.{body_counts}
+use Rattle.view_route.specs.Counts.{body_counts}
 use Rattle.forest_root.specs.declared.forest.Store.{Store}
 use Rattle.roll_up.specs.declared.level.Level.{Level}
 use Rattle.script_lang.specs.declared.command.Command.{Command}

@@ -17,9 +17,9 @@ use Rattle.cube_schema.specs.Kinds.{measure_count}
 use Rattle.cube_schema.specs.declared.schema.Kind.{Kind}
 use Rattle.cube_schema.specs.declared.schema.Kind.TheVariants as kind
 use Rattle.cube_schema.specs.declared.schema.Schema.{Schema}
-use Rattle.forest_pages.specs.Forest.{view_entries}
-use Rattle.leaf_points.specs.Storable.{AreStorable}
-use Rattle.leaf_points.proofs.Cells.{each-point}
+use Rattle.forest_bytes.specs.Forest.{view_entries}
+use Rattle.forest_bytes.specs.Storable.{AreStorable}
+use Rattle.forest_bytes.proofs.Cells.{each-point}
 use Rattle.tree_audit.specs.Packed.{IsWithin}
 use Rattle.tree_pack.specs.Pages.{joined}
 use Rattle.view_points.specs.Codes.{Text, names_of, place}

@@ -12,15 +12,15 @@ use Rattle.cube_schema.specs.Kinds.{measure_count}
 use Rattle.view_points.specs.Codes.{names_of}
 use Rattle.view_points.specs.Points.{View}
 use Rattle.view_points.proofs.Members.{every-from_All}
-use Rattle.leaf_points.specs.Storable.{AreStorable}
-use Rattle.leaf_points.proofs.Leaves.{entries-arity}
+use Rattle.forest_bytes.specs.Storable.{AreStorable}
+use Rattle.forest_bytes.proofs.Leaves.{entries-arity}
 use Rattle.leaf_pack.specs.Leaf.{arity_of}
 use Rattle.packing.specs.Runs.{runs, top}
 use Rattle.packing.specs.Tree.{inner, laid, leaf}
 use Rattle.page_fmt.specs.Trees.{fanout_of, room_of}
 use Rattle.select_map.specs.Views.{arity_at}
 use Rattle.select_map.proofs.TreeViews.{numbers_in}
-use Rattle.forest_pages.specs.Forest.{view_entries}
+use Rattle.forest_bytes.specs.Forest.{view_entries}
 use Rattle.tree_pack.specs.Pages.{Views, child_of, joined, pages_of}
 use Rattle.tree_audit.specs.Numbers.{cut}
 use Rattle.tree_audit.proofs.Arities.{run}

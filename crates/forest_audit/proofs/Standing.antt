@@ -14,18 +14,19 @@ use Rattle.cube_schema.specs.Kinds.{measure_count}
 use Rattle.cube_schema.specs.Lawful.{IsSchema}
 use Rattle.cube_schema.specs.declared.schema.Schema.{Schema}
 use Rattle.fact_model.specs.declared.fact.Fact.{Fact}
-use Rattle.forest_pages.specs.Forest.{body_counts, forest, tree_entries, views_over}
-use Rattle.forest_pages.proofs.Bounds.{pages-within}
-use Rattle.forest_pages.proofs.Bytes.{tree-lawful}
-use Rattle.forest_pages.proofs.Scanned.{counts-few, few-views, tree-good, tree-stands}
-use Rattle.forest_pages.proofs.Selected.{pages-told, stand, tree, tree-shape, view-counted}
+use Rattle.view_route.specs.Counts.{body_counts}
+use Rattle.forest_bytes.specs.Forest.{forest, tree_entries, views_over}
+use Rattle.forest_bytes.proofs.Bounds.{pages-within}
+use Rattle.forest_bytes.proofs.Bytes.{tree-lawful}
+use Rattle.forest_bytes.proofs.Scanned.{counts-few, few-views, tree-good, tree-stands}
+use Rattle.forest_bytes.proofs.Selected.{pages-told, stand, tree, tree-shape, view-counted}
 use Rattle.forest_root.specs.Forest.{count_in, counts_of, pages_of, pages_of_all, shape_of}
 use Rattle.forest_root.specs.declared.body.Body.{Body}
-use Rattle.forest_store.specs.Held.{AreAccepted, IsLive}
-use Rattle.forest_store.proofs.Places.{nine-in}
-use Rattle.forest_store.proofs.Storable.{storable}
+use Rattle.kept_forest.specs.Held.{AreAccepted, IsLive}
+use Rattle.kept_forest.proofs.Places.{nine-in}
+use Rattle.kept_forest.proofs.Storable.{storable}
 use Rattle.leaf_pack.specs.Leaf.{arity_of}
-use Rattle.leaf_points.specs.Storable.{AreStorable}
+use Rattle.forest_bytes.specs.Storable.{AreStorable}
 use Rattle.page_fmt.specs.declared.page.Place.{Place}
 use Rattle.page_fmt.specs.Trees.{room_of}
 use Rattle.select_map.proofs.Selected.{schema-short}

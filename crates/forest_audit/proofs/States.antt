@@ -8,12 +8,12 @@ use Rattle.cube_schema.specs.declared.schema.Schema.{Schema}
 use Rattle.fact_model.specs.declared.fact.Fact.{Fact}
 use Rattle.forest_open.specs.Opening.{AreOpened}
 use Rattle.forest_open.proofs.Openings.{book_of, kept_names, kept_opened, live_body}
-use Rattle.forest_pages.specs.Forest.{view_entries}
-use Rattle.forest_pages.proofs.Selected.{view-of-tree}
+use Rattle.forest_bytes.specs.Forest.{view_entries}
+use Rattle.forest_bytes.proofs.Selected.{view-of-tree}
 use Rattle.forest_root.specs.Live.{IsLiveBody}
 use Rattle.forest_root.specs.declared.body.Body.{Body}
 use Rattle.forest_root.proofs.One.{held_is_live}
-use Rattle.forest_store.specs.Held.{AreAccepted, IsLive, KeepsFacts, held}
+use Rattle.kept_forest.specs.Held.{AreAccepted, IsLive, KeepsFacts, held}
 use Rattle.select_map.specs.Views.{arity_at, tree_number}
 use Rattle.tree_audit.specs.Kept.{has_arity}
 use Rattle.view_points.specs.Codes.{names_of}

@@ -20,7 +20,7 @@ use Rattle.forest_refresh.specs.declared.stop.BeginStop.TheVariants as begins
 use Rattle.cube_schema.specs.Agreeing.{Agrees}
 use Rattle.attr_dict.specs.Admitting.{entries_text}
 use Rattle.view_points.specs.Codes.{names}
-use Rattle.forest_store.specs.Held.{AreAccepted, HasNames, IsLive, masses_of, names_text}
+use Rattle.kept_forest.specs.Held.{AreAccepted, HasNames, IsLive, masses_of, names_text}
 use Rattle.forest_refresh.specs.Limits.{TellsLimit}
 use Rattle.forest_refresh.specs.Next.{AddsNames, HasMass, HasNumbers, KeepsLimits, added, next_body}
 use Rattle.forest_commit.specs.Commit.{slot_of}

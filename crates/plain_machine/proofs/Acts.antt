@@ -18,7 +18,7 @@ use Rattle.script_lang.specs.declared.command.Block.{Block}
 use Rattle.script_lang.specs.declared.command.Block.TheVariants.{Whole, Long}
 use Rattle.script_lang.specs.declared.command.Command.{Command}
 use Rattle.script_lang.specs.declared.command.Command.TheVariants as says
-use Rattle.forest_pages.specs.Forest.{body_counts}
+use Rattle.view_route.specs.Counts.{body_counts}
 use Rattle.replica_route.specs.Picked.{picked}
 use Rattle.replica_route.specs.declared.picking.Choice.{Choice}
 use Rattle.reply_text.specs.Replies.{line, already_text, gap_text, level_text, numbered, query_text, run_text, schema_text, batch_text, slice_text, answer_text}

@@ -4,14 +4,13 @@ use Rattle.std.specs.Option.{option_to_list}
 use Rattle.std.specs.List.{flat_map, range_with_len}
 use Rattle.std.proofs.lemmas.Bool.Decides.{nat_tests}
 use Rattle.std.proofs.lemmas.Grind.{flat_map-append}
-use Rattle.site_core.specs.Disk.{Files}
 use Rattle.fact_model.specs.declared.fact.Fact.{Fact}
 use Rattle.script_lang.specs.Script.{commands}
 use Rattle.script_lang.specs.declared.command.Command.{Command}
 use Rattle.plain_machine.specs.World.{Kept, World, bare}
 use Rattle.plain_machine.specs.Machine.{act}
-use Rattle.plain_machine.specs.Stages.{makes_stage, size, stages_after, stages, AfterStop}
-use Rattle.plain_machine.specs.Histories.{Batch, GoesOnOnce, IsEachOnce, IsHistory, IsRun, Run, accepted_in, batch_by, batches_after, batches_to, facts_in, facts_of, last_of, numbers_of, with_run}
+use Rattle.plain_machine.specs.Stages.{makes_stage, size, stages_after, stages}
+use Rattle.plain_machine.specs.Histories.{Batch, IsEachOnce, IsHistory, IsRun, Run, accepted_in, batch_by, batches_after, batches_to, facts_in, facts_of, last_of, numbers_of, with_run}
 use Rattle.plain_machine.proofs.Acts.{no_stage}
 use Rattle.plain_machine.proofs.Outcomes.{Outcome, stays, declares, commits, counts, outcome}
 
@@ -135,20 +134,3 @@ pub history_more : (runs : List Run) (first kept : Kept) (run : Run) → IsHisto
     → IsHistory first (with_run runs run) run.kept
 history_more [] first kept run same is = (subst (λ (k : Kept). IsRun k run) (sym same) is, refl)
 history_more (one ∷ runs) first kept run history is = (history.0, history_more runs one.kept kept run history.1 is)
-
--- what a stop leaves keeps a stage, so the histories go on with it
-pub goes_on_once : (kept : Kept) (script : List ℕ) (before told : List ℕ) (files : Files) → AfterStop (bare kept) (commands script) before told files
-    → GoesOnOnce kept script before told files
-goes_on_once kept script before told files stop =
-    let run : Run = record { script = script; stage = stop.stage; kept = stop.state } in
-    record {
-      run = run;
-      over = refl;
-      keeps = stop.kept;
-      front = stop.front;
-      tells = stop.tells;
-      acknowledged = stop.acknowledged;
-      not_ahead = stop.not_ahead;
-      goes_on = λ first runs history. history_more runs first kept run history stop.there;
-      each_once = λ first runs history. each_once (with_run runs run) first stop.state (history_more runs first kept run history stop.there);
-    }

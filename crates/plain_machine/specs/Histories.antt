@@ -1,7 +1,6 @@
 -- Histories of runs: the batches that were accepted in them, and that each numbered one was accepted once.
 use Rattle.std.specs.Prelude.{◌≡◌, ℕ, ◌+◌, ◌-◌, ◌≤◌, cond, List, [], ◌∷◌, ◌++◌, length, take, Option, Some, None, option_to_list, slice_get, Ok, Err}
 use Rattle.std.specs.List.{flat_map, range_with_len}
-use Rattle.site_core.specs.Disk.{Files}
 use Rattle.fact_model.specs.declared.fact.Fact.{Fact}
 use Rattle.script_lang.specs.Script.{commands}
 use Rattle.script_lang.specs.declared.command.Command.{Command}
@@ -10,8 +9,7 @@ use Rattle.plain_machine.specs.World.{Kept, World, bare}
 use Rattle.plain_machine.specs.Machine.{Given, act, batch_from}
 use Rattle.plain_machine.specs.declared.batch_source.BatchSource.{BatchSource}
 use Rattle.plain_machine.specs.declared.batch_source.BatchSource.TheVariants.{Rows, Numbered, Generator}
-use Rattle.plain_machine.specs.Stages.{acked, makes_stage, stages}
-use Rattle.plain_machine.specs.Keeps.{Keeps}
+use Rattle.plain_machine.specs.Stages.{makes_stage, stages}
 
 -- the accepted facts: none where no schema is declared
 abbrev pub facts_of : Kept → List Fact
@@ -129,17 +127,3 @@ pub record IsEachOnce (first last : Kept) (batches : List Batch) : Type 0 where
 -- the runs of a history, and one more
 abbrev pub with_run : List Run → Run → List Run
 with_run runs run = runs ++ run ∷ []
-
--- What a stop in a run over this script leaves, from this state, with these bytes told: each history that ended in it goes on with the run to
--- what the files keep, and in that history each numbered batch is accepted once. What was acknowledged is in it.
-pub record GoesOnOnce (kept : Kept) (script before told : List ℕ) (files : Files) : Type 0 where
-  pub run : Run
-  pub over : run.script ≡ script
-  pub keeps : Keeps files run.kept
-  -- the bytes told are a front of the replies, and the stage is the one that they acknowledge, or the next one
-  pub front : List ℕ
-  pub tells : told ≡ before ++ front
-  pub acknowledged : acked (bare kept) (commands script) (length front) ≤ run.stage
-  pub not_ahead : run.stage ≤ acked (bare kept) (commands script) (length front) + 1
-  pub goes_on : (first : Kept) (runs : List Run) → IsHistory first runs kept → IsHistory first (with_run runs run) run.kept
-  pub each_once : (first : Kept) (runs : List Run) → IsHistory first runs kept → IsEachOnce first run.kept (accepted_in first (with_run runs run))

@@ -1,5 +1,4 @@
 pub mod Histories
-pub mod Keeps
 pub mod Machine
 pub mod Stages
 pub mod World

@@ -19,7 +19,7 @@ use Rattle.script_lang.specs.declared.command.Block.{Block}
 use Rattle.script_lang.specs.declared.command.Block.TheVariants.{Whole, Long}
 use Rattle.script_lang.specs.declared.command.Command.{Command}
 use Rattle.script_lang.specs.declared.command.Command.TheVariants as says
-use Rattle.forest_pages.specs.Forest.{body_counts}
+use Rattle.view_route.specs.Counts.{body_counts}
 use Rattle.replica_route.specs.Picked.{picked}
 use Rattle.replica_route.specs.declared.picking.Choice.{Choice}
 use Rattle.reply_text.specs.Replies.{line, already_text, audited_text, choice_text, committed_text, facts_text, gap_text, leveled_text, pending_text, schema_text, batch_text, full_text, level_text, mass_text, query_text, slice_text, answer_text, unopened, no_schema, is_declared, long_schema, long_block, is_pending, none_pending, too_many_facts, is_empty, not_covered, long_line, open_block, is_unknown, declared_text, begun_text, stepped_text, abandoned_text, upgraded_text}

@@ -1,11 +1,9 @@
--- What commands tell and what files keep behind them by the plain machine, and what a stop among them may leave.
-use Rattle.std.specs.Prelude.{◌≡◌, ◌⊎◌, ℕ, ◌+◌, ◌-◌, ◌≤◌, Bool, cond, List, [], ◌∷◌, ◌++◌, length, nat_lt, nat_le, Some, None, slice_get}
-use Rattle.site_core.specs.Disk.{Files}
+-- What commands reply by the plain machine, and the stages that they make of what it knows.
+use Rattle.std.specs.Prelude.{ℕ, ◌+◌, ◌-◌, Bool, cond, List, [], ◌∷◌, ◌++◌, length, nat_lt, nat_le, Some, None}
 use Rattle.script_lang.specs.Script.{commands}
 use Rattle.script_lang.specs.declared.command.Command.{Command}
 use Rattle.plain_machine.specs.Machine.{act}
 use Rattle.plain_machine.specs.World.{Kept, World}
-use Rattle.plain_machine.specs.Keeps.{Keeps}
 
 -- the replies to all commands, joined
 abbrev pub replies_from : World → List Command → List ℕ
@@ -46,35 +44,3 @@ acked world [] told = 0
 acked world (command ∷ rest) told =
     cond (nat_le (length (act world command).1) told)
     (cond (makes_stage world command) 1 0 + acked (act world command).0 rest (told - length (act world command).1)) 0
-
--- A stop leaves a front of the replies, and files that keep a stage: one with all that is acknowledged, and at most one ahead.
-pub record AfterStop (world : World) (commands : List Command) (before told : List ℕ) (files : Files) : Type 0 where
-  pub front : List ℕ
-  pub rest : List ℕ
-  pub tells : told ≡ before ++ front
-  pub prefix : replies_from world commands ≡ front ++ rest
-  pub stage : ℕ
-  pub state : Kept
-  pub there : slice_get (stages world commands) stage ≡ Some state
-  pub kept : Keeps files state
-  pub acknowledged : acked world commands (length front) ≤ stage
-  pub not_ahead : stage ≤ acked world commands (length front) + 1
-
--- A stop within one command leaves a front of its reply, and files that keep the world before or behind it: those behind it
--- where the whole reply was told.
-pub record Meanwhile (world : World) (command : Command) (before told : List ℕ) (files : Files) : Type 0 where
-  pub front : List ℕ
-  pub rest : List ℕ
-  pub tells : told ≡ before ++ front
-  pub prefix : (act world command).1 ≡ front ++ rest
-  pub kept : Keeps files world.kept ⊎ Keeps files (act world command).0.kept
-  pub acknowledged : front ≡ (act world command).1 → Keeps files (act world command).0.kept
-
--- Of these commands some are carried out, and the others are left. What a stop leaves that is right from here on is right from
--- the start.
-pub record Carried (world : World) (commands : List Command) (before : List ℕ) (now : World) (rest : List Command) (told : List ℕ) : Type 0 where
-  pub front : List ℕ
-  pub tells : told ≡ before ++ front
-  pub replies : replies_from world commands ≡ front ++ replies_from now rest
-  pub final : final world commands ≡ final now rest
-  pub onto : (t : List ℕ) (files : Files) → AfterStop now rest told t files → AfterStop world commands before t files

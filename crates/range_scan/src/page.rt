@@ -21,7 +21,7 @@ use crate::walk::{Query, SearchStop};
 use cube_point::{Region, Shape};
 use fact_model::Memory;
 use page_fmt::{HEADER, Head, Node, PAGE, coordinate_at, lent_entry, size_of_entry};
-use point_taker::Taker;
+use page_fmt::Taker;
 
 /// Takes the points or the children of the page with this number, which was accepted with this head.
 pub(crate) fn take_contents<G: Taker>(

@@ -18,7 +18,7 @@ use cube_point::Region;
 use fact_model::Memory;
 use page_cache::{CacheStop, Pages};
 use page_fmt::Place;
-use point_taker::Taker;
+use page_fmt::Taker;
 use site_core::Site;
 use std::alloc::Global;
 

@@ -37,16 +37,17 @@ use Rattle.page_fmt.specs.Pages.{width}
 use Rattle.page_fmt.proofs.Rooms.{room-many}
 use Rattle.page_fmt.proofs.Widths.{fits-wide}
 use Rattle.tree_pack.specs.Packing.{max_first}
-use Rattle.leaf_points.specs.Storable.{AreStorable}
-use Rattle.leaf_points.proofs.Leaves.{entries-fit}
-use Rattle.forest_pages.specs.Forest.{body_counts, forest, tree_entries, view_entries, views_over}
-use Rattle.forest_pages.proofs.Bounds.{pages-within}
-use Rattle.forest_pages.proofs.Scanned.{counts-few, few-views, tree-there}
-use Rattle.forest_pages.proofs.Selected.{few-measures, pages-told, tree, tree-shape, tree-views, view-of-tree}
+use Rattle.forest_bytes.specs.Storable.{AreStorable}
+use Rattle.forest_bytes.proofs.Leaves.{entries-fit}
+use Rattle.view_route.specs.Counts.{body_counts}
+use Rattle.forest_bytes.specs.Forest.{forest, tree_entries, view_entries, views_over}
+use Rattle.forest_bytes.proofs.Bounds.{pages-within}
+use Rattle.forest_bytes.proofs.Scanned.{counts-few, few-views, tree-there}
+use Rattle.forest_bytes.proofs.Selected.{few-measures, pages-told, tree, tree-shape, tree-views, view-of-tree}
 use Rattle.forest_root.specs.Forest.{pages_of, pages_of_all}
-use Rattle.forest_store.specs.Held.{AreAccepted, FitsFormat}
-use Rattle.forest_store.proofs.Schemas.{view-short}
-use Rattle.forest_store.proofs.Storable.{storable}
+use Rattle.kept_forest.specs.Held.{AreAccepted, FitsFormat}
+use Rattle.kept_forest.proofs.Schemas.{view-short}
+use Rattle.kept_forest.proofs.Storable.{storable}
 use Rattle.range_scan.specs.Meeting.{is_inside}
 use Rattle.range_scan.specs.Packed.{HoldsTree}
 use Rattle.range_scan.proofs.Tests.{inside-told}

@@ -26,14 +26,14 @@ use Rattle.page_fmt.specs.Lawful.{IsCoordinate}
 use Rattle.page_fmt.specs.Pages.{width}
 use Rattle.page_fmt.specs.Writing.{FitsLeaf}
 use Rattle.page_fmt.proofs.Widths.{fits-wide}
-use Rattle.leaf_points.specs.Storable.{AreStorable}
-use Rattle.leaf_points.proofs.Leaves.{entries-fit}
+use Rattle.forest_bytes.specs.Storable.{AreStorable}
+use Rattle.forest_bytes.proofs.Leaves.{entries-fit}
 use Rattle.forest_root.specs.declared.forest.Store.{Store}
-use Rattle.forest_pages.specs.Forest.{tree_entries, view_entries}
-use Rattle.forest_store.specs.Held.{AreAccepted}
-use Rattle.forest_store.proofs.Schemas.{few_measures, view-short}
-use Rattle.forest_store.proofs.Storable.{any-wide, storable}
-use Rattle.forest_store.proofs.ViewReads.{points-view}
+use Rattle.forest_bytes.specs.Forest.{tree_entries, view_entries}
+use Rattle.kept_forest.specs.Held.{AreAccepted}
+use Rattle.kept_forest.proofs.Schemas.{few_measures, view-short}
+use Rattle.kept_forest.proofs.Storable.{any-wide, storable}
+use Rattle.kept_forest.proofs.ViewReads.{points-view}
 use Rattle.range_scan.specs.Meeting.{is_inside}
 use Rattle.range_scan.proofs.Tests.{inside-from, inside-told}
 use Rattle.slice_lang.specs.Agreeing.{SliceAgrees}

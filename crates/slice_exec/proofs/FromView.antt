@@ -8,9 +8,9 @@ use Rattle.fact_model.specs.declared.slice.Row.{Row}
 use Rattle.fact_model.specs.declared.slice.Slice.{Slice}
 use Rattle.page_cache.specs.Giving.{Cache}
 use Rattle.page_cache.specs.Keeping.{Agrees}
-use Rattle.forest_pages.specs.Forest.{body_counts}
+use Rattle.view_route.specs.Counts.{body_counts}
 use Rattle.forest_root.specs.declared.forest.Store.{Store}
-use Rattle.forest_store.specs.Stored.{IsStoreOf}
+use Rattle.kept_forest.specs.Stored.{IsStoreOf}
 use Rattle.view_route.specs.Routes.{IsCovering}
 use Rattle.view_rows.specs.Grouped.{HasForm}
 use Rattle.slice_exec.specs.Answering.{AnswersFrom}

@@ -12,7 +12,7 @@ use Rattle.view_points.specs.Agree.{among}
 use Rattle.view_points.specs.Points.{View}
 use Rattle.view_points.proofs.Members.{All-from_every, all-every, every-map}
 use Rattle.forest_root.specs.declared.forest.Store.{Store}
-use Rattle.forest_store.proofs.Schemas.{view-short}
+use Rattle.kept_forest.proofs.Schemas.{view-short}
 use Rattle.view_route.specs.Routes.{IsCovering}
 use Rattle.view_route.proofs.Covering.{covering}
 

@@ -1,0 +1,15 @@
+pub mod Bounds
+pub mod Bytes
+pub mod Cells
+pub mod Counts
+pub mod Deltas
+pub mod Joined
+pub mod Leaves
+pub mod Merges
+pub mod Nothing
+pub mod Parts
+pub mod Places
+pub mod Scanned
+pub mod Selected
+pub mod Trees
+pub mod Vectors
