@@ -20,8 +20,7 @@ use crate::ends::{first_bound, is_whole};
 use crate::walk::{Query, SearchStop};
 use cube_point::{Region, Shape};
 use fact_model::Memory;
-use page_fmt::{HEADER, Head, Node, PAGE, coordinate_at, lent_entry, size_of_entry};
-use page_fmt::Taker;
+use page_fmt::{HEADER, Head, Node, PAGE, Taker, coordinate_at, lent_entry, size_of_entry};
 
 /// Takes the points or the children of the page with this number, which was accepted with this head.
 pub(crate) fn take_contents<G: Taker>(

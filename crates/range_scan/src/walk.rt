@@ -17,8 +17,7 @@ use crate::page::take_contents;
 use cube_point::Region;
 use fact_model::Memory;
 use page_cache::{CacheStop, Pages};
-use page_fmt::Place;
-use page_fmt::Taker;
+use page_fmt::{Place, Taker};
 use site_core::Site;
 use std::alloc::Global;
 

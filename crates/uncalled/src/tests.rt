@@ -11,7 +11,6 @@ use forest_open::{init, open_store};
 use forest_root::Store;
 use hash_seed::Seed;
 use page_cache::Pages;
-use telling_host::TellingHost;
 use script_lang::{Command, Lines};
 use site_core::Site;
 use site_folder::FolderSite;
@@ -21,6 +20,7 @@ use slice_lang::{read_slice, write_slice};
 use std::alloc::Global;
 use std::process::Abort;
 use std::test::Fail;
+use telling_host::TellingHost;
 use view_route::route;
 
 /// A sale of so many of a part in a year.
