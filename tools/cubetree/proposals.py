@@ -8,14 +8,14 @@ from .forest import NARROW, PAGE, WIDE, leaf_room
 from .questions import Question, question_of
 from .replicas import MOST_OF_A_VIEW, smallest_views
 from .sample import Sample
+from .tables import AMOUNT, DATE, Table
 from .views import Needs, View, needs_of, picked
 from .words import counted, shown
 
 NUMBER = re.compile(r"-?(0|[1-9][0-9]*)", re.ASCII)
 CONDITION = re.compile(r"[+-]?[0-9]+(\.\.[+-]?[0-9]+)?", re.ASCII)
 NO_LETTER = re.compile("[\udc80-\udcff]")  # a byte that is none of UTF-8
-DATE = re.compile(r"[0-9]{4}-[0-9]{2}(-[0-9]{2})?", re.ASCII)
-DECIMAL = re.compile(r"-?[0-9]+(\.[0-9]+)?", re.ASCII)
+DECIMAL = re.compile(r"-?[0-9]+([.,][0-9]+)?", re.ASCII)
 MOST_ATTRIBUTES, MOST_MEASURES, MOST_VIEWS = 16, 4, 32
 MOST_TEXTS, GREATEST_MAX, GREATEST_VALUE, GREATEST_NARROW, FEW_VALUES = 1_000_000, 16_777_215, (1 << 63) - 1, 4_294_967_293, 1000
 PIECE = 10_000  # rows that are looked at together
@@ -23,10 +23,10 @@ PIECE = 10_000  # rows that are looked at together
 
 class Column:
     """What was seen of a column: whether all values are whole numbers, the least and the greatest of these, and its different values, of
-    which no more are kept than a text attribute has by itself."""
+    which no more are kept than a text attribute has by itself. Some are to be summed, and dates are not."""
 
-    def __init__(self, name: str) -> None:
-        self.name, self.is_number, self.note = name, True, ""
+    def __init__(self, name: str, is_summed: bool = False, is_date: bool = False) -> None:
+        self.name, self.is_number, self.note, self.is_summed, self.is_date = name, True, "", is_summed, is_date
         self.values: set[str] = set()
         self.least: Optional[int] = None
         self.greatest: Optional[int] = None
@@ -48,7 +48,7 @@ class Column:
 
     def is_measure(self) -> bool:
         """Whether it is proposed as a measure."""
-        return self.is_number and (not self.has_numbers() or len(self.values) > FEW_VALUES)
+        return self.is_number and not self.is_date and (self.is_summed or not self.has_numbers() or len(self.values) > FEW_VALUES)
 
     def seen(self) -> str:
         """What was seen of it, in words."""
@@ -62,13 +62,13 @@ class Column:
         if self.is_all(DECIMAL):
             return self.number_hint()
         if self.is_all(DATE):
-            return "; write a month as 202503 to ask for ranges"
+            return f"; --dates {self.name} makes it a number, for ranges"
         return "; not in UTF-8: try iconv -f cp1252 -t utf-8" if any(map(NO_LETTER.search, self.values)) else ""
 
     def number_hint(self) -> str:
         """What keeps it from being of whole numbers; codes of one length, as 01234, are no numbers."""
-        if any("." in value for value in self.values):
-            return "; as whole numbers it could be a measure: write 12.50 as 1250"
+        if any(mark in value for value in self.values for mark in ".,"):
+            return f"; --cents {self.name} makes it a measure" if self.is_all(AMOUNT) else "; as whole numbers it could be a measure"
         if "" in self.values:
             return "; as whole numbers it could be a measure: write 0 in empty fields"
         return "; as whole numbers without leading zeros it could be a measure" if len(set(map(len, self.values))) > 1 else ""
@@ -94,6 +94,9 @@ def see_rows(columns: "list[Column]", rows: "Iterable[list[str]]") -> None:
             see_piece(columns, piece)
             piece = []
     see_piece(columns, piece)
+    for column in columns:
+        if column.is_summed and not column.is_number:
+            raise Fault(f"{column.name} cannot be summed: not all of its values are whole numbers{column.hint()}")
     if not any(column.values for column in columns):
         raise Fault("there are no rows behind the header, which a schema could be proposed from")
 
@@ -119,7 +122,7 @@ def measures_of(columns: "list[Column]") -> "list[Column]":
     measures = [column for column in columns if column.is_measure()]
     numbers = [column for column in columns if column.is_number and len(columns) > 1]
     if not measures and len(numbers) > 1:
-        numbers[-1].note = "; the last column of numbers: another may be the measure"
+        numbers[-1].note = "; taken as the measure, being the last column of numbers"
     return measures or numbers[-1:]
 
 
@@ -130,10 +133,15 @@ def delimiter_lines(columns: "list[Column]") -> "list[str]":
     return [f"# one column: try --delimiter {word}" for word in found[:1]]
 
 
-def proposal(names: Sequence[str], rows: "Iterable[list[str]]") -> "list[str]":
+def columns_of(table: Table) -> "list[Column]":
+    """The columns of a file, of which nothing is seen yet."""
+    return [Column(name, name in table.amounts | table.sums, name in table.dates) for name in table.names]
+
+
+def proposal(table: Table) -> "list[str]":
     """The lines of a schema for a file by itself."""
-    columns = [Column(name) for name in names]
-    see_rows(columns, rows)
+    columns = columns_of(table)
+    see_rows(columns, table.rows())
     measures = measures_of(columns)
     attributes = [column for column in columns if column not in measures]
     if not attributes:
@@ -142,6 +150,8 @@ def proposal(names: Sequence[str], rows: "Iterable[list[str]]") -> "list[str]":
     left = [column.name for column in attributes[MOST_ATTRIBUTES:] + measures[MOST_MEASURES:]]
     lines += [f"# left out, being too many: {', '.join(left)}"] if left else []
     own = [column.name for column in attributes[:MOST_ATTRIBUTES]]
+    if any(column.has_numbers() and not column.is_date for column in attributes[:MOST_ATTRIBUTES]):
+        lines.append("# to sum a number attribute: --sum NAME makes it a measure")
     views = [",".join(own[:MOST_OF_A_VIEW])] + (own if len(own) > 1 else [])
     return lines + [f"view {view}" for view in views] + ["view", "end"]
 
@@ -165,14 +175,14 @@ def questions_in(path: str) -> "list[tuple[str, Question]]":
 class Asked:
     """The columns of a file that some questions name, and its rows as far as they have to be known for the views."""
 
-    def __init__(self, names: Sequence[str], rows: "Iterable[list[str]]", asked: "list[tuple[str, Question]]") -> None:
-        self.asked, questions = asked, [question for _, question in asked]
+    def __init__(self, table: Table, asked: "list[tuple[str, Question]]") -> None:
+        self.asked, questions, names = asked, [question for _, question in asked], table.names
         self.grouped = named(names, [name for question in questions for name in question.attributes()], MOST_ATTRIBUTES)
         self.summed = named([*names, "one"], [name for question in questions for name in question.measures()], MOST_MEASURES)
         for name in filter(self.grouped.__contains__, self.summed):
             raise Fault(f"the questions sum {name}, and group by it or bind it too: a column is a measure or an attribute")
-        self.columns, self.sample = {name: Column(name) for name in names}, Sample(self.grouped)
-        see_rows(list(self.columns.values()), self.sampled(names, rows))
+        self.columns, self.sample = {column.name: column for column in columns_of(table)}, Sample(self.grouped)
+        see_rows(list(self.columns.values()), self.sampled(names, table.rows()))
         self.numbers = {name for name in self.grouped if self.columns[name].has_numbers()}
         for _, question in asked:
             self.expect_kinds(question)

@@ -12,6 +12,24 @@ from .schema import Schema
 from .words import counted
 
 LONGEST_NAME = 32
+AMOUNT = re.compile(r"(-?[0-9]{1,17})(?:[.,]([0-9]{1,2}))?", re.ASCII)
+DATE = re.compile(r"([0-9]{4})-([0-9]{2})(?:-([0-9]{2}))?", re.ASCII)
+
+
+def cents(text: str) -> str:
+    """An amount as a whole number of cents."""
+    found = AMOUNT.fullmatch(text)
+    if not found:
+        raise ValueError("no amount like 12.50")
+    return str(int(found[1] + (found[2] or "").ljust(2, "0")))
+
+
+def date_number(text: str) -> str:
+    """A day as 20250314, a month as 202503."""
+    found = DATE.fullmatch(text)
+    if not found:
+        raise ValueError("no date like 2025-03-14 or 2025-03")
+    return "".join(part for part in found.groups() if part)
 
 
 class Table:
@@ -27,9 +45,27 @@ class Table:
         csv.field_size_limit(1 << 26)
         self.reader = csv.reader(text, delimiter=delimiter, strict=True)
         self.row, self.lines = 0, 0
+        self.forms: "list[tuple[int, Callable[[str], str]]]" = []
+        self.amounts: "set[str]" = set()
+        self.dates: "set[str]" = set()
+        self.sums: "set[str]" = set()
         self.names = names_of(next(self.records(), []))
         if not self.names:
             raise Fault("there is no header line")
+
+    def convert(self, amounts: Sequence[str], dates: Sequence[str], sums: Sequence[str]) -> None:
+        """From now on rows have whole numbers in these columns: cents of amounts, and days or months of dates. The last ones are to be summed."""
+        self.amounts, self.dates, self.sums = ({self.named(name) for name in names} for names in (amounts, dates, sums))
+        if both := self.dates & (self.amounts | self.sums):
+            raise Fault(f"a column has dates, or is summed, and not both: {', '.join(sorted(both))}")
+        self.forms = [(self.names.index(name), cents) for name in sorted(self.amounts)] + [(self.names.index(name), date_number) for name in sorted(self.dates)]
+
+    def named(self, title: str) -> str:
+        """The name of a column, which may stand as in the header."""
+        name = names_of([title])[0]
+        if name not in self.names:
+            raise Fault(f"the header has no column for `{title}`; its columns are {', '.join(self.names)}")
+        return name
 
     def records(self) -> "Iterator[list[str]]":
         """The records behind those that were read; empty lines are none."""
@@ -46,6 +82,11 @@ class Table:
             if len(row) != width:
                 hint = ": try --delimiter ';'" if width == 1 and ";" in row[0] else ""
                 raise Fault(f"{self.place()} has {counted(len(row), 'field')}, and the header has {width}{hint}")
+            for place, form in self.forms:
+                try:
+                    row[place] = form(row[place])
+                except ValueError as error:
+                    raise Fault(f"{self.place()}: {self.names[place]} is {error}: {row[place][:60]!r}") from error
             yield row
 
     def go_on(self, row: int, lines: int) -> None:

@@ -113,7 +113,8 @@ class LoadCsv(Case):
         rows = [f"{i % 7:03},{i % 9},{i},{-(i % 2)},12.5" for i in range(1200)]
         self.put("file", "\n".join(["Zip code,Shop,Id,Sign,Price", *rows]))
         lines = load("--propose", "file")[0].splitlines()
-        self.assertIn("# price: 1 different value; as whole numbers it could be a measure: write 12.50 as 1250", lines)
+        self.assertIn("# price: 1 different value; --cents price makes it a measure", lines)
+        self.assertIn("# to sum a number attribute: --sum NAME makes it a measure", lines)
         self.assertIn("# zip_code: 7 different values", lines)
         lines = [line for line in lines if not line.startswith("#")]
         attributes = ["attr zip_code text", "attr shop number", "attr price text"]
@@ -126,10 +127,11 @@ class LoadCsv(Case):
         load("--into", "w", "file")
         self.assertEqual(self.rows("sum(one) by a"), [["x", "1"]])
         for content, line in [
-            ("k,n,m\nx,1,4\n", "# m: 1 different value, 4 to 4; the last column of numbers: another may be the measure"),
+            ("k,n,m\nx,1,4\n", "# m: 1 different value, 4 to 4; taken as the measure, being the last column of numbers"),
             ("k,n\nx,1\n", "# n: 1 different value, 1 to 1"),
-            ("k,n\n2025-03,1\n2025-04,1\n", "# k: 2 different values; write a month as 202503 to ask for ranges"),
+            ("k,n\n2025-03,1\n2025-04,1\n", "# k: 2 different values; --dates k makes it a number, for ranges"),
             ("k,n\n2025-03,1\nx,1\n", "# k: 2 different values"),
+            ("k,n\n1.125,1\n2,1\n", "# k: 2 different values; as whole numbers it could be a measure"),
             ("k,n\n099,1\n1250,1\n", "# k: 2 different values; as whole numbers without leading zeros it could be a measure"),
             ("k,n\n,1\n1250,1\n", "# k: 2 different values; as whole numbers it could be a measure: write 0 in empty fields"),
             (b"k,n\nB\xfcro,1\n", "# k: 1 different value; not in UTF-8: try iconv -f cp1252 -t utf-8"),
@@ -139,6 +141,43 @@ class LoadCsv(Case):
             self.assertIn(line, load("--propose", self.put("file", content))[0].splitlines())
         self.assertIn("the header has 1: try --delimiter ';'\n", load("--propose", self.put("file", "k;n\nx;1,5\n"), status=1)[1])
         self.assertIn("no rows behind the header", load("--propose", self.put("file", "a,b\n"), status=1)[1])
+
+    def test_amounts_and_dates(self):
+        """Amounts are read as cents and dates as numbers, by a proposal and by a load; what is neither is refused by its place."""
+        self.put("file", "Day,Month,Fee\n2025-03-14,2025-03,12.50\n2025-03-15,2025-03,-0.8\n2025-04-01,2025-04,12\n")
+        words = ["--cents", "Fee", "--dates", "Day,month"]
+        lines = [line for line in load(*words, "--propose", "file")[0].splitlines() if not line.startswith("#")]
+        self.assertEqual(lines, ["schema", "attr day number", "attr month number", "measure fee", "view day,month", "view day", "view month", "view", "end"])
+        load(*words, "--into", "w", "file")
+        self.assertEqual(self.rows("sum(fee),min(fee) by month where day=20250301..20250401"), [["202503", "1170", "-80"], ["202504", "1200", "1200"]])
+        days = "".join(f"{1000 + number}-01-01,{number}\n" for number in range(1001))
+        self.assertIn("attr day number", load("--dates", "day", "--propose", self.put("many", "day,n\n" + days))[0].splitlines())
+        for form, text, why in [
+            ("--cents", "12.505", "no amount like 12.50"),
+            ("--cents", "1,234.50", "no amount like 12.50"),
+            ("--cents", "", "no amount like 12.50"),
+            ("--dates", "14.3.2025", "no date like 2025-03-14 or 2025-03"),
+            ("--dates", "2025", "no date like 2025-03-14 or 2025-03"),
+        ]:
+            said = load(form, "k", "--delimiter", ";", "--propose", self.put("odd", f'k;n\n"{text}";1\n'), status=1)[1]
+            self.assertIn(f"odd: row 1 (line 2): k is {why}: {text!r}", said)
+        self.put("more", "day,month,fee\n2025-04-02,2025-04,1\n2025-04-02,2025-04,1e3\n")
+        self.assertIn("row 2 (line 3): fee is no amount like 12.50: '1e3'; the folder keeps 3 facts", load(*words, "--into", "w", "--from-row", "1", "more", status=1)[1])
+        self.assertEqual(self.rows("count"), [["3"]])
+        self.assertIn("no column for `Free`; its columns are day, month, fee", load("--cents", "Free", "--propose", "file", status=1)[1])
+        self.assertIn("a column has dates, or is summed, and not both: fee", load("--cents", "fee", "--dates", "fee", "--propose", "file", status=1)[1])
+        self.put("german", "k;fee\nx;12,50\n")
+        self.assertIn("# fee: 1 different value, 1250 to 1250", load("--cents", "fee", "--delimiter", ";", "--propose", "german")[0].splitlines())
+
+    def test_summed_columns(self):
+        """A column of few numbers is a measure where that is wanted, also beside others."""
+        self.put("file", "kind,pieces,year,weight\nx,3,1999,7\ny,4,1999,8\n")
+        lines = [line for line in load("--sum", "Pieces,weight", "--propose", "file")[0].splitlines() if not line.startswith("#")]
+        self.assertEqual(lines, ["schema", "attr kind text", "attr year number", "measure pieces", "measure weight", "view kind,year", "view kind", "view year", "view", "end"])
+        load("--sum", "pieces", "--into", "w", "file")
+        self.assertEqual(self.rows("sum(pieces),min(pieces)"), [["7", "3"]])
+        self.assertIn("kind cannot be summed: not all of its values are whole numbers", load("--sum", "kind", "--propose", "file", status=1)[1])
+        load("--sum", "pieces", "--schema", "schema", "file", status=2)
 
     def test_great_numbers(self):
         """A column of numbers up to 2^63 - 1 may be an attribute, and one with a greater number is a measure."""
