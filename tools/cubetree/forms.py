@@ -1,9 +1,27 @@
 """What an answer looks like: an aligned table, csv, or JSON."""
 import json
-from typing import Callable, Dict, List
+import re
+from typing import Callable, Collection, Dict, List
 
-from .rows import Answer, line_writer
+from .rows import Answer, Value, line_writer
 from .words import counted, shown
+
+
+OF_MEASURE = re.compile(r" *(?:sum|min|max) *\( *([a-z0-9_]+) *\) *", re.IGNORECASE)
+
+
+def amount(cents: Value) -> str:
+    """Cents as an amount, as 12.50."""
+    units, rest = divmod(abs(int(cents)), 100)
+    return f"{'-' if int(cents) < 0 else ''}{units}.{rest:02}"
+
+
+def with_amounts(answer: Answer, measures: Collection[str]) -> Answer:
+    """The same answer, but for what is of these measures, which have cents: that stands as amounts."""
+    found = [OF_MEASURE.fullmatch(column) for column in answer.columns]
+    places = [place for place, each in enumerate(found) if each and each[1] in measures]
+    answer[:] = [tuple(amount(cell) if place in places else cell for place, cell in enumerate(row)) for row in answer]
+    return answer
 
 
 def table(answer: Answer) -> "list[str]":

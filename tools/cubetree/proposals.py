@@ -135,7 +135,10 @@ def delimiter_lines(columns: "list[Column]") -> "list[str]":
 
 def columns_of(table: Table) -> "list[Column]":
     """The columns of a file, of which nothing is seen yet."""
-    return [Column(name, name in table.amounts | table.sums, name in table.dates) for name in table.names]
+    columns = [Column(name, name in table.amounts | table.sums, name in table.dates) for name in table.names]
+    for column in columns:
+        column.note = ", in cents" if column.name in table.amounts else ""
+    return columns
 
 
 def proposal(table: Table) -> "list[str]":

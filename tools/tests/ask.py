@@ -21,6 +21,14 @@ class Ask(Case):
         self.assertIn('\na, "b"\\nc  ', ask("--in", "w", "count by part")[0])
         self.assertEqual(ask("count by year where part=none", cwd="w")[0], "year  count\n----  -----\n(0 rows)\n")
 
+    def test_amounts(self):
+        """What is of a measure of cents stands as amounts in each form; counts, attributes and other measures stay."""
+        table = "part  sum(qty)  count\n----  --------  -----\nbolt      0.05      1\nnut      -0.02      1\n(2 rows)\n"
+        self.assertEqual(ask("--in", "w", "--cents", "qty", "sum(qty),count by part where year=1997")[0], table)
+        self.assertEqual(ask("--in", "w", "--csv", "--cents", "Qty", "min(qty) where year=1999")[0], "min(qty)\n1234567890123456789012345678.90\n")
+        self.assertEqual(ask("--in", "w", "--json", "--cents", "qty", "select max(qty), count(*) from facts")[0], '{"max(qty)": "1234567890123456789012345678.90", "count(*)": 4}\n')
+        self.assertIn("--cents: no measure has the name part; there are qty", ask("--in", "w", "--cents", "part", "count", status=1)[1])
+
     def test_csv_and_json(self):
         wanted = 'part,year,max(qty)\n"a, ""b""\nc",1999,123456789012345678901234567890\nbolt,1997,5\nbolt,1998,4\nnut,1997,-2\n'
         self.assertEqual(ask("--in", "w", "--csv", "max(qty) by part,year")[0], wanted)

@@ -167,7 +167,7 @@ class LoadCsv(Case):
         self.assertIn("no column for `Free`; its columns are day, month, fee", load("--cents", "Free", "--propose", "file", status=1)[1])
         self.assertIn("a column has dates, or is summed, and not both: fee", load("--cents", "fee", "--dates", "fee", "--propose", "file", status=1)[1])
         self.put("german", "k;fee\nx;12,50\n")
-        self.assertIn("# fee: 1 different value, 1250 to 1250", load("--cents", "fee", "--delimiter", ";", "--propose", "german")[0].splitlines())
+        self.assertIn("# fee: 1 different value, 1250 to 1250, in cents", load("--cents", "fee", "--delimiter", ";", "--propose", "german")[0].splitlines())
 
     def test_summed_columns(self):
         """A column of few numbers is a measure where that is wanted, also beside others."""
