@@ -122,7 +122,7 @@ def measures_of(columns: "list[Column]") -> "list[Column]":
     measures = [column for column in columns if column.is_measure()]
     numbers = [column for column in columns if column.is_number and len(columns) > 1]
     if not measures and len(numbers) > 1:
-        numbers[-1].note = "; taken as the measure, being the last column of numbers"
+        numbers[-1].note = "; the last column of numbers, so taken as the measure"
     return measures or numbers[-1:]
 
 

@@ -127,7 +127,7 @@ class LoadCsv(Case):
         load("--into", "w", "file")
         self.assertEqual(self.rows("sum(one) by a"), [["x", "1"]])
         for content, line in [
-            ("k,n,m\nx,1,4\n", "# m: 1 different value, 4 to 4; taken as the measure, being the last column of numbers"),
+            ("k,n,m\nx,1,4\n", "# m: 1 different value, 4 to 4; the last column of numbers, so taken as the measure"),
             ("k,n\nx,1\n", "# n: 1 different value, 1 to 1"),
             ("k,n\n2025-03,1\n2025-04,1\n", "# k: 2 different values; --dates k makes it a number, for ranges"),
             ("k,n\n2025-03,1\nx,1\n", "# k: 2 different values"),
