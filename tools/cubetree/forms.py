@@ -3,24 +3,21 @@ import json
 import re
 from typing import Callable, Collection, Dict, List
 
-from .rows import Answer, Value, line_writer
+from .amounts import amount
+from .rows import Answer, line_writer
 from .words import counted, shown
 
 
 OF_MEASURE = re.compile(r" *(?:sum|min|max) *\( *([a-z0-9_]+) *\) *", re.IGNORECASE)
 
 
-def amount(cents: Value) -> str:
-    """Cents as an amount, as 12.50."""
-    units, rest = divmod(abs(int(cents)), 100)
-    return f"{'-' if int(cents) < 0 else ''}{units}.{rest:02}"
-
-
 def with_amounts(answer: Answer, measures: Collection[str]) -> Answer:
     """The same answer, but for what is of these measures, which have cents: that stands as amounts."""
+    if not measures:
+        return answer
     found = [OF_MEASURE.fullmatch(column) for column in answer.columns]
     places = [place for place, each in enumerate(found) if each and each[1] in measures]
-    answer[:] = [tuple(amount(cell) if place in places else cell for place, cell in enumerate(row)) for row in answer]
+    answer[:] = [tuple(amount(int(cell)) if place in places else cell for place, cell in enumerate(row)) for row in answer]
     return answer
 
 

@@ -3,12 +3,13 @@ import math
 import re
 from typing import Callable, Iterable, Iterator, Optional, Sequence
 
+from .amounts import AMOUNT, DATE
 from .errors import Fault
 from .forest import NARROW, PAGE, WIDE, leaf_room
 from .questions import Question, question_of
 from .replicas import MOST_OF_A_VIEW, smallest_views
 from .sample import Sample
-from .tables import AMOUNT, DATE, Table
+from .tables import Table
 from .views import Needs, View, needs_of, picked
 from .words import counted, shown
 

@@ -7,29 +7,12 @@ import unicodedata
 from operator import itemgetter
 from typing import Callable, Iterator, Optional, Sequence
 
+from .amounts import cents, date_number
 from .errors import Fault
 from .schema import Schema
 from .words import counted
 
 LONGEST_NAME = 32
-AMOUNT = re.compile(r"(-?[0-9]{1,17})(?:[.,]([0-9]{1,2}))?", re.ASCII)
-DATE = re.compile(r"([0-9]{4})-([0-9]{2})(?:-([0-9]{2}))?", re.ASCII)
-
-
-def cents(text: str) -> str:
-    """An amount as a whole number of cents."""
-    found = AMOUNT.fullmatch(text)
-    if not found:
-        raise ValueError("no amount like 12.50")
-    return str(int(found[1] + (found[2] or "").ljust(2, "0")))
-
-
-def date_number(text: str) -> str:
-    """A day as 20250314, a month as 202503."""
-    found = DATE.fullmatch(text)
-    if not found:
-        raise ValueError("no date like 2025-03-14 or 2025-03")
-    return "".join(part for part in found.groups() if part)
 
 
 class Table:
