@@ -7,25 +7,35 @@
         answer = warehouse.slice("sum(qty),count by part where year=1997")
         print(answer.columns, list(answer))
 
-A row has a str or an int for each attribute and measure of the schema, in order of declaration. An answer is a list of tuples of str and int, with the
-names of its columns: pandas.DataFrame(answer, columns=answer.columns) makes a table of it. Texts may be any bytes: those that are no UTF-8 are
-surrogates, as in names of files (os.fsencode gives the bytes).
+A row has a str or an int for each attribute and measure of the schema, in order of declaration. An
+answer is a list of tuples of str and int, with the names of its columns: a table of pandas is
+pandas.DataFrame(answer, columns=answer.columns). Texts may be any bytes: those that are not UTF-8
+are surrogates, as in names of files (os.fsencode gives the bytes).
 
-A query in SQL gives the same rows: warehouse.sql("SELECT part, SUM(qty) FROM facts GROUP BY part"), or cubetree.connect("folder"), which is the interface
-of databases to Python (PEP 249).
+If a csv file with amounts or dates was loaded, the folder keeps what its columns are. Then answers
+have a Decimal for an amount, a date for a day and a text such as "2025-03" for a month, rows may
+have them too, and slices name days, months and years: "sum(fee) by day where day=2025-03". With
+cubetree.open("folder", raw=True) there are whole numbers alone.
 
-A level gives values of an attribute a parent each, as long as the warehouse is open. After warehouse.level("kind", "part", {"bolt": "steel"}) you may ask
-warehouse.rollup("count by kind").
+A query in SQL gives the same rows: warehouse.sql("SELECT part, SUM(qty) FROM facts GROUP BY part"),
+or cubetree.connect("folder"), which is the interface of databases to Python (PEP 249).
 
-What goes wrong is a Fault. Refused has the reply of the program and the place that it names. Busy says that another run is in the way of one that is not
-to wait. Ended has the status of a program that ended early, and Damaged the file and the offset as well.
+A level gives values of an attribute a parent each, as long as the warehouse is open. After
+warehouse.level("kind", "part", {"bolt": "steel"}) you may ask warehouse.rollup("count by kind").
+
+What goes wrong is a Fault. Refused has the reply of the program and the place that it names. Changed
+says that a numbered batch was loaded with other rows before. Busy says that another run is in the
+way of one that is not to wait. Ended has the status of a program that ended early, and Damaged the
+file and the offset as well.
 """
 from .audits import Audit
 from .dbapi import (
-    NUMBER, STRING, Connection, Cursor, DatabaseError, DataError, Error, IntegrityError, InterfaceError, InternalError, NotSupportedError, OperationalError,
-    ProgrammingError, Warning, apilevel, connect, paramstyle, threadsafety,
+    BINARY, DATETIME, NUMBER, ROWID, STRING, Binary, Connection, Cursor, DatabaseError, DataError,
+    Date, DateFromTicks, Error, IntegrityError, InterfaceError, InternalError, NotSupportedError,
+    OperationalError, ProgrammingError, Time, TimeFromTicks, Timestamp, TimestampFromTicks,
+    Warning, apilevel, connect, paramstyle, threadsafety,
 )
-from .errors import Busy, Damaged, Ended, Fault, Refused
+from .errors import Busy, Changed, Damaged, Ended, Fault, Refused
 from .pages import Visits
 from .rows import Answer
 from .schema import Schema
@@ -33,7 +43,11 @@ from .views import Choice
 from .warehouse import Status, Warehouse, open
 
 __all__ = [
-    "Answer", "Audit", "Busy", "Choice", "Damaged", "Ended", "Fault", "Refused", "Schema", "Status", "Visits", "Warehouse", "open",
-    "NUMBER", "STRING", "Connection", "Cursor", "DatabaseError", "DataError", "Error", "IntegrityError", "InterfaceError", "InternalError",
-    "NotSupportedError", "OperationalError", "ProgrammingError", "Warning", "apilevel", "connect", "paramstyle", "threadsafety",
+    "Answer", "Audit", "Busy", "Changed", "Choice", "Damaged", "Ended", "Fault", "Refused", "Schema",
+    "Status", "Visits", "Warehouse", "open",
+    "BINARY", "DATETIME", "NUMBER", "ROWID", "STRING", "Binary", "Connection", "Cursor",
+    "DatabaseError", "DataError", "Date", "DateFromTicks", "Error", "IntegrityError",
+    "InterfaceError", "InternalError", "NotSupportedError", "OperationalError", "ProgrammingError",
+    "Time", "TimeFromTicks", "Timestamp", "TimestampFromTicks", "Warning", "apilevel", "connect",
+    "paramstyle", "threadsafety",
 ]

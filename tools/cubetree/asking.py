@@ -4,13 +4,14 @@ import re
 import select
 import stat
 import sys
-from typing import Callable, Iterator, List, Optional
+from typing import Callable, Dict, Iterator, List, Optional
 
 from .errors import Fault, Refused, Stopped
 from .queries import is_query
 from .questions import question_of, ranges_of_texts
 from .replicas import MOST_OF_A_VIEW
 from .schema import Schema
+from .values import Kind
 from .words import shown
 
 MEANINGS = {
@@ -46,8 +47,16 @@ ODD_NUMBER = re.compile(r"\"|[^ ]*[^ 0-9.]")
 class Asked:
     """What is asked: it answers a question by lines, and has a schema, and levels that stand beside its attributes."""
 
-    def __init__(self, answered: "Callable[[str], List[str]]", schema: "Callable[[], Optional[Schema]]", levels: "Callable[[], List[str]]", pause: "Callable[[], None]") -> None:
+    def __init__(
+        self,
+        answered: "Callable[[str], List[str]]",
+        schema: "Callable[[], Optional[Schema]]",
+        levels: "Callable[[], List[str]]",
+        pause: "Callable[[], None]",
+        kinds: "Callable[[], Dict[str, Kind]]" = dict,
+    ) -> None:
         self.answered, self.schema, self.levels, self.pause = answered, schema, levels, pause
+        self.kinds = kinds
 
 
 def refusal(tool: str, asked: Asked, text: str, refused: Refused) -> str:
@@ -62,7 +71,7 @@ def refusal(tool: str, asked: Asked, text: str, refused: Refused) -> str:
     front, rest = (part.decode("utf-8", "surrogateescape") for part in (line[: refused.byte - 1], line[refused.byte - 1 :]))
     value, word = VALUE.search(front), refused.reply.split()[1]
     if value and schema and value["name"] in schema.numbers and word in ("syntax", "value"):
-        said = f"{refused.reply}: {value['name']} is a number: 202503, or 202503..202506" if ODD_NUMBER.match(rest) else said
+        said = value_hint(refused, value["name"], asked.kinds()) if ODD_NUMBER.match(rest) else said
     elif word == "syntax" and not is_query(text):
         said += syntax_hint(front, rest)
     elif refused.reply.startswith("refused sql name") and re.split(r"\W", rest)[0] in levels:
@@ -70,6 +79,18 @@ def refusal(tool: str, asked: Asked, text: str, refused: Refused) -> str:
     elif schema and word in ("measure", "attribute"):
         said += other_kind(schema, re.split(r"\W", rest)[0]) or ("; a level needs --level NAME ATTR FILE" if word == "attribute" and tool == "ask" and not levels else "")
     return "\n".join([said, f"  {shown(text)}", f"  {' ' * len(shown(front))}^"])
+
+
+def value_hint(refused: Refused, name: str, kinds: "Dict[str, Kind]") -> str:
+    """What a condition on a number may have."""
+    kind = kinds.get(name)
+    if kind and kind.name == "day":
+        forms = "has days: 2025-03-14, 2025-03, or 2025-03-14..2025-04-13"
+    elif kind and kind.name == "month":
+        forms = "has months: 2025-03, 2025, or 2025-03..2025-06"
+    else:
+        forms = "is a number: 202503, or 202503..202506"
+    return f"{refused.reply}: {name} {forms}"
 
 
 def other_kind(schema: Schema, name: str) -> str:

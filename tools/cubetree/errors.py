@@ -25,7 +25,9 @@ class Busy(Stopped):
 class Refused(Fault):
     """What was refused, by its reply in the words of the program, and the place that it names, which counts from 1.
 
-    One reply is of this package and not of the program: `refused row R end`, where a text has a line that is `end`, which would end the block.
+    Two replies are of this package and not of the program: `refused row R end`, for a text with a
+    line that is `end`, which would end the block, and `refused sql syntax B` for a query that is
+    not one statement with its parameters.
     """
 
     def __init__(self, reply: str, meaning: str = "") -> None:
@@ -40,6 +42,11 @@ class Refused(Fault):
         self.byte: Optional[int] = numbers.get("byte")
         self.due: Optional[int] = numbers.get("due")
         self.name: Optional[str] = named.get("name")
+
+
+class Changed(Stopped):
+    """The rows of a numbered batch, or the first rows of a file, are not those that the folder took
+    before, or it is not known which ones it took."""
 
 
 class Ended(Stopped):

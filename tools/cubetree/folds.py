@@ -1,7 +1,16 @@
 """Replies of parts to a slice, folded by the program `cubefold` to the reply of the whole.
 
-Long replies are cut at the same keys, and what lies between two of these is folded by a run of its own, beside the others: the rows with keys in a range are
-the reply over the facts with keys in that range, and the rows of one range stand before those of the next.
+Long replies are cut at the same keys, and what lies between two of these is folded by a run of its
+own, beside the others: the rows with keys in a range are the reply over the facts with keys in that
+range, and the rows of one range stand before those of the next.
+
+A reply is cut only if its last line has the number of its rows. `cubefold` would not see that rows
+are missing otherwise, since each range gets a last line of its own.
+
+If a reply is out of order, a cut may put rows into the wrong range. The folded ranges show it: the
+keys of each are in order, since `cubefold` sorts them, but a range does not begin after the end of
+the one before. Then one run folds all replies, whatever their order. So no row needs to be compared
+before the cut. It is tested, and not proved, that Python compares keys as `cubefold` does.
 """
 import csv
 import io
@@ -41,16 +50,22 @@ def reply_of(printed: bytes) -> Reply:
 def folded(lines: Sequence[str], text: str, replies: Sequence[bytes]) -> Reply:
     """The reply over all parts to the slice of this text, by the schema of these lines. What `cubefold` refuses ends it."""
     front = b"".join([*(line.encode() + b"\n" for line in lines), b"end\n", sent(text), b"\n"])
-    ranges = ranges_of(Schema(lines), text, [reply_of(each) for each in replies])
+    schema = Schema(lines)
+    try:
+        ranges = ranges_of(schema, text, [reply_of(each) for each in replies])
+    except ValueError:  # A row has no such key, which `cubefold` refuses.
+        ranges = []
     if len(ranges) < 2:
         return one_fold(front, replies)
     with ThreadPoolExecutor(len(ranges)) as pool:
         made = list(pool.map(lambda each: one_fold(front, each), ranges))
+    if not Keys(schema, text).ascend([each.rows for each in made]):
+        return one_fold(front, replies)
     return Reply(b"".join(each.rows for each in made), f"rows {sum(int(each.last.split()[1]) for each in made)}")
 
 
 def one_fold(front: bytes, replies: Sequence[bytes]) -> Reply:
-    """The same by one run of the program."""
+    """Folds replies by one run of the program, which gets the schema and the slice first."""
     run = subprocess.run([program("cubefold")], input=b"".join([front, *replies]), stdout=subprocess.PIPE, stderr=subprocess.PIPE)
     if run.returncode:
         raise Ended(run.returncode, run.stderr.decode("utf-8", "replace").strip())
@@ -85,11 +100,23 @@ class Keys:
                 high = begins
         return low
 
+    def ascend(self, ranges: Sequence[bytes]) -> bool:
+        """Whether each range with rows begins with a greater key than the ones before it have."""
+        first_keys = [self.at(rows, 0) for rows in ranges if rows]
+        last_keys = [self.at(rows, rows.rfind(b"\n", 0, -1) + 1) for rows in ranges if rows]
+        return all(last < first for last, first in zip(last_keys, first_keys[1:]))
+
+
+def is_whole(reply: Reply) -> bool:
+    """Whether the last line has the number of the rows, in which no field is quoted."""
+    count = reply.rows.count(b"\n")
+    return b'"' not in reply.rows and reply.last == f"rows {count}"
+
 
 def ranges_of(schema: Schema, text: str, replies: Sequence[Reply]) -> "list[list[bytes]]":
-    """The replies for each range of keys, where they are so long that more than one run is worth its start."""
+    """The replies for each range of keys, if they are whole, and long enough for several runs."""
     count = min(os.cpu_count() or 1, sum(len(reply.rows) for reply in replies) // LONG)
-    if count < 2 or any(not reply.last.startswith("rows ") or b'"' in reply.rows for reply in replies):
+    if count < 2 or not all(map(is_whole, replies)):
         return []
     keys, longest = Keys(schema, text), max((reply.rows for reply in replies), key=len)
     bounds = sorted({keys.at(longest, longest.rfind(b"\n", 0, len(longest) * number // count) + 1) for number in range(1, count)})

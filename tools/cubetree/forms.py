@@ -1,44 +1,47 @@
 """What an answer looks like: an aligned table, csv, or JSON."""
 import json
-import re
-from typing import Callable, Collection, Dict, List
+from decimal import Decimal
+from typing import Callable, Dict, List
 
-from .amounts import amount
 from .rows import Answer, line_writer
+from .sorting import Top
+from .values import Value
 from .words import counted, shown
 
 
-OF_MEASURE = re.compile(r" *(?:sum|min|max) *\( *([a-z0-9_]+) *\) *", re.IGNORECASE)
-
-
-def with_amounts(answer: Answer, measures: Collection[str]) -> Answer:
-    """The same answer, but for what is of these measures, which have cents: that stands as amounts."""
-    if not measures:
-        return answer
-    found = [OF_MEASURE.fullmatch(column) for column in answer.columns]
-    places = [place for place, each in enumerate(found) if each and each[1] in measures]
-    answer[:] = [tuple(amount(int(cell)) if place in places else cell for place, cell in enumerate(row)) for row in answer]
-    return answer
+def cell_of(value: Value) -> str:
+    """A value as it is shown; an amount has all its decimals."""
+    return format(value, "f") if isinstance(value, Decimal) else str(value)
 
 
 def table(answer: Answer) -> "list[str]":
-    """Texts stand to the left and numbers to the right."""
-    cells = [list(answer.columns)] + [[shown(str(cell)) for cell in row] for row in answer]
+    """Texts stand to the left and numbers to the right, and the last line counts the rows."""
+    cells = [list(answer.columns)] + [[shown(cell_of(cell)) for cell in row] for row in answer]
     widths = [max(map(len, column)) for column in zip(*cells)]
-    lines = [[cell.rjust(w) if right else cell.ljust(w) for cell, w, right in zip(row, widths, answer.numeric)] for row in cells]
+    lines = [
+        [cell.rjust(width) if right else cell.ljust(width) for cell, width, right in zip(row, widths, answer.numeric)]
+        for row in cells
+    ]
     lines.insert(1, ["-" * width for width in widths])
-    return [*("  ".join(line).rstrip() for line in lines), f"({counted(len(answer), 'row')})"]
+    count = counted(len(answer), "row")
+    if isinstance(answer, Top):
+        count = f"{len(answer):,} of {counted(answer.whole, 'row')}"
+    return [*("  ".join(line).rstrip() for line in lines), f"({count})"]
 
 
 def csv_lines(answer: Answer) -> "list[str]":
-    """The rows as csv, behind a header line."""
+    """The rows as csv, after a header line."""
     written = line_writer()
-    return [written(row)[:-2] for row in [answer.columns, *answer]]
+    rows = (map(cell_of, row) for row in answer)
+    return [written(row)[:-2] for row in [answer.columns, *rows]]
 
 
 def json_lines(answer: Answer) -> "list[str]":
-    """An object for each row."""
-    return [json.dumps(dict(zip(answer.columns, row)), ensure_ascii=False) for row in answer]
+    """An object for each row, in which amounts and dates are texts."""
+    objects = (dict(zip(answer.columns, row)) for row in answer)
+    return [json.dumps(each, ensure_ascii=False, default=cell_of) for each in objects]
 
 
-FORMS: Dict[str, Callable[[Answer], List[str]]] = {"table": table, "csv": csv_lines, "json": json_lines}
+FORMS: Dict[str, Callable[[Answer], List[str]]] = {
+    "table": table, "csv": csv_lines, "json": json_lines
+}

@@ -30,7 +30,7 @@ class Load:
     def submit(self, batch: Cut) -> None:
         """Makes a task of a batch."""
         shard = self.engine.shards[batch.shard]
-        future = self.engine.submit(shard, parts.take_in, self.engine.waits, batch.number, batch.rows)
+        future = self.engine.submit(shard, parts.take_in, self.engine.waits, batch.number, batch.rows, len(batch.places))
         self.under_way[batch.shard][future] = batch
 
     def finish(self) -> None:

@@ -1,29 +1,31 @@
 """What is done for one shard, beside its folder: these functions run as tasks of the engine, on the worker of the shard.
 
-A folder that is a shard has a file `.shard`, which is no part of the warehouse. Its first line tells which shard it is and of how many, and each line
-behind it the number of a batch and a sum of its bytes. A line is synced before its batch is sent. So a batch that is sent again under a number that
-counts already is known to be the same one: of a file that has changed, or was cut otherwise, rows would be lost without a word.
+A folder that is a shard has a file `.shard`, which is no part of the warehouse. Its first line says
+which shard it is and of how many. A line `loading SOURCE` stands there when a load of a file begins,
+and `loaded` when it has ended. Which rows a batch had stands in the record of `batches`; shards of
+older tools have it in lines of `.shard`, the number of a batch and the sum of its bytes.
 
 A task hands back what it has found, or a Trouble; it raises nothing, since an exception has to be made again elsewhere.
 """
 import functools
-import hashlib
+import json
 import os
 import re
 from typing import Callable, List, NamedTuple, Optional, TypeVar, Union
 
+from .batches import SHARD, Noted, Record, sum_of, sync_folder
 from .errors import Busy, Damaged, Ended, Fault, Refused, told
 from .folds import reply_of
 from .questions import sent
 from .rows import MARK
 from .schema import Schema, declared_lines, kept_lines
-from .sessions import Asking, Loading
+from .sessions import GREATEST, Asking, Loading
 from .turns import Reader, Writer
 
 TOOL, BESIDE = "shards", ".shard"
-GREATEST = (1 << 64) - 1
 PLACE = re.compile(rb"shard (\d+) of (\d+)\n")
 TAKEN = re.compile(rb"^(\d+) ([0-9a-f]{32})$", re.M)
+MARKS = re.compile(rb"^(?:loading (.*)|loaded)$", re.M)
 UNKNOWN, DAMAGED, ENDED, BUSY, SCHEMA, CHANGED, REFUSED, FAILED = "unknown", "damaged", "ended", "busy", "schema", "changed", "refused", "failed"
 
 
@@ -35,13 +37,15 @@ class Trouble(NamedTuple):
 
 
 class State(NamedTuple):
-    """What a shard keeps: which one it is and of how many, the lines of its schema, its facts, and the number of the batch that is due."""
+    """What a shard keeps: which one it is and of how many, the lines of its schema, its facts, the
+    number of the batch that is due, and the source of a load that has begun and not ended."""
 
     place: int
     of: int
     lines: List[str]
     facts: int
     due: int
+    loading: str = ""
 
 
 class Taken(NamedTuple):
@@ -109,28 +113,24 @@ def note(folder: str, line: bytes) -> None:
         sync_folder(folder)
 
 
-def sync_folder(folder: str) -> None:
-    """Syncs a folder in which a file was made."""
-    descriptor = os.open(folder, os.O_RDONLY)
-    try:
-        os.fsync(descriptor)
-    finally:
-        os.close(descriptor)
-
-
-def taken_sum(folder: str, number: int) -> Optional[bytes]:
-    """The sum of the batch of this number, as it was sent last; None where none was."""
+def taken_sum(folder: str, record: Record, number: int) -> Optional[str]:
+    """The sum of a batch that counts, as it was sent last; None if it is not known."""
+    noted = record.of(number)
+    if noted:
+        return noted.sum
     with open(beside(folder), "rb") as file:
-        sums = {int(line[1]): line[2] for line in TAKEN.finditer(file.read())}
+        sums = {int(line[1]): line[2].decode() for line in TAKEN.finditer(file.read())}
     return sums.get(number)
 
 
+def loading_of(folder: str) -> str:
+    """The source of the load that has begun and not ended; no text if there is none."""
+    with open(beside(folder), "rb") as file:
+        marks = MARKS.findall(file.read())
+    return str(json.loads(marks[-1])) if marks and marks[-1] else ""
+
+
 # ---- tasks
-
-
-def due_of(loading: Loading) -> int:
-    """The number of the batch that is due."""
-    return Refused(loading.exchange(b"load %d\nend\n" % GREATEST)).due or GREATEST
 
 
 def trouble_of(folder: str, place: int, count: int) -> Optional[Trouble]:
@@ -164,7 +164,7 @@ def begin(folder: str, place: int, count: int, lines: "list[str]", waits: bool) 
             return Trouble(UNKNOWN, "the folder has facts that no shard has loaded")
         if found is None:
             note(folder, b"shard %d of %d\n" % (place, count))
-        return State(place, count, kept_lines(folder), int(loading.run.ask(b"status\n").split()[1]), due_of(loading))
+        return State(place, count, kept_lines(folder), int(loading.run.ask(b"status\n").split()[1]), loading.due())
     finally:
         loading.drop()
 
@@ -180,27 +180,41 @@ def look(folder: str, place: int, count: int, waits: bool) -> "Union[Trouble, St
         if asking.schema is None:
             return Trouble(UNKNOWN, "no schema is declared in the folder: `shards init` does it")
         due = Refused(asking.ask(b"load %d\nend\n" % GREATEST)).due or GREATEST
-        return State(place, count, kept_lines(folder), int(asking.status.split()[1]), due)
+        facts = int(asking.status.split()[1])
+        return State(place, count, kept_lines(folder), facts, due, loading_of(folder))
     finally:
         asking.end()
 
 
 @telling
-def take_in(folder: str, place: int, count: int, waits: bool, number: int, rows: bytes) -> "Union[Trouble, Taken]":
-    """Loads the batch of this number, unless it counts already."""
+def mark(folder: str, place: int, count: int, source: Optional[str]) -> "Union[Trouble, bool]":
+    """Notes that a load of a source begins, or that it has ended if no source is named."""
+    trouble = trouble_of(folder, place, count)
+    if trouble:
+        return trouble
+    text = b"loaded" if source is None else b"loading " + json.dumps(source).encode()
+    note(folder, text + b"\n")
+    return True
+
+
+@telling
+def take_in(
+    folder: str, place: int, count: int, waits: bool, number: int, rows: bytes, amount: int
+) -> "Union[Trouble, Taken]":
+    """Loads the batch of this number, which has an amount of rows, unless it counts already."""
     trouble = trouble_of(folder, place, count)
     if trouble:
         return trouble
     loading = Loading(Writer(TOOL, folder, waits))
     try:
-        facts, due = int(loading.status.split()[1]), due_of(loading)
-        of_rows = hashlib.blake2b(rows, digest_size=16).hexdigest().encode()
+        facts, due = int(loading.status.split()[1]), loading.due()
         if number > due:
             return Taken(False, True, facts)
+        record, found = Record(folder, due, facts), sum_of([rows])
         if number < due:
-            is_same = taken_sum(folder, number) == of_rows
+            is_same = taken_sum(folder, record, number) == found
             return Taken(True, False, facts) if is_same else Trouble(CHANGED, f"batch {number} was loaded with other rows")
-        note(folder, b"%d %s\n" % (number, of_rows))
+        record.note(Noted(number, facts, amount, found, 0, SHARD))
         # A byte order mark at the front of a block would be dropped, but for an empty line before it, which is no row.
         reply = loading.exchange(b"load %d\n%s%send\n" % (number, b"\n" if rows.startswith(MARK) else b"", rows))
         if not reply.startswith("committed "):

@@ -60,7 +60,8 @@ class Pieces:
         if self.delimiter == "," and not is_odd(header) and names_of(names) == schema.columns() and len(names) > 1:
             yield from self.plain_rows(behind, schema, names)
         else:
-            yield from self.csv_rows(Table(self.path, self.delimiter, self.buffered(self.front)), schema)
+            table = Table(self.path, self.delimiter, file=self.buffered(self.front))
+            yield from self.csv_rows(table, schema)
 
     def buffered(self, front: bytes) -> io.BufferedReader:
         """The rest of the file, behind these bytes."""
@@ -71,7 +72,8 @@ class Pieces:
         piece, row, before = front or self.read(), 0, 0
         while piece:
             if is_odd(piece):
-                table = Table(self.path, ",", self.buffered(",".join(names).encode() + b"\n" + piece))
+                whole = ",".join(names).encode() + b"\n" + piece
+                table = Table(self.path, ",", file=self.buffered(whole))
                 table.go_on(row, before)
                 yield from self.csv_rows(table, schema)
                 return

@@ -2,14 +2,19 @@
 import csv
 import operator
 import re
-from typing import Callable, Iterable, Iterator, List, Sequence, SupportsIndex, Tuple, Union
+from datetime import date
+from decimal import Decimal
+from typing import (
+    Callable, Iterable, Iterator, List, Mapping, Optional, Sequence, SupportsIndex, Tuple, Union,
+)
 
 from .errors import Fault, Refused
 from .questions import Question
 from .schema import Schema
+from .values import Kind, Value
 
-Value = Union[str, int]
-GivenRow = Sequence[Union[str, SupportsIndex]]
+GivenRow = Sequence[Union[str, SupportsIndex, Decimal, float, date]]
+OF_MEASURE = re.compile(r" *(?:sum|min|max) *\( *([a-z0-9_]+) *\) *", re.IGNORECASE)
 MOST_ROWS, MOST_BYTES = 262_144, (1 << 26) - 64  # of a block
 MARK = "\ufeff".encode()
 END = re.compile(rb"^end\r?$", re.MULTILINE)
@@ -29,14 +34,28 @@ def line_writer() -> Callable[[Iterable[object]], str]:
     return written
 
 
-def encoded(rows: Iterable[GivenRow]) -> Iterator[bytes]:
-    """The bytes of each row, with its line feed; what is neither a str nor an int is a TypeError."""
+def encoded(rows: Iterable[GivenRow], kinds: Sequence[Optional[Kind]] = ()) -> Iterator[bytes]:
+    """The bytes of each row, with its line feed. Columns with a kind may have amounts and dates; in
+    others what is neither a str nor an int is a TypeError."""
     written = line_writer()
-    for row in rows:
-        fields = [value if isinstance(value, str) else int(operator.index(value)) for value in row]
+    for number, given in enumerate(rows, 1):
+        row = with_kinds(given, kinds, number) if any(kinds) else given
+        fields = [value if isinstance(value, str) else int(operator.index(value)) for value in row]  # type: ignore[arg-type]
         # A row without fields would be none, and `end` alone would end the block: as one empty field the program refuses them by their number.
         text = written(fields)[:-2] if len(fields) > 1 else '""'
         yield text.encode("utf-8", "surrogateescape") + b"\n"
+
+
+def with_kinds(row: GivenRow, kinds: Sequence[Optional[Kind]], number: int) -> GivenRow:
+    """A row whose amounts and dates are numbers of the program."""
+    made = list(row)
+    for place, (value, kind) in enumerate(zip(row, kinds)):
+        if kind:
+            try:
+                made[place] = kind.given(value)
+            except ValueError as error:
+                raise Fault(f"row {number}, field {place + 1} is {error}: {value!r}") from error
+    return made
 
 
 def has_end(row: bytes) -> bool:
@@ -51,13 +70,21 @@ def block(command: bytes, rows: Sequence[bytes]) -> bytes:
     return command + b"\n" + mark + b"".join(rows) + b"end\n"
 
 
-def block_of(command: bytes, given: Iterable[GivenRow]) -> bytes:
-    """A command with rows of str and int; a refusal where a text has a line that would end the block."""
-    rows = list(encoded(given))
+def sendable(
+    given: Iterable[GivenRow], kinds: Sequence[Optional[Kind]] = ()
+) -> "list[bytes]":
+    """The bytes of rows, each with its line feed; a refusal if a text has a line that would end
+    the block."""
+    rows = list(encoded(given, kinds))
     for number, row in enumerate(rows, 1):
         if has_end(row):
             raise Refused(f"refused row {number} end")
-    return block(command, rows)
+    return rows
+
+
+def block_of(command: bytes, given: Iterable[GivenRow]) -> bytes:
+    """A command with rows of str and int."""
+    return block(command, sendable(given))
 
 
 def rows_of_file(path: str) -> bytes:
@@ -70,15 +97,51 @@ def rows_of_file(path: str) -> bytes:
 
 
 class Answer(List[Tuple[Value, ...]]):
-    """The rows of an answer, as tuples of str and int, the names of their columns, and whether each has numbers."""
+    """The rows of an answer as tuples, the names of their columns, and whether each has numbers.
 
-    def __init__(self, columns: Sequence[str], numeric: Sequence[bool], records: Iterable[Sequence[str]]) -> None:
-        self.columns, self.numeric = tuple(columns), tuple(numeric)
-        kinds: list[type] = [int if is_number else str for is_number in self.numeric]
-        super().__init__(tuple(kind(cell) for kind, cell in zip(kinds, record)) for record in records)
+    A value is a str or an int; in a column of amounts a Decimal, of days a date, and of months a
+    text as 2025-03. The kinds of columns are those of `Kind`, None for a column without one.
+    """
+
+    def __init__(
+        self,
+        columns: Sequence[str],
+        numeric: Sequence[bool],
+        records: Iterable[Sequence[str]],
+        kinds: Sequence[Optional[Kind]] = (),
+    ) -> None:
+        self.columns, self.kinds = tuple(columns), tuple(kinds or [None] * len(columns))
+        dates = [kind is not None and kind.name in ("day", "month") for kind in self.kinds]
+        self.numeric = tuple(each and not is_date for each, is_date in zip(numeric, dates))
+        reads = [reader_of(each, kind) for each, kind in zip(numeric, self.kinds)]
+        super().__init__(
+            tuple(read(cell) for read, cell in zip(reads, record)) for record in records
+        )
 
 
-def answer_of(question: Question, schema: Schema, records: Iterable[Sequence[str]]) -> Answer:
+def reader_of(is_number: bool, kind: Optional[Kind]) -> Callable[[str], Value]:
+    """What makes a value of a cell."""
+    if not is_number:
+        return str
+    if kind is None:
+        return int
+    value = kind.value
+    return lambda cell: value(int(cell))
+
+
+def kind_of_column(column: str, kinds: Mapping[str, Kind]) -> Optional[Kind]:
+    """The kind of a column of an answer: that of an attribute, or of the measure of a sum."""
+    measure = OF_MEASURE.fullmatch(column)
+    return kinds.get(measure[1].lower() if measure else column)
+
+
+def answer_of(
+    question: Question,
+    schema: Schema,
+    records: Iterable[Sequence[str]],
+    kinds: "Mapping[str, Kind]" = {},
+) -> Answer:
     """The answer to a slice: its groups, and then its columns."""
     numeric = [name in schema.numbers for name in question.groups] + [True] * len(question.columns)
-    return Answer(question.groups + question.columns, numeric, records)
+    columns = question.groups + question.columns
+    return Answer(columns, numeric, records, [kind_of_column(each, kinds) for each in columns])

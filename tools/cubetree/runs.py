@@ -1,16 +1,19 @@
 """A run of the program: commands go in, and replies come out as lines."""
 import csv
+import errno
 import os
 import re
 import shutil
 import signal
 import subprocess
+import tempfile
 from contextlib import suppress
 from typing import Sequence
 
-from .errors import Fault, ended
+from .errors import FILES, Ended, Fault, ended
 
 TOP = os.path.dirname(os.path.dirname(os.path.dirname(os.path.realpath(__file__))))
+DISK_FAULT = 4  # a status of the program
 SHIELDED = {signal.SIGINT, signal.SIGTERM}
 
 
@@ -22,6 +25,34 @@ def program(name: str = "cubetree") -> str:
     if not found:
         raise Fault(f"no program `{name}` in the PATH, and none that is named by ${variable}")
     return os.path.abspath(found)
+
+
+def disk_fault(folder: str) -> str:
+    """What the program may have met that ended with the status of a disk fault: the system tells
+    it no more than that a call has failed. Nothing if all looks well."""
+    names = [os.path.join(folder, name) for name in FILES]
+    if not os.path.isdir(folder):
+        return f"the folder {folder} is gone"
+    if os.statvfs(folder).f_bavail == 0 or is_full(folder):
+        return "no space is left on the device"
+    if os.path.exists(names[0]) and not os.path.exists(names[1]):
+        return f"{names[1]} is gone"
+    for path in [folder, *filter(os.path.exists, names)]:
+        if not os.access(path, os.R_OK):
+            return f"no permission to read {path}"
+        if not os.access(path, os.W_OK):
+            return f"no permission to write {path}, which the program needs also to answer"
+    return ""
+
+
+def is_full(folder: str) -> bool:
+    """Whether a page more has no room."""
+    try:
+        with tempfile.TemporaryFile(dir=folder) as file:
+            os.posix_fallocate(file.fileno(), 0, 1 << 16)
+    except OSError as error:
+        return error.errno in (errno.ENOSPC, errno.EDQUOT, errno.EFBIG)
+    return False
 
 
 class Run:
@@ -36,7 +67,7 @@ class Run:
             signal.pthread_sigmask(signal.SIG_SETMASK, former)
         assert self.process.stdin and self.process.stdout and self.process.stderr
         self.input, self.output, self.error = self.process.stdin, self.process.stdout, self.process.stderr
-        self.said = ""
+        self.said, self.folder = "", folder
 
     def send(self, command: bytes) -> None:
         """Sends a command."""
@@ -50,7 +81,7 @@ class Run:
         """The next line, without its line feed; a fault where the run has ended early."""
         line = self.output.readline()
         if not line.endswith(b"\n"):
-            raise ended(self.close(), self.said)
+            raise self.fault(self.close())
         return line[:-1].decode("utf-8", "surrogateescape")
 
     def ask(self, command: bytes) -> str:
@@ -94,4 +125,9 @@ class Run:
         """Ends it; a fault where it does not end well."""
         status = self.close()
         if status:
-            raise ended(status, self.said)
+            raise self.fault(status)
+
+    def fault(self, status: int) -> Ended:
+        """What has ended it early, with the cause of a disk fault as far as it can be seen."""
+        cause = disk_fault(self.folder) if status == DISK_FAULT else ""
+        return ended(status, self.said + (f" ({cause})" if cause else ""))

@@ -3,6 +3,9 @@ import os
 import time
 from typing import Optional
 
+from .batches import FEED, Noted, Record, sum_of
+from .columns import kept_columns
+from .conversions import Conversion
 from .errors import Fault, Refused
 from .limits import rows_over
 from .records import faults_of, may_be_unsendable
@@ -13,7 +16,6 @@ from .spool import Batch, Spool, owner_of
 from .turns import Writer
 from .words import counted
 
-GREATEST = (1 << 64) - 1
 LONGEST_RUN, LONGEST_PAUSE, GAP = 10.0, 0.2, 0.05  # seconds: of a run, of a run without a batch, and between two runs, in which others get in
 
 
@@ -42,7 +44,9 @@ class Sender:
             raise Fault(f"no schema is declared in {self.folder}")
         self.schema, self.owner = self.loading.schema, owner_of(self.folder, self.loading.schema)
         self.facts = int(self.loading.status.split()[1])
-        self.due = Refused(self.loading.exchange(block(b"load %d" % GREATEST, []))).due or GREATEST
+        self.due = self.loading.due()
+        self.record = Record(self.folder, self.due, self.facts)
+        self.conversion = Conversion(self.schema, kept_columns(self.folder, self.schema))
         return self.loading
 
     def rest(self, is_over: bool = False) -> None:
@@ -66,14 +70,19 @@ class Sender:
             raise Fault(f"the folder {self.folder} was begun anew since the feed began")
         self.set_number(batch)
         self.write_refused(batch)
-        if may_be_unsendable(batch.rows):
+        rows, unkept = self.conversion.kept(batch.rows)
+        if unkept or may_be_unsendable(batch.rows):
             self.put_faults_aside(batch, "")
+            rows = self.conversion.kept(batch.rows)[0]
         while batch.rows:
-            reply = loading.exchange(block(b"load %d" % (batch.number or 0), [row + b"\n" for row in batch.rows]))
+            lines = [row + b"\n" for row in rows]
+            number = self.numbered(batch, lines)
+            reply = loading.exchange(block(b"load %d" % number, lines))
             if not reply.startswith("refused "):
                 self.count(batch, reply)
                 break
             self.put_faults_aside(batch, reply)
+            rows = self.conversion.kept(batch.rows)[0]
         self.spool.drop(batch)
         self.used = time.monotonic()
 
@@ -84,11 +93,28 @@ class Sender:
         elif batch.number > self.due:
             raise Fault(f"batch {batch.number} stands in the spool {self.spool.folder}, and {self.folder} has no batch {self.due}: it was set back")
 
+    def numbered(self, batch: Batch, rows: "list[bytes]") -> int:
+        """The number under which rows are sent. If another tool has taken the one of the batch for
+        other rows, the batch gets the number that is due."""
+        number, found = batch.number or 0, sum_of(rows)
+        if number < self.due:
+            noted = self.record.of(number)
+            if noted and (noted.source, noted.sum) == (FEED, found):
+                return number
+            if noted is None:
+                say(f"batch {number} counts already; {self.folder} has no record of its rows")
+                return number
+            number = self.due
+            say(f"batch {batch.number} has rows of {noted.source}; this one becomes batch {number}")
+            self.spool.number(batch, number)
+        self.record.note(Noted(number, self.facts, len(rows), found, 0, FEED))
+        return number
+
     def count(self, batch: Batch, reply: str) -> None:
         """Counts what is acknowledged."""
         if reply.startswith("committed "):
             self.facts = int(reply.split()[1])
-        self.due = max(self.due, (batch.number or 0) + 1)
+        self.due = self.record.due = max(self.due, (batch.number or 0) + 1)
         self.sent, self.batches = self.sent + len(batch.rows), self.batches + 1
 
     def put_faults_aside(self, batch: Batch, reply: str) -> None:
@@ -96,15 +122,17 @@ class Sender:
         no room for."""
         if reply == "refused facts":
             raise Full(f"{self.folder} has {counted(self.facts, 'fact')}, and no room for those of batch {batch.number}")
-        faults = faults_of(batch.rows, self.schema)
+        rows, unkept = self.conversion.kept(batch.rows)
+        found = faults_of(rows, self.schema)
         row = Refused(reply).row
         if row:
-            faults[row - 1] = reply.partition(f"row {row} ")[2]
-        faults.update(rows_over(reply, batch.rows, self.schema, self.folder))
+            found[row - 1] = reply.partition(f"row {row} ")[2]
+        found.update(rows_over(reply, rows, self.schema, self.folder))
+        faults = {**{place: self.schema.row_fault(reason) for place, reason in found.items()}, **unkept}
         if reply and not faults:
             raise Fault(f"batch {batch.number} is refused: {reply}")
         if faults:
-            text = "".join(refused_line(self.schema.row_fault(reason), batch.rows[place]) for place, reason in sorted(faults.items()))
+            text = "".join(refused_line(why, batch.rows[place]) for place, why in sorted(faults.items()))
             self.spool.rewrite(batch, [row for place, row in enumerate(batch.rows) if place not in faults], text, size_of(self.refused))
             self.put_aside += len(faults)
             say(f"{counted(len(faults), 'row')} of batch {batch.number} refused: {self.refused}")

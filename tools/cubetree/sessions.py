@@ -1,13 +1,17 @@
 """Runs of the program in their turns: one that only asks, and those of a writer, one after the other."""
 import time
-from typing import Optional, Sequence
+from typing import Dict, Optional, Sequence
 
+from .batches import Numbered
+from .errors import Refused
 from .levels import PROBE, Level
 from .runs import Run
 from .schema import Schema, kept_schema
 from .turns import Reader, Turns, Writer
+from .values import Kind
 
 MOST_OF_A_SCRIPT = 1 << 30
+GREATEST = (1 << 64) - 1  # number of a batch
 
 
 class Session:
@@ -16,6 +20,7 @@ class Session:
     def __init__(self, turns: Turns, is_shielded: bool = False) -> None:
         self.turns, self.is_shielded = turns, is_shielded
         self.schema: Optional[Schema] = None
+        self.kinds: Optional[Dict[str, Kind]] = None  # of columns, as far as they were asked for
         turns.enter()
         try:
             self.start()
@@ -86,6 +91,7 @@ class Loading(Session):
 
     def __init__(self, turns: Writer, is_shielded: bool = False) -> None:
         self.writer, self.is_pending = turns, False
+        self.numbered: Optional[Numbered] = None
         super().__init__(turns, is_shielded)
 
     def start(self) -> None:
@@ -122,3 +128,15 @@ class Loading(Session):
         """Sends it, and gives its reply."""
         self.send(command)
         return self.reply()
+
+    def due(self) -> int:
+        """The number of the batch that is due: an empty batch with the greatest number is refused,
+        and the refusal says which one is missing."""
+        refused = Refused(self.exchange(b"load %d\nend\n" % GREATEST))
+        if refused.due is None and refused.reply != "refused empty":
+            raise refused
+        return refused.due or GREATEST
+
+    def facts(self) -> int:
+        """How many facts the folder has."""
+        return int(self.exchange(b"status\n").split()[1])

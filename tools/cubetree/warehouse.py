@@ -4,18 +4,22 @@ import threading
 import time
 from contextlib import contextmanager, suppress
 from types import TracebackType
-from typing import Iterable, Iterator, List, NamedTuple, Optional, Sequence, Union, overload
+from typing import Iterable, Iterator, List, Mapping, NamedTuple, Optional, Sequence, Union, overload
 
 from .audits import Audit, audit_of
+from .batches import PYTHON, Numbered
+from .columns import Columns, kept_columns
+from .dates import Sent, query_with_dates, slice_with_dates
 from .errors import Damaged, Fault, Refused
 from .levels import Level, Pairs, level_in_file, level_of
 from .pages import Visits, visits
 from .queries import Query
 from .questions import question_of, sent
-from .rows import Answer, GivenRow, answer_of, block_of
+from .rows import Answer, GivenRow, answer_of, block, sendable
 from .schema import Schema, declared_lines
 from .sessions import Asking, Loading, Session
 from .turns import Reader, Writer
+from .values import Kind
 from .views import Choice, views_of
 
 LONGEST_RUN = 1.0  # seconds of a run that only asks, after which others get their turn
@@ -37,8 +41,17 @@ class Warehouse:
     writers wait for that, and readers get in between its batches.
     """
 
-    def __init__(self, folder: "Union[str, os.PathLike[str]]" = ".", *, wait: bool = True, tool: str = "cubetree") -> None:
+    def __init__(
+        self,
+        folder: "Union[str, os.PathLike[str]]" = ".",
+        *,
+        wait: bool = True,
+        tool: str = "cubetree",
+        kinds: "Mapping[str, Kind]" = {},
+        raw: bool = False,
+    ) -> None:
         self.folder, self.wait, self.tool = os.fspath(folder), wait, tool
+        self._kinds, self._is_raw = dict(kinds), raw
         self._session: Optional[Session] = None
         self._levels: List[Level] = []
         self._lock, self._over, self._asked = threading.RLock(), threading.Event(), 0.0
@@ -64,13 +77,23 @@ class Warehouse:
     def load(self, rows: Iterable[GivenRow], number: Optional[int]) -> Optional[int]: ...
 
     def load(self, rows: Iterable[GivenRow], number: Optional[int] = None) -> Optional[int]:
-        """Appends a batch, and gives how many facts there are then; None where the batch of this number was there already."""
-        reply = self._write(block_of(b"load" if number is None else b"load %d" % number, rows))
-        return None if reply.startswith("already ") else int(reply.split()[1])
+        """Appends a batch, and gives how many facts there are then; None if the batch of this
+        number was there already. If it was there with other rows, that is a Changed."""
+        texts = self._sendable(rows)
+        if number is None:
+            return int(self._write(block(b"load", texts)).split()[1])
+        with self._lock:
+            numbered = self._numbered()
+            if numbered and not numbered.is_new(number, texts):
+                return None
+            facts = int(self._write(block(b"load %d" % number, texts)).split()[1])
+            if numbered:
+                numbered.count(number, facts)
+            return facts
 
     def begin(self, rows: Iterable[GivenRow]) -> None:
         """Makes a batch pending: other runs wait until `finish` or `abandon`."""
-        self._write(block_of(b"begin", rows))
+        self._write(block(b"begin", self._sendable(rows)))
 
     def step(self, moves: int) -> None:
         """Makes so many moves of the refresh that takes in the pending batch, or all that are left."""
@@ -92,18 +115,18 @@ class Warehouse:
 
     def slice(self, text: str) -> Answer:
         """The answer to a slice, in the words of the program without `slice` before them."""
-        schema, records = self._rows(b"slice " + sent(text))
-        return answer_of(question_of(text), schema, records)
+        return self._answer(b"slice ", text)
 
     def sql(self, text: str) -> Answer:
         """The answer to a query in SQL of the table `facts`. The columns are called as they are written."""
-        query = Query(text)
-        line = sent(query.sent())
         with self._question() as session:
-            records, last = session.answer(b"sql " + line)
+            kinds = self._kinds_in(session)
+            made = query_with_dates(text, kinds)
+            query = Query(made.text)
+            records, last = session.answer(b"sql " + sent(query.sent()))
         if session.schema is None or last.startswith("refused "):
-            raise query.refused(last)
-        return query.answer(session.schema, records)
+            raise made.refused(query.refused(last))
+        return query.answer(session.schema, records, kinds)
 
     def level(self, name: str, attribute: str, pairs: Pairs) -> int:
         """Gives values of an attribute a parent each, by a mapping or pairs of both, and gives how many. No folder keeps a level: it is there for `rollup`
@@ -116,8 +139,7 @@ class Warehouse:
 
     def rollup(self, text: str) -> Answer:
         """The answer to a slice in which the names of levels may stand where those of attributes of texts may; a value without a parent has the empty text."""
-        schema, records = self._rows(b"rollup " + sent(text), self._levels)
-        return answer_of(question_of(text), schema, records)
+        return self._answer(b"rollup ", text, self._levels)
 
     @property
     def levels(self) -> "list[str]":
@@ -126,19 +148,19 @@ class Warehouse:
 
     def explain(self, text: str) -> Choice:
         """The view that answers a slice; what `slice` refuses is refused."""
-        command = b"explain " + sent(text) + b"\n"
         with self._question() as session:
-            reply = session.ask(command)
-        return _choice(reply, session.schema)
+            made = slice_with_dates(text, self._kinds_in(session))
+            reply = session.ask(b"explain " + sent(made.text) + b"\n")
+        return _choice(reply, session.schema, made)
 
     def visits(self, text: str) -> Visits:
         """The same, with how many pages the slice goes to."""
-        command = b"explain " + sent(text) + b"\n"
         with self._question() as session:
-            reply = session.ask(command)
-            if session.schema and not reply.startswith("refused "):
-                return visits(self.folder, session.schema, _choice(reply, session.schema), question_of(text))
-        raise Refused(reply)
+            made = slice_with_dates(text, self._kinds_in(session))
+            reply = session.ask(b"explain " + sent(made.text) + b"\n")
+            choice = _choice(reply, session.schema, made)
+            assert session.schema
+            return visits(self.folder, session.schema, choice, question_of(made.text))
 
     def audit(self) -> Audit:
         """Whether all pages are sound, or else the first place that breaks a rule. An audit does not see damage after which all rules hold."""
@@ -160,6 +182,30 @@ class Warehouse:
         with self._question() as session:
             return session.schema
 
+    @property
+    def kinds(self) -> "dict[str, Kind]":
+        """The kinds of the columns that have amounts or dates: those that the folder keeps, and
+        those that were given to this object."""
+        with self._question() as session:
+            return self._kinds_in(session)
+
+    def _kinds_in(self, session: Session) -> "dict[str, Kind]":
+        """The same, for a run of the program."""
+        if self._is_raw:
+            return {}
+        if session.kinds is None:
+            kept = kept_columns(self.folder, session.schema) if session.schema else None
+            (kept or Columns()).expect(self._kinds)
+            session.kinds = {**(kept.converted() if kept else {}), **self._kinds}
+        return session.kinds
+
+    def _sendable(self, rows: Iterable[GivenRow]) -> "list[bytes]":
+        """The bytes of rows, whose amounts and dates are as the folder keeps them."""
+        with self._lock:
+            loading = self._loading()
+            schema, kinds = loading.schema, self._kinds_in(loading)
+        return sendable(rows, [kinds.get(name) for name in schema.columns()] if schema else [])
+
     # ---- runs
 
     def pause(self) -> None:
@@ -179,14 +225,30 @@ class Warehouse:
     def _write(self, command: bytes) -> str:
         """The reply to a command that works on the files; a fault where it is a refusal."""
         with self._lock:
-            if not isinstance(self._session, Loading):
-                self.close()
-                self._session = Loading(Writer(self.tool, self.folder, self.wait))
-            with self._dropped_when_cut_off(self._session):
-                reply = self._session.exchange(command)
+            loading = self._loading()
+            with self._dropped_when_cut_off(loading):
+                reply = loading.exchange(command)
         if reply.startswith("refused "):
             raise Refused(reply)
         return reply
+
+    def _loading(self) -> Loading:
+        """The session of the writer, which begins with what it does first."""
+        if not isinstance(self._session, Loading):
+            self.close()
+            self._session = Loading(Writer(self.tool, self.folder, self.wait))
+        return self._session
+
+    def _numbered(self) -> Optional[Numbered]:
+        """The numbered batches of the folder; None if the program will refuse any batch now."""
+        loading = self._loading()
+        if loading.schema is None or loading.is_pending:
+            return None
+        if loading.numbered is None:
+            with self._dropped_when_cut_off(loading):
+                facts = loading.facts()
+                loading.numbered = Numbered(self.folder, loading.due(), facts, PYTHON)
+        return loading.numbered
 
     def _tell(self, level: Level) -> int:
         """Keeps a level that the program takes, and gives how many values have a parent by it."""
@@ -197,14 +259,17 @@ class Warehouse:
                 return int(reply.split()[1])
         raise Refused(reply)
 
-    def _rows(self, command: bytes, levels: Sequence[Level] = ()) -> "tuple[Schema, list[list[str]]]":
-        """The records of the reply to a command that asks for rows over these levels, with the schema; a fault where it is a refusal."""
+    def _answer(self, word: bytes, text: str, levels: Sequence[Level] = ()) -> Answer:
+        """The answer to a slice, in which these levels may stand; a fault if it is refused."""
         with self._question() as session:
+            kinds = self._kinds_in(session)
+            made = slice_with_dates(text, kinds)
+            command = word + sent(made.text)
             told = session.tell(levels, len(command) + 1)
             records, last = ([], told) if told.startswith("refused ") else session.answer(command)
         if session.schema is None or last.startswith("refused "):
-            raise Refused(last)
-        return session.schema, records
+            raise made.refused(Refused(last))
+        return answer_of(question_of(made.text), session.schema, records, kinds)
 
     @contextmanager
     def _question(self) -> Iterator[Session]:
@@ -239,14 +304,17 @@ class Warehouse:
                     self.pause()
 
 
-def _choice(reply: str, schema: Optional[Schema]) -> Choice:
+def _choice(reply: str, schema: Optional[Schema], made: Sent) -> Choice:
     """What a reply to `explain` tells; a fault where it is a refusal."""
     if schema is None or reply.startswith("refused "):
-        raise Refused(reply)
+        raise made.refused(Refused(reply))
     words = reply.split()
     return Choice(views_of(schema)[int(words[1]) - 1], int(words[3]), words[5] == "yes")
 
 
-def open(folder: "Union[str, os.PathLike[str]]" = ".", *, wait: bool = True) -> Warehouse:
-    """The warehouse in a folder, to be used by `with`; without waiting a call raises Busy where another run is in the way."""
-    return Warehouse(folder, wait=wait)
+def open(
+    folder: "Union[str, os.PathLike[str]]" = ".", *, wait: bool = True, raw: bool = False
+) -> Warehouse:
+    """The warehouse in a folder, to be used by `with`. Without waiting a call raises Busy if another
+    run is in the way. Raw answers have the whole numbers of the program, not amounts and dates."""
+    return Warehouse(folder, wait=wait, raw=raw)

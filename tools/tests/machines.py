@@ -1,28 +1,21 @@
 """A scheduler of Dask, and workers with a nanny, each in a network namespace of its own, or processes of this machine where there may be none."""
 import contextlib
 import os
-import shutil
 import signal
 import socket
 import subprocess
 import time
 from typing import List, Optional
 
-from tests.case import TOOLS, until
+from tests.helpers import TOOLS, until
 
 PYTHON = "/usr/bin/python3"  # Debian's packages are for this one.
 PORT = 40_101
-# Without a network apt gives up at once.
-QUICK = ["-o", "Acquire::Retries=0", "-o", "Acquire::http::Timeout=10", "-o", "Acquire::https::Timeout=10"]
 
 
 def has_engine() -> bool:
-    """Whether the engine is there; it is installed where that may be done."""
+    """Whether the engine is there."""
     found = [PYTHON, "-c", "import distributed"]
-    if subprocess.run(found, stderr=subprocess.DEVNULL).returncode == 0:
-        return True
-    if os.getuid() == 0 and shutil.which("apt-get"):
-        subprocess.run(["apt-get", "install", "-y", "--no-install-recommends", *QUICK, "python3-distributed"], stdout=subprocess.DEVNULL, stderr=subprocess.DEVNULL)
     return subprocess.run(found, stderr=subprocess.DEVNULL).returncode == 0
 
 

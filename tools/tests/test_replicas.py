@@ -9,7 +9,7 @@ from cubetree import sample
 from cubetree.questions import question_of
 from cubetree.replicas import MOST_EXACT, different, smallest_views
 from cubetree.views import Needs, View, needs_of
-from tests.case import Case, ask, load
+from tests.helpers import Case, ask, load
 
 NAMES = ("part", "shop", "year", "month")
 NUMBERS = ("year", "month")

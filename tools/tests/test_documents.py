@@ -4,9 +4,12 @@ import os
 import re
 import shutil
 import unittest
+from pathlib import Path
+
+import pytest
 
 from cubetree.runs import TOP
-from tests.case import Case, TOOLS, run
+from tests.helpers import Case, TOOLS, run
 
 
 INSTALLED = ("ask", "load-csv", "refresh-slowly", "feed", "audit", "shards", "run-tour")
@@ -40,7 +43,7 @@ class Documents(Case):
     @unittest.skipUnless(shutil.which("mypy"), "no mypy")
     def test_types(self):
         words = ["mypy", "--strict", "--python-version", "3.9", "--cache-dir", os.path.join(self.room, "cache")]
-        for script in ("cubetree", *INSTALLED, "make-man", "test_cubetree.py"):
+        for script in ("cubetree", *INSTALLED, "make-man"):
             run(*words, script, cwd=TOOLS, env=dict(os.environ, MYPYPATH=TOOLS))
 
     def test_tour(self):
@@ -59,3 +62,52 @@ class Documents(Case):
             self.assertIn("usage", run(f"cubetree-{tool}", "--help", env=clean, cwd="w")[0])
             wanted = rf"{tool}, of the package cubetree 0\.\d+; the program is .*/root/usr/bin/cubetree(, and .*/root/usr/bin/cubefold)?\n"
             self.assertRegex(run(f"cubetree-{tool}", "--version", env=clean)[0], wanted)
+
+
+MAN_PAGES = sorted(glob.glob(os.path.join(TOP, "docs", "*.1")))
+LONGEST_ARGUMENT = 30  # characters, such as those of ` NAME ATTR FILE`
+
+
+@pytest.mark.parametrize("page", MAN_PAGES, ids=os.path.basename)
+def test_macros_begin_lines(page: str) -> None:
+    """A macro elsewhere is printed as it stands."""
+    lines = Path(page).read_text(encoding="utf-8").splitlines()
+    assert [line for line in lines if re.search(r"\S.* \.[A-Z]{1,2} ", line)] == []
+
+
+@pytest.mark.parametrize("page", MAN_PAGES, ids=os.path.basename)
+def test_arguments_in_italics_are_short(page: str) -> None:
+    """A long one has the text that should follow it."""
+    text = Path(page).read_text(encoding="utf-8")
+    italics = re.findall(r"\\fI(.*?)(?:\\f[BRP]|$)", text, re.MULTILINE)
+    assert [each for each in italics if len(each) > LONGEST_ARGUMENT] == []
+
+
+def page_of(folder: Path, *options: str, status: int = 0) -> "tuple[str, str]":
+    """What make-man makes of a tool whose help has these lines of options."""
+    tool = folder / "ask"
+    help_text = "\n".join(["Asks.", "", "usage: ask [OPTION..]", "", *options, "", "It ends."])
+    tool.write_text(f"#!/bin/sh\ncat << 'END'\n{help_text}\nEND\n")
+    tool.chmod(0o755)
+    shutil.copy(os.path.join(TOOLS, "make-man"), folder)
+    return run(str(folder / "make-man"), "ask", status=status)
+
+
+def test_options_of_a_man_page(tmp_path: Path) -> None:
+    """An option has arguments, or none, and what it does follows in its line or in the next."""
+    options = ["  --csv  prints csv", "  --number N,..", "         the numbers", "         of it"]
+    printed = page_of(tmp_path, *options)[0]
+    page = [".TP", r"\fB\-\-csv\fI\fR", "prints csv", ".TP", r"\fB\-\-number\fI N,..\fR"]
+    assert "\n".join([*page, "the numbers", "of it", ".SH SEE ALSO"]) in printed
+
+
+@pytest.mark.parametrize(
+    "option",
+    ["  --cents NAMES prints it", "  --csv prints csv", "  --csv Prints csv", "--csv  prints csv"],
+)
+def test_faulty_option_of_a_man_page(tmp_path: Path, option: str) -> None:
+    """make-man names the line, and prints no page."""
+    printed, said = page_of(tmp_path, "  --in FOLDER  the folder", option, status=1)
+    assert printed == ""
+    assert said.startswith("make-man: no option of --help has the form of this line: type ")
+    assert said.endswith(f"\n{option}\n")

@@ -11,8 +11,7 @@ from cubetree.files import live_body
 from cubetree.looks import SideLook, look
 from cubetree.nodes import Layout
 from cubetree.runs import program
-from test_cubetree import SCHEMA
-from tests.case import Case, TOOLS, run
+from tests.helpers import Case, SCHEMA, TOOLS, run
 
 FACTS = [("bolt", 1997, 5), ("nut", 1997, -2), ("bolt", 1998, 4)]
 BLIND = "An audit does not see damage after which all rules hold.\n"

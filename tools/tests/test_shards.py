@@ -13,19 +13,22 @@ import subprocess
 import sys
 import threading
 import time
-from typing import Any, Optional
+import unittest
+from typing import Any, Iterable, Optional
 from unittest import mock
 from zlib import crc32
 
+import pytest
+
 from cubetree import folds
-from cubetree.errors import Fault
+from cubetree.errors import Ended, Fault
 from cubetree.pieces import Pieces
 from cubetree.runs import program
 from cubetree.schema import Schema
 from cubetree.shards import Cutter, shards_in
-from test_cubetree import SCHEMA
-from tests.case import Case, TOOLS, ask, load, run, wait_too_long
-from tests.load_csv import LoadCsv
+from tests import helpers
+from tests.helpers import Case, SCHEMA, TOOLS, ask, load, run, wait_too_long
+from tests.test_load_csv import LoadCsv
 from tests.machines import Machines, has_engine
 
 SLICES = ["count,sum(qty),min(qty),max(qty)", "sum(qty),count by part", "max(qty) by part,year where year=1999..2003", "min(qty) by year where part=p7", "sum(qty) by part where year=7"]
@@ -71,7 +74,7 @@ class Cut(Case):
         for content in [*(content for content, _ in LoadCsv.ODD), b"part,qty\na,1\n\nb,2", b"part,qty"]:
             with self.subTest(content[:40]):
                 words = ["--delimiter", ";"] if b";" in content else []
-                script = load("--schema", "schema", *words, self.put("file", content))[0].encode("utf-8", "surrogateescape")
+                script = load("--schema", "schema", "--yes", *words, self.put("file", content))[0].encode("utf-8", "surrogateescape")
                 wanted = script.partition(b"load\n")[2].rpartition(b"end\n")[0].lstrip(b"\n")
                 self.assertEqual(b"".join(row + b"\n" for row in self.flat("file", *words[1:])), wanted)
 
@@ -127,9 +130,19 @@ class Cut(Case):
                 shards_in("shards")
 
 
+def has_fold() -> bool:
+    """Whether there is a program `cubefold`."""
+    try:
+        return bool(program("cubefold"))
+    except Fault:
+        return False
+
+
 class Ranges(Case):
     """Replies that are folded range by range."""
 
+    LINES = [*SCHEMA.splitlines(), "view part"]
+    SUMS = "sum(qty) by part"
     FOLDED = ["sum(qty),count by part,year", "min(qty) by year,part", "count by part", "max(qty) by year where year=5..100000", "count", "sum(qty) by part where year=7"]
 
     def reply(self, rows: "list[tuple[str, int, int]]", text: str) -> bytes:
@@ -153,23 +166,103 @@ class Ranges(Case):
                         ranges = folds.ranges_of(Schema(lines), text, [folds.reply_of(each) for each in replies])
                         self.assertEqual(len(ranges) > 1, all(b'"' not in each for each in replies) and sum(map(len, replies)) >= 2 * long + 30)
 
+    def sums(self, places: "Iterable[int]", count: Optional[int] = None) -> bytes:
+        """A reply to SUMS with a row for each place, whose last line has this count."""
+        rows = [b"p%04d,%d\n" % (place, place) for place in places]
+        return b"".join(rows) + b"rows %d\n" % (len(rows) if count is None else count)
 
-def passed_over() -> bool:
-    """Whether there is no engine, of which a line says so."""
-    if not hasattr(passed_over, "told"):
-        passed_over.told = not has_engine()  # type: ignore[attr-defined]
-        if passed_over.told:  # type: ignore[attr-defined]
-            print("test-tools: python3-distributed is not there and cannot be installed: what needs it of the tests of shards is passed over", file=sys.stderr)
-    return bool(passed_over.told)  # type: ignore[attr-defined]
+    def ranges(self, *replies: bytes) -> "list[list[bytes]]":
+        """The ranges of replies to SUMS that are long enough for seven."""
+        with mock.patch.object(folds, "LONG", 1000), mock.patch.object(os, "cpu_count", lambda: 7):
+            given = [folds.reply_of(each) for each in replies]
+            return folds.ranges_of(Schema(self.LINES), self.SUMS, given)
+
+    def folded(self, *replies: bytes, long: int = 1000) -> "tuple[Any, ...]":
+        """The rows and the last line of the fold of replies to SUMS, or how it ends."""
+        with mock.patch.object(folds, "LONG", long), mock.patch.object(os, "cpu_count", lambda: 7):
+            try:
+                return tuple(folds.folded(self.LINES, self.SUMS, replies))
+            except Ended as ended:
+                return ended.status, ended.said
+
+    def test_cuts(self) -> None:
+        """Each range has the rows of both replies with its keys, and their number."""
+        ranges = self.ranges(self.sums(range(1000)), self.sums(range(500, 700)))
+        self.assertEqual(len(ranges), 7)
+        parts = [[folds.reply_of(reply) for reply in each] for each in zip(*ranges)]
+        wholes = [self.sums(range(1000)), self.sums(range(500, 700))]
+        for replies, whole in zip(parts, wholes):
+            rows = b"".join(reply.rows for reply in replies)
+            self.assertEqual(rows, folds.reply_of(whole).rows)
+            for reply in replies:
+                self.assertEqual(reply.last, f"rows {len(reply.rows.splitlines())}")
+        for first, second in zip(*parts):
+            self.assertLessEqual(set(second.rows.split(b"\n")), set(first.rows.split(b"\n")))
+
+    def test_reply_that_lost_rows_is_not_cut(self) -> None:
+        """Nor is one with more rows than its last line says."""
+        whole = self.sums(range(1000))
+        self.assertEqual(len(self.ranges(whole, whole)), 7)
+        for places, count in [
+            ([*range(400), *range(600, 1000)], 1000),
+            (range(999), 1000),
+            (range(1000), 999),
+            (range(1000), 0),
+        ]:
+            faulty = self.sums(places, count)
+            self.assertEqual(self.ranges(whole, faulty), [])
+            self.assertEqual(self.ranges(faulty, whole), [])
+
+    def test_keys_at_the_cuts(self) -> None:
+        """A range begins after the last key of the ranges before it; some have no rows."""
+        parts = folds.Keys(Schema(self.LINES), self.SUMS)
+        self.assertTrue(parts.ascend([b"p1,1\np3,1\n", b"", b"p4,1\n", b"p5,1\np6,1\n"]))
+        self.assertFalse(parts.ascend([b"p1,1\np3,1\n", b"p3,1\np4,1\n"]))
+        self.assertFalse(parts.ascend([b"p1,1\np3,1\n", b"", b"p2,1\np4,1\n"]))
+        years = folds.Keys(Schema(self.LINES), "sum(qty) by year")
+        self.assertTrue(years.ascend([b"-5,1\n9,1\n", b"10,1\n"]))
+        self.assertFalse(years.ascend([b"10,1\n", b"9,1\n"]))
+
+    @unittest.skipUnless(has_fold(), "no program cubefold")
+    def test_reply_that_lost_rows_is_refused(self) -> None:
+        """As by one fold, which ends with the status 11."""
+        whole = self.sums(range(1000))
+        faulty = self.sums([*range(400), *range(600, 1000)], 1000)
+        for replies in ((whole, faulty), (faulty, whole)):
+            ends = self.folded(*replies)
+            self.assertEqual(ends[0], 11)
+            self.assertEqual(ends, self.folded(*replies, long=1 << 19))
+
+    @unittest.skipUnless(has_fold(), "no program cubefold")
+    def test_reply_out_of_order(self) -> None:
+        """The fold sorts its rows, wherever they stand."""
+        draw, rows = random.Random(59), list(range(1000))
+        twice = [b"p%04d,%d\n" % (place, 2 * place) for place in rows]
+        for turn in range(12):
+            begin, end = sorted(draw.sample(rows, 2))
+            moved = rows[begin:end] + rows[:begin] + rows[end:]
+            if turn == 11:
+                draw.shuffle(moved)
+            made = self.folded(self.sums(rows), self.sums(moved))
+            self.assertEqual(made, (b"".join(twice), "rows 1000"))
+
+    @unittest.skipUnless(has_fold(), "no program cubefold")
+    def test_reply_with_a_faulty_key(self) -> None:
+        """A key that is not a number is refused, also where the search for a cut reads it."""
+        rows = [b"%d,1\n" % year for year in range(1000, 2000)]
+        whole = b"".join(rows) + b"rows 1000\n"
+        faulty = whole.replace(b"1500,1\n", b"soon,1\n")
+        with mock.patch.object(self, "SUMS", "sum(qty) by year"):
+            self.assertEqual(self.folded(whole, whole)[1], "rows 1000")
+            self.assertEqual(self.folded(whole, faulty), self.folded(whole, faulty, long=1 << 19))
 
 
+@unittest.skipUnless(has_engine(), "no package python3-distributed")
 class WithEngine(Case):
     """Tests with the engine."""
 
     def setUp(self) -> None:
         super().setUp()
-        if passed_over():
-            self.skipTest("no python3-distributed")
         signal.signal(signal.SIGALRM, wait_too_long)
         signal.alarm(self.MOST_SECONDS)
         self.addCleanup(signal.alarm, 0)
@@ -243,7 +336,7 @@ class Messages(ManyMachines):
         told, said = self.shards(command, *words, status=status)
         self.assertEqual(told, "")
         self.assertRegex(said.splitlines()[-1], wanted)
-        self.assertLess(said.count("\n"), 4)
+        self.assertLess(said.count("\n"), 5)
 
     def row(self, shard: int, number: str) -> str:
         """A row that goes to this shard."""
@@ -340,7 +433,8 @@ class Messages(ManyMachines):
         fold = self.put("fold", "#!/bin/sh\ncat > none\necho 'cubefold: no whole reply' >&2\nexit 11\n")
         os.chmod(fold, 0o755)
         told, said = self.shards("ask", "count", status=11, env=dict(os.environ, CUBEFOLD=os.path.abspath(fold)))
-        self.assertEqual((told, said), ("", "shards: the replies cannot be folded: cubefold: no whole reply\n"))
+        self.assertEqual(told, "")
+        self.assertEqual(said.splitlines()[-1], "shards: the replies cannot be folded: cubefold: no whole reply")
 
     def dying(self) -> None:
         self.put("die", "")
@@ -391,14 +485,15 @@ class Messages(ManyMachines):
         self.assertIn("usage", run(os.path.join(TOOLS, "shards"), "--help")[0])
 
 
+@pytest.mark.slow
 class KilledWorkers(ManyMachines):
     """A load during which workers are killed."""
 
-    APART, DEATHS, KILLS = True, 100, 20
+    APART, DEATHS = True, 100
 
     def test_killed_at_random(self) -> None:
         """Workers are killed until twenty had a batch; the sums are those of SQLite in the end, and each fact counts once."""
-        signal.alarm(300 + 10 * self.KILLS)
+        signal.alarm(300 + 10 * helpers.KILLS)
         draw, rows, is_over = random.Random(time.time_ns()), rows_of(58, 100), threading.Event()
         self.shards("init", "schema")
         os.mkfifo("pipe")
@@ -420,7 +515,7 @@ class KilledWorkers(ManyMachines):
         writer = threading.Thread(target=write, daemon=True)
         writer.start()
         were_busy = 0
-        while were_busy < self.KILLS:
+        while were_busy < helpers.KILLS:
             time.sleep(draw.random())
             were_busy += self.machines.kill_worker(draw.randrange(self.COUNT), 2)
         self.assertIsNone(begun.poll(), "the load has ended early")

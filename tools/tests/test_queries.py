@@ -1,13 +1,19 @@
 """Tests of queries in SQL, and of the interface of databases to Python."""
+import datetime
 import json
 import threading
 import warnings
-from typing import Any
+from decimal import Decimal
+from pathlib import Path
+from typing import Any, Iterator, List, Optional
+
+import pytest
 
 import cubetree
-from cubetree.queries import items_of, with_parameters
-from test_cubetree import SCHEMA
-from tests.case import Case, ask
+from cubetree.columns import Columns
+from cubetree.queries import items_of, statement_of
+from cubetree.values import Kind
+from tests.helpers import Case, SCHEMA, ask
 
 FACTS = [("bolt", 1997, 5), ("nut", 1997, -2), ("bolt", 1998, 4)]
 REFUSED = [
@@ -126,7 +132,9 @@ class Databases(Case):
                     cursor.execute(query, parameters)  # type: ignore[arg-type]
                 with self.assertRaises(cubetree.ProgrammingError):
                     cursor.fetchone()
-        self.assertEqual(with_parameters("a ? 'it''s ?' ?", ["'?", -5]), "a '''?' 'it''s ?' -5")
+        statement = statement_of("a ? 'it''s ?' ? /*?*/ ;", ["'?", -5])
+        self.assertEqual(statement.shown, "a '''?' 'it''s ?' -5 /*?*/ ;")
+        self.assertEqual(statement.sent, "a '''?' 'it''s ?' -5")
 
     def test_errors(self) -> None:
         connection = cubetree.connect("w")
@@ -185,3 +193,216 @@ class Databases(Case):
             self.assertEqual(frame.dtypes.map(str).tolist(), ["object", "int64"])
             with self.assertRaises(Exception):
                 pandas.read_sql("SELECT colour FROM facts", connection)
+
+
+# ---- comments, quotes and semicolons in what a cursor executes
+
+BETWEEN = "year between ? and ? group by year"
+
+
+@pytest.fixture
+def cursor(tmp_path: Path) -> Iterator[cubetree.Cursor]:
+    """A cursor over the three facts."""
+    with cubetree.open(tmp_path) as warehouse:
+        warehouse.declare(SCHEMA)
+        warehouse.load(FACTS)
+    with cubetree.connect(tmp_path) as connection:
+        yield connection.cursor()
+
+
+def error_of(
+    cursor: cubetree.Cursor, query: str, parameters: Optional[List[Any]] = None
+) -> cubetree.ProgrammingError:
+    """The ProgrammingError of a query."""
+    with pytest.raises(cubetree.ProgrammingError) as caught:
+        cursor.execute(query, parameters)
+    return caught.value
+
+
+def rest_of(error: cubetree.Error) -> bytes:
+    """The query of an error from its place on."""
+    assert error.query is not None and error.byte is not None
+    return error.query.encode()[error.byte - 1 :]
+
+
+@pytest.mark.parametrize(
+    "query",
+    [
+        "-- of years\r\nselect year from facts where " + BETWEEN,
+        "select year -- of ? and ;\nfrom facts where " + BETWEEN,
+        "select year--\rfrom facts where " + BETWEEN,
+        "select/**/year/* ' */from/* é */facts where " + BETWEEN + ' /* " */',
+        "select year from facts where year between/*a*/?/*b*/and--c\n?--d\ngroup by year --",
+        "/* -- */ select year from facts where " + BETWEEN + " /*;*/ ; --;",
+        "/* of\n\ryears ?\n*/select year from facts where " + BETWEEN,
+        "/* it's; /* ** // */\nselect year from facts where " + BETWEEN + ";\n;",
+        "-- /*\nselect year from facts where " + BETWEEN + " -- */",
+    ],
+)
+def test_comments(cursor: cubetree.Cursor, query: str) -> None:
+    """A comment is as a space, and a question mark in it is no parameter."""
+    assert cursor.execute(query, [1998, 2000]).fetchall() == [(1998,)]
+    assert cursor.description == [("year", cubetree.NUMBER, None, None, None, None, None)]
+
+
+def test_quotes_keep_all_characters(cursor: cubetree.Cursor) -> None:
+    """Between quotes there are no comments, no ends and no parameters."""
+    odd = ["--", "-- a\r", "/* a */", "/*", "*/", "a;b", ";", "a?", "?", "it's", "'", '"', "';--"]
+    with cubetree.open(cursor.connection.warehouse.folder) as warehouse:
+        warehouse.load([(part, 2000, number) for number, part in enumerate(odd)])
+    for number, part in enumerate(odd):
+        quoted = part.replace("'", "''")
+        literal = f"select sum(qty) from facts where part = '{quoted}';"
+        assert cursor.execute(literal).fetchall() == [(number,)]
+        query = f"select sum(qty) from facts where part in ('{quoted}', ?) and year = ? -- ?"
+        assert cursor.execute(query, [part, 2000]).fetchall() == [(number,)]
+
+
+@pytest.mark.parametrize(
+    "query, parameters",
+    [
+        ("select count(*) from facts where part = 'a\n-- b'", []),
+        ("select count(*) from facts where part = ?", ["a\nb"]),
+    ],
+)
+def test_line_feed_in_quotes(cursor: cubetree.Cursor, query: str, parameters: List[str]) -> None:
+    """A query is one line for the program, so it cannot have a line feed in quotes."""
+    with pytest.raises(cubetree.NotSupportedError, match="line feed"):
+        cursor.execute(query, parameters)
+
+
+@pytest.mark.parametrize(
+    "query, rest",
+    [
+        ("select count(*) from facts; select count(*) from facts", "; select count(*) from facts"),
+        ("select count(*) from facts where part = 'é;';\n-- b\n;select", ";\n-- b\n;select"),
+        ("select count(*) from facts;'a'", ";'a'"),
+        ("select count(*) from facts;?", ";?"),
+        (";select count(*) from facts", ";select count(*) from facts"),
+        ("/* é; */; - ;", "; - ;"),
+    ],
+)
+def test_one_statement(cursor: cubetree.Cursor, query: str, rest: str) -> None:
+    """A second statement is an error at the semicolon before it."""
+    error = error_of(cursor, query)
+    assert (error.query, rest_of(error)) == (query, rest.encode())
+    assert error.reply == f"refused sql syntax {error.byte}"
+    assert str(error).endswith("text follows this `;`: execute one statement at a time")
+
+
+@pytest.mark.parametrize(
+    "query, byte, what",
+    [
+        ("select count(*) from facts /* where year = ?", 28, "comment"),
+        ("select count(*) from facts /*/ ", 28, "comment"),
+        ("/* é */ /* select count(*) from facts", 10, "comment"),
+        ("select count(*) from facts where part = 'x and year = ?", 41, "quote"),
+        ("select count(*) from facts where part = 'it''s -- '';", 41, "quote"),
+        ("select count(*) from facts where part = '''", 41, "quote"),
+        ("select count(*) from facts where part in ('é', 'x)", 49, "quote"),
+        ('select "part from facts', 8, "quote"),
+        ("select count(*) from facts; /* ; ", 29, "comment"),
+    ],
+)
+def test_open_comments_and_quotes(
+    cursor: cubetree.Cursor, query: str, byte: int, what: str
+) -> None:
+    """What is not closed swallows nothing: it is an error where it begins."""
+    for parameters in (None, [1997]):
+        error = error_of(cursor, query, parameters)
+        message = f"refused sql syntax {byte}: a {what} begins here and is not closed"
+        assert (str(error), error.query, error.byte) == (message, query, byte)
+
+
+@pytest.mark.parametrize(
+    "query, rest",
+    [
+        ("year = 199?", "?"),
+        ("year = ?7", "?7"),
+        ("year = ??", "??"),
+        ("part = 'a'?", "?"),
+        ("part = ?'a'", "?'a'"),
+        ("year?= 1", "?= 1"),
+        ("part = 'é' and year = 1?", "?"),
+    ],
+)
+def test_touching_question_marks(cursor: cubetree.Cursor, query: str, rest: str) -> None:
+    """`199?` with 7 is not 1997, and `'a'?` with 'b' is not the text a'b."""
+    text = "select count(*) from facts where " + query
+    passed: List[List[Any]] = [[7], [7, 7], ["b"]]
+    for parameters in passed:
+        error = error_of(cursor, text, parameters)
+        assert "put spaces around this `?`" in str(error)
+        assert (error.query, rest_of(error)) == (text, rest.encode())
+
+
+def test_sign_before_a_question_mark(cursor: cubetree.Cursor) -> None:
+    """`-` and a negative parameter make no comment of the rest."""
+    query = "select count(*) from facts where year > -? and\npart = 'bolt'"
+    assert cursor.execute(query, [5]).fetchall() == [(2,)]
+    assert rest_of(error_of(cursor, query, [-5])) == b"--5 and\npart = 'bolt'"
+
+
+@pytest.mark.parametrize(
+    "query, parameters, shown, word, rest",
+    [
+        ("select colour from facts;", [], None, "name", "colour from facts;"),
+        ("/* é */ select colour from facts -- ?", [], None, "name", "colour from facts -- ?"),
+        (
+            "select part/* ? */ from facts where part = ? and colour = ?",
+            ["é'", 1],
+            "select part/* ? */ from facts where part = 'é''' and colour = 1",
+            "name",
+            "colour = 1",
+        ),
+        (
+            "/*é*/select part --é\nfrom facts\twhere year = ? group by year; --",
+            [1997],
+            "/*é*/select part --é\nfrom facts\twhere year = 1997 group by year; --",
+            "group",
+            "part --é\nfrom facts\twhere year = 1997 group by year; --",
+        ),
+        (
+            "/* é */ select count(*) from facts where part = ? and year = ? -- x",
+            ["é", "x"],
+            "/* é */ select count(*) from facts where part = 'é' and year = 'x' -- x",
+            "value",
+            "'x' -- x",
+        ),
+        ('select "a--;?" from facts', [], None, "syntax", '"a--;?" from facts'),
+        ("select part -- é", [], None, "syntax", " -- é"),
+        ("select part;", [], None, "syntax", ";"),
+    ],
+)
+def test_places(
+    cursor: cubetree.Cursor,
+    query: str,
+    parameters: List[Any],
+    shown: Optional[str],
+    word: str,
+    rest: str,
+) -> None:
+    """The place of a refusal counts the bytes of the executed text, comments and all."""
+    with pytest.raises(cubetree.DatabaseError) as caught:
+        cursor.execute(query, parameters)
+    error = caught.value
+    assert (error.query, rest_of(error)) == (shown or query, rest.encode())
+    assert str(error) == error.reply == f"refused sql {word} {error.byte}"
+
+
+def test_types_of_days_and_amounts(tmp_path: Path) -> None:
+    """A column of days is of the type DATETIME, and one of amounts a NUMBER."""
+    with cubetree.open(tmp_path) as warehouse:
+        warehouse.declare("attr day number\nattr part text\nmeasure price\nview day,part\n")
+        warehouse.load([(20250314, "bolt", 1250)])
+    kinds = {"day": Kind("day", order="YMD"), "price": Kind("decimal", places=2)}
+    Columns(kinds=kinds).write(str(tmp_path))
+    with cubetree.connect(tmp_path) as connection:
+        cursor = connection.cursor()
+        query = "select day, part, sum(price) from facts where day = ? group by day, part -- é"
+        cursor.execute(query, ["2025-03-14"])
+        types = [column[1] for column in cursor.description or []]
+        assert types == [cubetree.DATETIME, cubetree.STRING, cubetree.NUMBER]
+        assert cursor.fetchall() == [(datetime.date(2025, 3, 14), "bolt", Decimal("12.50"))]
+        query = "/* é */ select count(*) from facts where day = ? and colour = ?;"
+        assert rest_of(error_of(cursor, query, ["2025-03-14", 1])) == b"colour = 1;"

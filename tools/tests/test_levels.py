@@ -8,8 +8,7 @@ from unittest import mock
 import cubetree
 from cubetree import sessions
 from cubetree.runs import program
-from test_cubetree import SCHEMA
-from tests.case import Case, ask
+from tests.helpers import Case, SCHEMA, ask
 
 FACTS = [("bolt", 1997, 5), ("nut", 1997, -2), ("bolt", 1998, 4)]
 STEEL = {"bolt": "steel", "nut": "steel"}

@@ -1,38 +1,14 @@
-"""Tests of the Python package over the built program: python3 -m unittest, in the folder of this file or where the package is installed."""
+"""Tests of the Python package."""
 import os
-import shutil
 import subprocess
-import sys
-import tempfile
 import time
-import unittest
 from typing import Any
 
-sys.dont_write_bytecode = True
 import cubetree
 from cubetree.runs import program
+from tests.helpers import SCHEMA, Room, live_format
 
-SCHEMA = "attr part text\nattr year number\nmeasure qty\nview part,year\nview year\nview\n"
 ROWS = [("bolt", 1997, 5), ("nut", 1997, -2), ("bolt", 1998, 4), ('a, "b"\nc', 1999, 12345678901234567890)]
-
-
-class Room(unittest.TestCase):
-    """A test in a room of its own, with an empty folder `w` for a warehouse."""
-
-    def setUp(self) -> None:
-        self.room = tempfile.mkdtemp()
-        self.addCleanup(shutil.rmtree, self.room)
-        self.addCleanup(os.chdir, os.getcwd())
-        os.chdir(self.room)
-        os.mkdir("w")
-
-
-def live_format(folder: str) -> int:
-    """The format of the pages of a warehouse, as its live body has it."""
-    with open(os.path.join(folder, "root"), "rb") as file:
-        root = file.read()
-    bodies = [root[1024 * slot : 1024 * slot + 1024] for slot in range(2) if root[2048 + slot : 2049 + slot] == b"\x01"]
-    return max(bodies, key=lambda body: body[16:24])[9]
 
 
 class Python(Room):

@@ -6,8 +6,7 @@ import signal
 import subprocess
 
 from cubetree.runs import program
-from test_cubetree import SCHEMA
-from tests.case import Case, TOOLS, ask, run
+from tests.helpers import Case, SCHEMA, TOOLS, ask, run
 
 
 class RefreshSlowly(Case):

@@ -2,12 +2,15 @@
 import csv
 import io
 import os
+import shutil
 import subprocess
+import tempfile
 import time
+import unittest
 from typing import Any, Callable
 
-from test_cubetree import Room
-
+KILLS = 20  # of each test that kills at random; the option --kills says another number
+SCHEMA = "attr part text\nattr year number\nmeasure qty\nview part,year\nview year\nview\n"
 
 HERE = os.path.dirname(os.path.dirname(os.path.realpath(__file__)))
 TOOLS = HERE if os.path.exists(os.path.join(HERE, "ask")) else "/usr/lib/cubetree"
@@ -43,6 +46,25 @@ def until(is_so: Callable[[], bool]) -> None:
 def wait_too_long(*_: Any) -> None:
     """Ends a test whose tools wait for each other."""
     raise AssertionError("the test took too long")
+
+
+class Room(unittest.TestCase):
+    """A test in a room of its own, with an empty folder `w` for a warehouse."""
+
+    def setUp(self) -> None:
+        self.room = tempfile.mkdtemp()
+        self.addCleanup(shutil.rmtree, self.room)
+        self.addCleanup(os.chdir, os.getcwd())
+        os.chdir(self.room)
+        os.mkdir("w")
+
+
+def live_format(folder: str) -> int:
+    """The format of the pages of a warehouse, as its live body has it."""
+    with open(os.path.join(folder, "root"), "rb") as file:
+        root = file.read()
+    bodies = [root[1024 * slot : 1024 * slot + 1024] for slot in range(2) if root[2048 + slot : 2049 + slot] == b"\x01"]
+    return max(bodies, key=lambda body: body[16:24])[9]
 
 
 class Case(Room):

@@ -10,11 +10,12 @@ import shutil
 import signal
 import sqlite3
 import subprocess
+from unittest import mock
 
-from cubetree import Fault, sessions
+from cubetree import Fault, intake, loader, sessions
 from cubetree.runs import program
-from test_cubetree import SCHEMA
-from tests.case import Case, TOOLS, ask, load, run
+from cubetree.words import Progress
+from tests.helpers import Case, SCHEMA, TOOLS, ask, load, run
 
 
 class LoadCsv(Case):
@@ -37,7 +38,7 @@ class LoadCsv(Case):
         self.put("schema", "attr part text\nmeasure qty\nview part\n")
         for number, (content, rows) in enumerate(self.ODD):
             with self.subTest(content[:40]):
-                words = ["--delimiter", ";"] if b";" in content else []
+                words = ["--yes"] if b"\xff" in content else []
                 os.mkdir(f"w{number}")
                 load("--schema", "schema", "--into", f"w{number}", *words, self.put("file", content))
                 answer = ask("--in", f"w{number}", "--csv", "sum(qty) by part")[0]
@@ -51,14 +52,15 @@ class LoadCsv(Case):
     REFUSED = [
         (b"", "there is no header line"),
         ("part,year,qty\n".encode("utf-16"), "it is UTF-16"),
-        (b"part,year,qty\na,1,1\nb,2\n", "row 2 (line 3) has 2 fields, and the header has 3"),
-        (b'part,year,qty\n"a"b,1,1\n', "line 2, behind row 0, is no csv"),
-        (b'part,year,qty\na,1,1\n"a,1,1\n', "line 3, behind row 1, is no csv: unexpected end of data"),
+        (b"part,year,qty\na,1,1\nb,2\n", "row 2 (line 3) has 2 fields, and the header has 3: --fill takes the missing ones as empty; the folder keeps 0 facts"),
+        (b'part,year,qty\n"a"b,1,1\n', "line 2, after row 0, is no csv"),
+        (b'part,year,qty\na,1,1\n"a,1,1\n', "the quote that opens in line 3 is not closed"),
+        (b"part,year,qty\nK\xf6ln,1,1\n", "line 2 has bytes that are not UTF-8: make the file UTF-8, by iconv -f cp1252 -t utf-8, or give --yes"),
         (b'part,year,qty\n"a\nb",1,1\n\nc,x,1\n', "row 2 (line 5) was refused: year is no whole number, or is out of range: 'x'; the folder keeps 0 facts"),
         (b"part,year,qty\na,1,\n", "row 1 (line 2) was refused: qty is no whole number"),
         (b"part,year,qty\n%s,1,1\n" % (b"x" * 256), "row 1 (line 2) was refused: part has more than 255 bytes"),
-        (b'part,year,qty\n"a\nend\nb",1,1\n', "row 1 (line 4) has a text with a line that is `end`"),
-        (b'part,year,qty\n"a\nend\r\nb",1,1\n', "row 1 (line 4) has a text with a line that is `end`"),
+        (b'part,year,qty\n"a\nend\nb",1,1\n', "row 1 (line 4) has a line that is `end`"),
+        (b'part,year,qty\n"a\nend\r\nb",1,1\n', "row 1 (line 4) has a line that is `end`"),
         (b"part,qty\na,1\n", "the header has no column for `year`; its columns are part, qty"),
     ]
 
@@ -78,11 +80,14 @@ class LoadCsv(Case):
         said = load("--schema", "schema", "--into", "w", "--batch", "3", "file", status=1)[1]
         self.assertIn("row 8 (line 9) was refused: year is no whole number, or is out of range: 'y'; the folder keeps 6 facts", said)
         self.put("file", faulty.replace("x,y,z", rows[7]))
-        self.assertIn("the folder has facts already", load("--into", "w", "file", status=1)[1])
-        self.assertEqual(load("--into", "w", "--go-on", "file")[1], "load-csv: 4 rows loaded; the folder keeps 10 facts\n")
-        self.assertEqual(load("--into", "w", "--go-on", "file")[1], "load-csv: 0 rows loaded; the folder keeps 10 facts\n")
+        self.assertEqual(load("--into", "w", "file")[1], "load-csv: 4 rows loaded, 6 were there already; the folder keeps 10 facts\n")
+        for words in ([], ["--go-on"], ["--number", "1"], ["--batch", "1"]):
+            said = load("--into", "w", *words, "file")[1]
+            self.assertIn("load-csv: 0 rows loaded, 10 were there already; the folder keeps 10 facts", said)
         self.assertEqual(self.rows("count,sum(qty)"), [["10", "45"]])
-        load("--into", "w", "--from-row", "9", "file")
+        said = load("--into", "w", "--from-row", "9", "file", status=6)[1]
+        self.assertIn("the folder has rows of it already, from row 1 to 10 (batches 1 to 3): --number 4 --from-row 9 adds its rows from 9 on", said)
+        load("--into", "w", "--number", "4", "--from-row", "9", "file")
         self.assertEqual(self.rows("count,sum(qty)"), [["12", "62"]])
 
     def test_two_faults(self):
@@ -92,7 +97,7 @@ class LoadCsv(Case):
         said = load("--schema", "schema", "--into", "w", "--batch", "1", "file", status=1)[1]
         self.assertIn("row 2 (line 3) was refused: year is no whole number, or is out of range: 'x'; the folder keeps 1 fact", said)
         self.put("file", "part,year,qty\na,1,1\nb,2,1\nc,1\n")
-        self.assertIn("row 3 (line 4) has 2 fields, and the header has 3; the folder keeps 1 fact", load("--into", "w", "--batch", "1", "--go-on", "file", status=1)[1])
+        self.assertIn("row 3 (line 4) has 2 fields, and the header has 3: --fill takes the missing ones as empty; the folder keeps 2 facts", load("--into", "w", "--batch", "1", "file", status=1)[1])
 
     def test_limits(self):
         self.put("schema", "attr part text max 2\nmeasure qty\nview part\n")
@@ -100,7 +105,7 @@ class LoadCsv(Case):
         said = load("--schema", "schema", "--into", "w", "--batch", "2", "file", status=1)[1]
         self.assertIn("rows 3 to 3 were refused: refused names part; the folder keeps 2 facts", said)
         self.put("other", "# mine\nschema\nattr part text max 3\nmeasure qty\nview part\nend\n")
-        self.assertIn("the folder has another schema than other: give a new folder; ", load("--schema", "other", "--into", "w", "--go-on", "file", status=1)[1])
+        self.assertIn("the folder has another schema than other: give a new folder; ", load("--schema", "other", "--into", "w", "file", status=1)[1])
         os.mkdir("v")
         self.put("faulty", "attr part text\n# of what\nmeasure QTY\nview part\n")
         self.put("file", "part,qty\n")
@@ -110,85 +115,92 @@ class LoadCsv(Case):
         self.assertIn("the schema was refused: refused schema repeated 4: view part,part", load("--schema", "faulty", "--into", "v", "file", status=1)[1])
 
     def test_proposal(self):
-        rows = [f"{i % 7:03},{i % 9},{i},{-(i % 2)},12.5" for i in range(1200)]
-        self.put("file", "\n".join(["Zip code,Shop,Id,Sign,Price", *rows]))
+        """What is proposed is declared, and a slice is answered."""
+        self.put("file", "Zip code,Shop,Price\n" + "".join(f"{i % 7:03},{i % 9},{i}.5\n" for i in range(200)))
         lines = load("--propose", "file")[0].splitlines()
-        self.assertIn("# price: 1 different value; --cents price makes it a measure", lines)
-        self.assertIn("# to sum a number attribute: --sum NAME makes it a measure", lines)
-        self.assertIn("# zip_code: 7 different values", lines)
-        lines = [line for line in lines if not line.startswith("#")]
-        attributes = ["attr zip_code text", "attr shop number", "attr price text"]
-        views = ["view zip_code,shop,price", "view zip_code", "view shop", "view price", "view"]
-        self.assertEqual(lines, ["schema", *attributes, "measure id", "measure sign", *views, "end"])
-        self.put("file", "a,a,7th,\nx,y,z,v\n")
-        lines = load("--propose", "file")[0].splitlines()
-        self.assertEqual([line.split()[1] for line in lines if line.startswith("attr")], ["a", "a_2", "column_7th", "column_4"])
-        self.assertIn("measure one", lines)
+        declared = [line for line in lines if not line.startswith("#")]
+        views = ["view zip_code,shop", "view zip_code", "view shop", "view"]
+        self.assertEqual(declared, ["schema", "attr zip_code text", "attr shop number", "measure price", *views, "end"])
         load("--into", "w", "file")
-        self.assertEqual(self.rows("sum(one) by a"), [["x", "1"]])
-        for content, line in [
-            ("k,n,m\nx,1,4\n", "# m: 1 different value, 4 to 4; the last column of numbers, so taken as the measure"),
-            ("k,n\nx,1\n", "# n: 1 different value, 1 to 1"),
-            ("k,n\n2025-03,1\n2025-04,1\n", "# k: 2 different values; --dates k makes it a number, for ranges"),
-            ("k,n\n2025-03,1\nx,1\n", "# k: 2 different values"),
-            ("k,n\n1.125,1\n2,1\n", "# k: 2 different values; as whole numbers it could be a measure"),
-            ("k,n\n099,1\n1250,1\n", "# k: 2 different values; as whole numbers without leading zeros it could be a measure"),
-            ("k,n\n,1\n1250,1\n", "# k: 2 different values; as whole numbers it could be a measure: write 0 in empty fields"),
-            (b"k,n\nB\xfcro,1\n", "# k: 1 different value; not in UTF-8: try iconv -f cp1252 -t utf-8"),
-            ("k;n\nx;1\n", "# one column: try --delimiter ';'"),
-            ("k\tn\nx\t1\n", "# one column: try --delimiter tab"),
-        ]:
-            self.assertIn(line, load("--propose", self.put("file", content))[0].splitlines())
-        self.assertIn("the header has 1: try --delimiter ';'\n", load("--propose", self.put("file", "k;n\nx;1,5\n"), status=1)[1])
-        self.assertIn("no rows behind the header", load("--propose", self.put("file", "a,b\n"), status=1)[1])
+        self.assertEqual(self.rows("sum(price),count where zip_code=003 and shop=3"), [["392.0", "4"]])
+        self.put("file", "a,a,7th,\nx,y,z,v\n")
+        os.mkdir("v")
+        load("--into", "v", "file")
+        self.assertEqual(ask("--in", "v", "--csv", "sum(one) by a,a_2,column_7th,column_4")[0].splitlines()[1], "x,y,z,v,1")
 
     def test_amounts_and_dates(self):
-        """Amounts are read as cents and dates as numbers, by a proposal and by a load; what is neither is refused by its place."""
+        """A folder keeps what its columns are, and each later load and answer has it so."""
         self.put("file", "Day,Month,Fee\n2025-03-14,2025-03,12.50\n2025-03-15,2025-03,-0.8\n2025-04-01,2025-04,12\n")
         words = ["--cents", "Fee", "--dates", "Day,month"]
         lines = [line for line in load(*words, "--propose", "file")[0].splitlines() if not line.startswith("#")]
-        self.assertEqual(lines, ["schema", "attr day number", "attr month number", "measure fee", "view day,month", "view day", "view month", "view", "end"])
+        views = ["view day,month", "view day", "view month", "view"]
+        self.assertEqual(lines, ["schema", "attr day number", "attr month number", "measure fee", *views, "end"])
         load(*words, "--into", "w", "file")
-        self.assertEqual(self.rows("sum(fee),min(fee) by month where day=20250301..20250401"), [["202503", "1170", "-80"], ["202504", "1200", "1200"]])
-        days = "".join(f"{1000 + number}-01-01,{number}\n" for number in range(1001))
-        self.assertIn("attr day number", load("--dates", "day", "--propose", self.put("many", "day,n\n" + days))[0].splitlines())
-        for form, text, why in [
-            ("--cents", "12.505", "no amount like 12.50"),
-            ("--cents", "1,234.50", "no amount like 12.50"),
-            ("--cents", "", "no amount like 12.50"),
-            ("--dates", "14.3.2025", "no date like 2025-03-14 or 2025-03"),
-            ("--dates", "2025", "no date like 2025-03-14 or 2025-03"),
+        wanted = [["2025-03", "11.70", "-0.80"], ["2025-04", "12.00", "12.00"]]
+        self.assertEqual(self.rows("sum(fee),min(fee) by month where day=2025-03..2025-04-01"), wanted)
+        self.assertEqual(self.rows("sum(fee) by day where day=20250314"), [["2025-03-14", "12.50"]])
+        self.assertEqual(ask("--in", "w", "--raw", "--csv", "sum(fee) by day where month=202504")[0], "day,sum(fee)\n20250401,1200\n")
+        # Amounts that happen to be whole are amounts all the same, without a word.
+        self.put("whole", "day,month,fee\n2025-04-02,2025-04,3\n")
+        load("--into", "w", "whole")
+        self.assertEqual(self.rows("sum(fee) where day=2025-04-02"), [["3.00"]])
+        self.put("more", "day,month,fee\n2025-04-02,2025-04,1\n2025-04-02,2025-04,1e3x\n")
+        said = load("--into", "w", "more", status=1)[1]
+        self.assertIn("more: row 2 (line 3): fee is no amount like 12.50: '1e3x'; the folder keeps 4 facts", said)
+        for words, said in [
+            (["--decimals", "fee=3"], "fee has amounts of 2 decimals in this folder, and not amounts of 3 decimals"),
+            (["--dates", "day=DMY"], "day has days in the order YMD in this folder, and not days in the order DMY"),
+            (["--cents", "day"], "day has days in the order YMD in this folder, and not amounts of 2 decimals"),
         ]:
-            said = load(form, "k", "--delimiter", ";", "--propose", self.put("odd", f'k;n\n"{text}";1\n'), status=1)[1]
-            self.assertIn(f"odd: row 1 (line 2): k is {why}: {text!r}", said)
-        self.put("more", "day,month,fee\n2025-04-02,2025-04,1\n2025-04-02,2025-04,1e3\n")
-        self.assertIn("row 2 (line 3): fee is no amount like 12.50: '1e3'; the folder keeps 3 facts", load(*words, "--into", "w", "--from-row", "1", "more", status=1)[1])
-        self.assertEqual(self.rows("count"), [["3"]])
+            self.assertIn(said, load(*words, "--into", "w", "whole", status=1)[1])
+        load("--cents", "fee", "--dates", "day", "--into", "w", "whole")
+        self.assertEqual(self.rows("count"), [["4"]])
         self.assertIn("no column for `Free`; its columns are day, month, fee", load("--cents", "Free", "--propose", "file", status=1)[1])
-        self.assertIn("a column has dates, or is summed, and not both: fee", load("--cents", "fee", "--dates", "fee", "--propose", "file", status=1)[1])
-        self.put("german", "k;fee\nx;12,50\n")
-        self.assertIn("# fee: 1 different value, 1250 to 1250, in cents", load("--cents", "fee", "--delimiter", ";", "--propose", "german")[0].splitlines())
+        self.assertIn("a column has one kind: --decimals, --cents or --dates", load("--cents", "fee", "--dates", "fee", "--propose", "file", status=1)[1])
+        said = ask("--in", "w", "count where day=2025-02-30", status=1)[1]
+        self.assertIn("refused value 17: day has days: 2025-03-14, 2025-03, or 2025-03-14..2025-04-13\n", said)
+
+    def test_whole_numbers_stay_whole(self):
+        """A folder whose first file had whole numbers refuses decimals by their row, and words that would make them cents."""
+        self.put("schema", "attr part text\nmeasure qty\nview part\n")
+        self.put("file", "part,qty\na,3\n")
+        load("--schema", "schema", "--into", "w", "file")
+        self.assertIn("qty has whole numbers in this folder, and not amounts of 2 decimals", load("--cents", "qty", "--into", "w", "file", status=1)[1])
+        self.put("more", "part,qty\na,12.50\n")
+        said = load("--into", "w", "more", status=1)[1]
+        self.assertIn("qty is no whole number, or is out of range: '12.50'; in a new folder, --decimals qty=2 reads it; the folder keeps 1 fact", said)
+
+    def test_folder_of_older_tools(self):
+        """It has no file of columns or batches: what the words say is kept from then on, and rows that may be there are not loaded again."""
+        run(program(), given=b"schema\nattr part text\nmeasure fee\nview part\nend\nload\na,1250\nend\n", cwd="w")
+        self.put("file", "part,fee\na,12.50\n")
+        said = load("--cents", "fee", "--into", "w", "file", status=6)[1]
+        self.assertIn("it is not known which rows 1 fact of the folder had, so rows of this source may be among them: --number 1 loads all its rows", said)
+        load("--into", "w", "--number", "1", "file")
+        self.assertEqual(self.rows("sum(fee)"), [["25.00"]])
+        self.put("file", "part,fee\na,12.50\nb,1\n")
+        self.assertIn("1 row loaded, 1 was there already", load("--into", "w", "file")[1])
+        self.assertEqual(self.rows("sum(fee)"), [["26.00"]])
 
     def test_summed_columns(self):
-        """A column of few numbers is a measure where that is wanted, also beside others."""
+        """A column of few numbers is a measure if that is wanted, also beside others."""
         self.put("file", "kind,pieces,year,weight\nx,3,1999,7\ny,4,1999,8\n")
         lines = [line for line in load("--sum", "Pieces,weight", "--propose", "file")[0].splitlines() if not line.startswith("#")]
         self.assertEqual(lines, ["schema", "attr kind text", "attr year number", "measure pieces", "measure weight", "view kind,year", "view kind", "view year", "view", "end"])
         load("--sum", "pieces", "--into", "w", "file")
         self.assertEqual(self.rows("sum(pieces),min(pieces)"), [["7", "3"]])
-        self.assertIn("kind cannot be summed: not all of its values are whole numbers", load("--sum", "kind", "--propose", "file", status=1)[1])
+        self.assertIn("kind cannot be summed: not all of its values are numbers", load("--sum", "kind", "--propose", "file", status=1)[1])
         load("--sum", "pieces", "--schema", "schema", "file", status=2)
 
     def test_great_numbers(self):
-        """A column of numbers up to 2^63 - 1 may be an attribute, and one with a greater number is a measure."""
+        """A column of numbers up to 2^63 - 1 may be an attribute, and one with a greater number not."""
         rows = [f"{4294967294 + i},{(1 << 63) - 1 - i},{(1 << 63) - i}" for i in range(3)]
         self.put("file", "\n".join(["Call,Id,Past", *rows, ""]))
-        lines = [line for line in load("--propose", "file")[0].splitlines() if not line.startswith(("#", "view"))]
-        self.assertEqual(lines, ["schema", "attr call number", "attr id number", "measure past", "end"])
-        self.assertEqual(load("--into", "w", "file")[1].splitlines()[-1], "load-csv: 3 rows loaded; the folder keeps 3 facts")
+        self.put("schema", "attr call number\nattr id number\nmeasure past\nview call,id\n")
+        self.assertEqual(load("--schema", "schema", "--into", "w", "file")[1].splitlines()[-1], "load-csv: 3 rows loaded; the folder keeps 3 facts")
         self.assertEqual(self.rows("sum(past) by call,id where call=4294967295..9223372036854775807"), [row.split(",") for row in rows[1:]])
         self.put("file", f"call,id,past\n1,{1 << 63},1\n")
-        said = load("--into", "w", "--from-row", "1", "file", status=1)[1]
+        said = load("--into", "w", "--number", "2", "file", status=1)[1]
         self.assertIn("row 1 (line 2) was refused: id is no whole number, or is out of range: '9223372036854775808'; the folder keeps 3 facts", said)
 
     def test_cut_and_started_again(self):
@@ -199,7 +211,7 @@ class LoadCsv(Case):
         self.put("schema", SCHEMA)
         self.put("killed", f"#!/bin/sh\nexec timeout -s KILL 0.3 {program()}\n")
         os.chmod("killed", 0o755)
-        for way in (["--go-on"], ["--number", "1"]):
+        for way in ([], ["--number", "1"]):
             with self.subTest(way):
                 shutil.rmtree("w")
                 os.mkdir("w")
@@ -244,25 +256,36 @@ class LoadCsv(Case):
         for replies in ("committed 15\ncommitted 19\ncommitted 21\n", "already 5\nalready 6\nalready 7\n"):
             self.assertEqual(run(program(), given=script.encode(), cwd="w")[0], "refused declared\n" + replies)
         self.assertEqual(self.rows("count,sum(qty)"), [["21", "1090"]])
+        said = load("--into", "w", "file", status=6)[1]
+        self.assertIn("it is not known which rows batch 5 of the folder had", said)
         self.assertEqual(load("--into", "w", "--number", "8", self.put("empty", "part,year,qty\n"))[1], "load-csv: 0 rows loaded; the folder keeps 21 facts; the next number is 8\n")
 
     def test_limits_of_scripts_and_blocks(self):
         """With smaller limits: a block is cut by its bytes, and a new run begins before a script is too long."""
-        loader = importlib.machinery.SourceFileLoader("load_csv", os.path.join(TOOLS, "load-csv"))
-        module = importlib.util.module_from_spec(importlib.util.spec_from_loader("load_csv", loader))
-        loader.exec_module(module)
-        module.MOST_BYTES, module.MOST_OF_A_SCRIPT, sessions.MOST_OF_A_SCRIPT = 40, 264, 264
         self.put("schema", SCHEMA)
         self.put("file", "part,year,qty\n" + "".join(f"p{i},1999,{i}\n" for i in range(30)))
-        options = module.options_of(["--schema", "schema", "--into", "w", "file"])
-        with contextlib.redirect_stderr(io.StringIO()) as told:
-            module.load_into(options, module.Table("file", ","), module.Progress())
+        options = loader.Options(loader.Reading(), loader.Meanings(), schema="schema")
+        with mock.patch.object(intake, "MOST_BYTES", 40), mock.patch.object(sessions, "MOST_OF_A_SCRIPT", 264):
+            with contextlib.redirect_stderr(io.StringIO()) as told:
+                loader.load_files("w", ["file"], options, True, Progress())
         self.assertEqual(told.getvalue(), "load-csv: 30 rows loaded; the folder keeps 30 facts\n")
         self.assertEqual(self.rows("count,sum(qty)"), [["30", "435"]])
-        options = module.options_of(["--schema", "schema", "file"])
-        with self.assertRaisesRegex(Fault, "before row"), contextlib.redirect_stdout(io.TextIOWrapper(io.BytesIO())):
-            module.MOST_OF_A_SCRIPT = 1 << 16
-            module.write_script(options, module.Table("file", ","), module.Progress())
+        with open("w/.batches") as record:
+            sizes = [int(line.split()[3]) for line in record]
+        # A row has 10 bytes, or 11 from p10 on: three of them go into 40 bytes, or four.
+        self.assertEqual(sizes, [4, 4, *[3] * 7, 1])
+
+    def test_long_script(self):
+        """A script that would pass 2^30 bytes ends with a fault that says how to go on."""
+        found = importlib.machinery.SourceFileLoader("load_csv", os.path.join(TOOLS, "load-csv"))
+        module = importlib.util.module_from_spec(importlib.util.spec_from_loader("load_csv", found))
+        found.exec_module(module)
+        self.put("schema", SCHEMA)
+        self.put("file", "part,year,qty\na,1999,1\n")
+        words = module.words_of(["--schema", "schema", "--number", "7", "file"])
+        with mock.patch.object(module, "MOST_OF_A_SCRIPT", 1 << 16), contextlib.redirect_stdout(io.TextIOWrapper(io.BytesIO())):
+            with self.assertRaisesRegex(Fault, "ends before row 1; use --into, or --from-row for another script, with --number 7"):
+                module.write_script("file", module.options_of(words), Progress())
 
     def test_words(self):
         for words in ([], ["--batch", "0", "f"], ["--go-on", "f"], ["--from-row", "0", "f"], ["--number", "0", "f"], ["--delimiter", "xx", "f"], ["--never", "f"]):

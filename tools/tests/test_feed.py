@@ -22,19 +22,17 @@ from cubetree.runs import Run, program
 from cubetree.sender import Sender
 from cubetree.sources import Stream
 from cubetree.spool import Place, Spool, spool_folder
-from test_cubetree import SCHEMA
-from tests.case import Case, TOOLS, run, until, wait_too_long
+from tests import helpers
+from tests.helpers import Case, SCHEMA, TOOLS, load, run, until, wait_too_long
 
 
 class Feeding(Case):
     """tools/feed: rows that come one by one."""
 
-    KILLS = 20
-
     def setUp(self) -> None:
         super().setUp()
         signal.signal(signal.SIGALRM, wait_too_long)
-        signal.alarm(300 + 3 * self.KILLS)
+        signal.alarm(300 + 3 * helpers.KILLS)
         self.addCleanup(signal.alarm, 0)
         run(program(), given=f"schema\n{SCHEMA}end\n".encode(), cwd="w")
 
@@ -196,7 +194,7 @@ class Feeding(Case):
         draw = random.Random(49)
         words, ends, lines = ["--every", "0.05", "--rows", "400", "log"], [], []
         self.put("log", "")
-        for number in range(self.KILLS):
+        for number in range(helpers.KILLS):
             feed = self.start(*words)
             for _ in range(draw.randrange(1, 4)):
                 rows = [f"p{draw.randrange(300)},{draw.randrange(1990, 2020)},{draw.randrange(-99, 1000)}" for _ in range(draw.randrange(200))]
@@ -257,7 +255,7 @@ runpy.run_path(sys.argv[0], run_name="__main__")
         bad = [row for row in rows if ",x" in row or "p049," in row]
         words = ["--into", "w", "--rows", "1"]
         os.rename("w", "empty")
-        for call in range(0, 200, 1 if self.KILLS >= 200 else 4):
+        for call in range(0, 200, 1 if helpers.KILLS >= 200 else 4):
             shutil.rmtree("w", ignore_errors=True)
             shutil.copytree("empty", "w")
             with open("rows", "rb") as file:
@@ -467,7 +465,10 @@ runpy.run_path(sys.argv[0], run_name="__main__")
              mock.patch("os.remove", lambda path: (remove(path), calls.append(f"remove {os.path.basename(path)}"))[0]), \
              mock.patch.object(Run, "send", lambda run, command: (calls.append(command.decode().split("\n")[0]), send(run, command))[1]):
             sender.send(spool.seal())
-        self.assertEqual(calls, ["sync batch", "rename sealed", "rename gathered", "sync next", "rename sending.1", "sync spool", "load 1", "remove sending.1"])
+        self.assertEqual(calls, [
+            "sync batch", "rename sealed", "rename gathered", "sync next", "rename sending.1", "sync spool",
+            "sync next", "rename .batches", "sync next", "load 1", "remove sending.1",
+        ])
         self.assertEqual(self.kept(), [["a", "3"]])
 
     def test_torn_piece(self) -> None:
@@ -511,16 +512,53 @@ runpy.run_path(sys.argv[0], run_name="__main__")
 
     def test_program_that_ends_early(self) -> None:
         """The batch stays in the spool with its number, and the same words go on."""
-        self.put("stub", f"#!/bin/sh\nfor i in 1 2 3; do IFS= read -r line; echo \"$line\"; done | {program()}\nkill -9 $$\n")
-        os.chmod("stub", 0o755)
-        said = self.feed(given=b"a,1,1\n", status=3, env=dict(os.environ, CUBETREE=os.path.abspath("stub")))
-        self.assertRegex(said, "feed: the program ended with the status -9; what was read stands in the spool .*, and the same words go on\n")
-        self.assertIn("sending.1", os.listdir("w/.feed"))
+        self.cut_off(b"a,1,1\n")
         os.rename("w/.feed/sending.1", "w/.feed/sending.5")
         self.assertRegex(self.feed(given=b"", status=1), "feed: batch 5 stands in the spool .*, and w has no batch 1: it was set back; ")
         os.rename("w/.feed/sending.5", "w/.feed/sending.1")
         self.assertIn("feed: 2 rows sent; the folder keeps 2 facts", self.feed(given=b"b,1,1\n"))
         self.assertEqual(os.listdir("w/.feed"), ["gathered"])
+
+    def test_number_of_another(self) -> None:
+        """A batch whose number others took meanwhile is sent under the next one, also if their rows
+        are the same."""
+        self.cut_off(b"a,1,1\n")
+        self.put("file", "part,year,qty\na,1,1\n")
+        load("--into", "w", "file")
+        said = self.feed(given=b"b,1,1\n")
+        self.assertRegex(said, "batch 1 has rows of .*/file; this one becomes batch 2\n")
+        self.assertEqual(self.kept(), [["a", "2"], ["b", "1"]])
+
+    def test_acknowledged_and_not_dropped(self) -> None:
+        """A batch that counts already is not sent under another number."""
+        self.cut_off(b"a,1,1\n")
+        shutil.copy("w/.feed/sending.1", "again")
+        self.assertIn("1 row sent", self.feed(given=b""))
+        shutil.copy("again", "w/.feed/sending.1")
+        self.feed(given=b"")
+        self.assertEqual(self.kept(), [["a", "1"]])
+        os.remove("w/.batches")
+        shutil.copy("again", "w/.feed/sending.1")
+        self.assertIn("batch 1 counts already; w has no record of its rows\n", self.feed(given=b""))
+        self.assertEqual(self.kept(), [["a", "1"]])
+
+    def cut_off(self, rows: bytes) -> None:
+        """A feed whose program ends before it gets the rows, which are in `sending.1` then."""
+        self.put("stub", f"#!/bin/sh\nfor i in 1 2 3; do IFS= read -r line; echo \"$line\"; done | {program()}\nkill -9 $$\n")
+        os.chmod("stub", 0o755)
+        said = self.feed(given=rows, status=3, env=dict(os.environ, CUBETREE=os.path.abspath("stub")))
+        self.assertRegex(said, "feed: the program ended with the status -9; what was read stands in the spool .*, and the same words go on\n")
+        self.assertEqual(sorted(os.listdir("w/.feed")), ["gathered", "sending.1"])
+
+    def test_kinds_of_columns(self) -> None:
+        """Rows have amounts and dates as the folder's csv files had them."""
+        self.put("file", "part,year,qty\na,2025-03-01,1.50\n")
+        load("--into", "w", "--decimals", "qty=2", "--dates", "year", "file")
+        self.feed(given=b"a,2025-03-02,2\na,2025-03-02,0.255\na,1,1\nb,2025-02-30,1\n", status=1)
+        self.assertEqual(self.rows("sum(qty) by part,year"), [["a", "2025-03-01", "1.50"], ["a", "2025-03-02", "2.00"]])
+        self.assertEqual([row[1] for row in self.refused()], ["a,2025-03-02,0.255", "a,1,1", "b,2025-02-30,1"])
+        for reason, *_ in self.refused():
+            self.assertRegex(reason, "qty is|year is")
 
     def test_turns(self) -> None:
         """Two feeds of a folder exclude each other, and one that waits for its turn goes on reading."""
