@@ -7,15 +7,16 @@ would count twice.
 """
 import hashlib
 from dataclasses import dataclass, field
+from operator import eq
 from typing import Dict, Iterator, List, NamedTuple, Optional, Sequence
 
 from .batches import Loaded, Noted, Record
 from .errors import Changed, Fault
 from .words import counted
 
-
 INPUT = "-"  # the source that is standard input
 FRONT_DIGITS = 8  # of a sum in the fronts of a batch
+ALIKE = 64  # rows at the front that two files hardly have in common by chance
 
 
 class Piece(NamedTuple):
@@ -195,8 +196,9 @@ def fronts_of(pieces: Sequence[Piece]) -> "tuple[str, ...]":
 
 
 def expect_no_rows(rows: Rows, start: Start) -> None:
-    """A Changed if the source begins with rows that another load has brought, or if it is shorter
-    than the first batch of that load, and its first rows up to a power of two are the same."""
+    """A Changed if the source begins with the rows of another load's first batch, or with as many
+    of them as two files hardly have in common by chance, or if it is shorter than that batch and
+    its first rows up to a power of two are the same."""
     if not start.others:
         return
     whole: Dict[int, Dict[str, Loaded]] = {}
@@ -215,8 +217,10 @@ def expect_no_rows(rows: Rows, start: Start) -> None:
             sums.append(found[:FRONT_DIGITS])
     for load in start.others:
         batch = load.batches[0]
-        if sums and len(fronts.taken) < batch.rows and batch.fronts[len(sums) - 1 :][:1] == (sums[-1],):
-            raise Changed(came_already(1 << (len(sums) - 1), load, start, is_whole=False))
+        common = 1 << sum(map(eq, sums, batch.fronts)) >> 1
+        is_a_part = len(fronts.taken) < batch.rows and common == 1 << len(sums) >> 1
+        if common and (is_a_part or common >= ALIKE):
+            raise Changed(came_already(common, load, start, is_whole=False))
     rows.give_back(Piece(fronts.taken, fronts.lines))
 
 

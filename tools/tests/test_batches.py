@@ -160,6 +160,21 @@ def test_shorter_file(folder: Folder) -> None:
     assert folder.facts == 13
 
 
+def test_copy_with_other_rows(folder: Folder) -> None:
+    """A file under another name whose first 64 rows came already, and which then differs."""
+    rows = rows_of("a", 200)
+    folder.load(rows, Words("f"), 200)
+    for same, said in [(64, 64), (127, 64), (128, 128), (199, 128)]:
+        with pytest.raises(Changed, match=f"^its first {said} rows came already in batch 1, from f:"):
+            folder.load(rows[:same] + rows_of("b", 200 - same), Words("i"))
+        with pytest.raises(Changed, match=f"^its first {said} rows came already in batch 1, from f:"):
+            folder.load(rows[:same] + rows_of("b", 300), Words("i"))
+    assert folder.facts == 200
+    assert folder.load(rows[:63] + rows_of("b", 200), Words("i"), 300) == 0
+    assert folder.load(rows[:64] + rows_of("b", 200), Words("k", 3, 1), 300) == 0
+    assert folder.facts == 727
+
+
 def test_numbers(folder: Folder) -> None:
     """A number that counts has to have the same rows, one that is due takes new ones."""
     folder.load(rows_of("a", 6), Words("f", 1), 4)
