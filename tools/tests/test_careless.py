@@ -184,7 +184,11 @@ def test_interrupt(room: Path) -> None:
     """Ctrl-C ends a load with what to type next, and the next load goes on."""
     Path("file").write_text("part,year,qty\n" + "".join(f"p{number},1999,1\n" for number in range(30_000)))
     words = ["--schema", "schema", "--into", "w", "--batch", "50", "file"]
-    begun = subprocess.Popen([os.path.join(TOOLS, "load-csv"), *words], stderr=subprocess.PIPE, start_new_session=True)
+    begun = subprocess.Popen(
+        [os.path.join(TOOLS, "load-csv"), *words], stderr=subprocess.PIPE, start_new_session=True,
+        # A shell that runs the tests in the background has the signal ignored.
+        preexec_fn=lambda: signal.signal(signal.SIGINT, signal.SIG_DFL),
+    )
     until(lambda: os.path.exists("w/.batches"))
     os.killpg(begun.pid, signal.SIGINT)
     said = begun.communicate(timeout=60)[1].decode()
