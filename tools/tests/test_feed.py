@@ -551,14 +551,18 @@ runpy.run_path(sys.argv[0], run_name="__main__")
         self.assertEqual(sorted(os.listdir("w/.feed")), ["gathered", "sending.1"])
 
     def test_kinds_of_columns(self) -> None:
-        """Rows have amounts and dates as the folder's csv files had them."""
+        """Rows have amounts, dates and cells without a value as the folder's csv files had them."""
         self.put("file", "part,year,qty\na,2025-03-01,1.50\n")
-        load("--into", "w", "--decimals", "qty=2", "--dates", "year", "file")
-        self.feed(given=b"a,2025-03-02,2\na,2025-03-02,0.255\na,1,1\nb,2025-02-30,1\n", status=1)
-        self.assertEqual(self.rows("sum(qty) by part,year"), [["a", "2025-03-01", "1.50"], ["a", "2025-03-02", "2.00"]])
-        self.assertEqual([row[1] for row in self.refused()], ["a,2025-03-02,0.255", "a,1,1", "b,2025-02-30,1"])
+        load("--into", "w", "--decimals", "qty=2", "--dates", "year", "--na", "NA", "file")
+        rows = [b"a,2025-03-02,2", b"NA,2025-03-03,NA", b"a,2025-03-02,0.255", b"a,1,1", b"b,2025-02-30,1", b"a,1"]
+        self.feed(given=b"\n".join(rows) + b"\n", status=1)
+        self.assertEqual(
+            self.rows("sum(qty) by part,year"),
+            [["", "2025-03-03", "0.00"], ["a", "2025-03-01", "1.50"], ["a", "2025-03-02", "2.00"]],
+        )
+        self.assertEqual([row[1].encode() for row in self.refused()], rows[2:])
         for reason, *_ in self.refused():
-            self.assertRegex(reason, "qty is|year is")
+            self.assertRegex(reason, "qty is|year is|fields")
 
     def test_turns(self) -> None:
         """Two feeds of a folder exclude each other, and one that waits for its turn goes on reading."""
