@@ -214,6 +214,20 @@ class Record:
                 self.old[-1] = (self.old[-1][0], number)
             else:
                 self.old.append((number, number))
+        self.write_anew()
+
+    def forget(self, number: int) -> None:
+        """Drops the lines of batches from a number on, which were taken back."""
+        gone = [each for each in self.noted if each >= number]
+        for each in gone:
+            del self.noted[each]
+        self.due = min(self.due, number)
+        self.begins = min(self.begins, number)
+        if self.is_there and gone:
+            self.write_anew()
+
+    def write_anew(self) -> None:
+        """Writes all lines anew."""
         texts = [f"from {self.begins}"] if self.begins else []
         texts += [f"old {first} {last}" for first, last in self.old]
         texts += ["same " + json.dumps(pair) for pair in self.others.items()]

@@ -1,4 +1,5 @@
-"""What the tools read of the files of a warehouse that has a schema: the live body of the root, and the names (docs/FORMATS.md has the bytes)."""
+"""What the tools read of the files of a warehouse that has a schema: the bodies of the root, and the
+names (docs/FORMATS.md has the bytes)."""
 import os
 from typing import Iterator, List, NamedTuple
 
@@ -6,11 +7,13 @@ from .errors import Fault
 from .forest import NARROW, WIDE
 
 BODY = 1024
+GATES = 2 * BODY  # where the gates of the slots stand in the root
 
 
 class Body(NamedTuple):
-    """The live body of the root: its slot, the format of the pages, how many bytes of the file `names` are the schema's and how many count, the facts,
-    the masses of the measures, and the points of the views."""
+    """A body of the root: its slot, the format of the pages, how many bytes of the file `names` are
+    the schema's and how many count, the facts, the masses of the measures, the points of the views,
+    the generation, and the number of the last numbered batch."""
 
     slot: int
     format: int
@@ -19,6 +22,8 @@ class Body(NamedTuple):
     facts: int
     masses: List[int]
     points: List[int]
+    generation: int
+    last: int
 
     def width(self) -> int:
         """The bytes of a coordinate."""
@@ -30,23 +35,38 @@ def number(text: bytes) -> int:
     return int.from_bytes(text, "big")
 
 
-def live_body(folder: str) -> Body:
-    """The live body of a folder, which the program has opened."""
+def body_of(text: bytes, slot: int) -> Body:
+    """What a body says that the program has accepted."""
+    masses = [number(text[place : place + 16]) for place in range(40, 104, 16)]
+    ends = range(104, 104 + 8 * number(text[10:12]), 8)
+    points = [number(text[place : place + 8]) for place in ends]
+    counts = (number(text[12:16]), number(text[24:32]), number(text[32:40]))
+    generation, last = number(text[16:24]), number(text[360:368])
+    return Body(slot, number(text[8:10]), *counts, masses, points, generation, last)
+
+
+def raised_bodies(folder: str) -> List[Body]:
+    """The bodies of the raised slots of a folder, which the program has opened."""
     with open(os.path.join(folder, "root"), "rb") as file:
-        root = file.read(2 * BODY + 2)
-    bodies = [(root[BODY * slot : BODY * (slot + 1)], slot) for slot in range(2) if root[2 * BODY + slot : 2 * BODY + slot + 1] == b"\1"]
-    raised = [(body, slot) for body, slot in bodies if body.startswith(b"CUBETREE")]
+        root = file.read(GATES + 2)
+    texts = [(root[BODY * slot : BODY * (slot + 1)], slot) for slot in range(2)]
+    raised = [
+        body_of(text, slot) for text, slot in texts
+        if root[GATES + slot : GATES + slot + 1] == b"\1" and text.startswith(b"CUBETREE")
+    ]
     if not raised:
         raise Fault(f"no schema is declared in {folder}")
-    body, slot = max(raised, key=lambda each: each[0][16:24])
-    views = number(body[10:12])
-    masses = [number(body[place : place + 16]) for place in range(40, 104, 16)]
-    points = [number(body[place : place + 8]) for place in range(104, 104 + 8 * views, 8)]
-    return Body(slot, number(body[8:10]), number(body[12:16]), number(body[24:32]), number(body[32:40]), masses, points)
+    return raised
+
+
+def live_body(folder: str) -> Body:
+    """The live body of a folder, which the program has opened."""
+    return max(raised_bodies(folder), key=lambda body: body.generation)
 
 
 def kept_names(folder: str, body: Body) -> "Iterator[tuple[int, bytes]]":
-    """Each name that the folder keeps, behind the number of its attribute, in the order in which they came."""
+    """Each name that the folder keeps, after the number of its attribute, in the order in which
+    they came."""
     with open(os.path.join(folder, "names"), "rb") as file:
         file.seek(body.text)
         left = body.names - body.text
