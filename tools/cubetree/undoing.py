@@ -17,7 +17,7 @@ from typing import NamedTuple, Optional
 
 from .audits import audit_of
 from .batches import Noted, Record
-from .errors import Fault
+from .errors import Damaged, Fault
 from .files import GATES, Body, raised_bodies
 from .runs import Run
 from .spool import entry_at
@@ -25,6 +25,10 @@ from .turns import Writer
 from .words import counted
 
 FILES = ("names", "side0", "side1")
+
+
+class Unsound(Fault):
+    """The pages of a folder break a rule."""
 
 
 class Change(NamedTuple):
@@ -50,7 +54,8 @@ class Change(NamedTuple):
             return f"the last batch, of {rows}"
         if noted is None:
             return f"batch {number}, of {rows}"
-        places = f"rows {noted.first:,} to {noted.first + noted.rows - 1:,} of " if noted.first else ""
+        last = noted.first + noted.rows - 1
+        places = f"rows {noted.first:,} to {last:,} of " if noted.first else ""
         return f"batch {number}, of {rows}: {places}{noted.source}"
 
 
@@ -66,12 +71,8 @@ class Undo:
                 self.facts = self.audited(folder)
                 self.change = change_of(folder)
                 self.expect_alone()
-                with tempfile.TemporaryDirectory() as room:
-                    self.make_without(room)
-                    if self.audited(room) != self.change.before.facts:
-                        raise Fault("nothing can be taken back: the batch before it is damaged")
-                number = self.change.live.last
-                self.record = Record(folder, number + 1, self.facts)
+                self.try_without()
+                self.record = Record(folder, self.change.live.last + 1, self.facts)
         except BaseException:
             self.turns.leave()
             raise
@@ -99,8 +100,19 @@ class Undo:
         if status == "no schema":
             raise Fault(f"no schema is declared in {self.folder}")
         if not audit_of(audit).is_sound:
-            raise Fault(f"{self.folder} is not sound, so nothing is taken back: see audit")
+            raise Unsound(f"{self.folder} is not sound, so nothing is taken back: see audit")
         return int(status.split()[1])
+
+    def try_without(self) -> None:
+        """Audits a folder as this one would be without the change."""
+        with tempfile.TemporaryDirectory() as room:
+            self.make_without(room)
+            try:
+                is_sound = self.audited(room) == self.change.before.facts
+            except (Unsound, Damaged):
+                is_sound = False
+        if not is_sound:
+            raise Unsound("nothing can be taken back: the batch before it is damaged")
 
     def expect_alone(self) -> None:
         """A fault if somebody would send the batch again, or if the folder is a part of shards."""

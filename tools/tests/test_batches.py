@@ -165,10 +165,9 @@ def test_copy_with_other_rows(folder: Folder) -> None:
     rows = rows_of("a", 200)
     folder.load(rows, Words("f"), 200)
     for same, said in [(64, 64), (127, 64), (128, 128), (199, 128)]:
-        with pytest.raises(Changed, match=f"^its first {said} rows came already in batch 1, from f:"):
-            folder.load(rows[:same] + rows_of("b", 200 - same), Words("i"))
-        with pytest.raises(Changed, match=f"^its first {said} rows came already in batch 1, from f:"):
-            folder.load(rows[:same] + rows_of("b", 300), Words("i"))
+        for others in (200 - same, 300):
+            with pytest.raises(Changed, match=f"^its first {said} rows came already in batch 1, f"):
+                folder.load(rows[:same] + rows_of("b", others), Words("i"))
     assert folder.facts == 200
     assert folder.load(rows[:63] + rows_of("b", 200), Words("i"), 300) == 0
     assert folder.load(rows[:64] + rows_of("b", 200), Words("k", 3, 1), 300) == 0

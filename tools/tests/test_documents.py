@@ -12,7 +12,7 @@ from cubetree.runs import TOP
 from tests.helpers import Case, TOOLS, run
 
 
-INSTALLED = ("ask", "load-csv", "refresh-slowly", "feed", "audit", "shards", "run-tour")
+INSTALLED = ("ask", "load-csv", "refresh-slowly", "feed", "audit", "undo", "shards", "run-tour")
 
 
 class Documents(Case):
