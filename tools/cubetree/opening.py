@@ -16,7 +16,6 @@ import subprocess
 import threading
 import zlib
 from contextlib import suppress
-from itertools import chain
 from typing import Callable, Iterator, Optional, Protocol, Union
 
 from .errors import Fault
@@ -165,13 +164,37 @@ class Lines:
     first line that has some is noted."""
 
     def __init__(self, stream: io.BufferedReader) -> None:
-        self.stream = stream
+        self.stream, self.left = stream, self.pieces()
+        self.part = io.StringIO()  # the piece whose lines are being read
+        self.next: Optional[bytes] = None  # the piece after it, if it was looked at
         self.before = 0  # lines of the pieces that were handed out
         self.odd_line: Optional[int] = None
         self.odd_lines = 0
 
     def __iter__(self) -> Iterator[str]:
-        return chain.from_iterable(map(self.lines_of, self.pieces()))
+        while piece := self.take():
+            self.part = io.StringIO(self.counted(piece), newline="")
+            yield from self.part
+
+    def take(self) -> bytes:
+        """The next piece; no bytes at the end."""
+        piece, self.next = self.next or next(self.left, b""), None
+        return piece
+
+    def peek(self) -> bytes:
+        """The next whole lines, which stay to be read; no bytes at the end."""
+        place = self.part.tell()
+        rest = self.part.read()
+        self.part.seek(place)
+        if rest:
+            return rest.encode("utf-8", "surrogateescape")
+        self.next = self.take()
+        return self.next
+
+    def pass_over(self) -> None:
+        """Passes over the lines that `peek` gave."""
+        if not self.part.read():
+            self.counted(self.take())
 
     def pieces(self) -> Iterator[bytes]:
         """Pieces of whole lines, without a byte order mark."""
@@ -186,15 +209,15 @@ class Lines:
         if rest:
             yield rest.removeprefix(MARK) if is_first else rest
 
-    def lines_of(self, piece: bytes) -> io.StringIO:
-        """The lines of a piece, which keep their ends."""
+    def counted(self, piece: bytes) -> str:
+        """The text of a piece, whose lines count as read from then on."""
         try:
             text = piece.decode()
         except UnicodeDecodeError:
             text = piece.decode("utf-8", "surrogateescape")
             self.note_odd(piece)
         self.before += len(piece.splitlines()) if b"\r" in piece else piece.count(b"\n")
-        return io.StringIO(text, newline="")
+        return text
 
     def note_odd(self, piece: bytes) -> None:
         """Notes the lines of a piece that are not UTF-8."""

@@ -6,7 +6,7 @@ import shutil
 import sys
 import tempfile
 from array import array
-from typing import Iterator, List, Optional
+from typing import Iterator, List, Optional, Sequence
 
 from .columns import Columns
 from .errors import Fault
@@ -21,6 +21,41 @@ ROWS = 10_000  # of a piece
 def pieces(table: Table, schema: Schema, most: int = ROWS) -> Iterator[Piece]:
     """The rows of a table, in pieces of at most some rows, which come as soon as they are there. If
     a row is faulty, those before it come first."""
+    if table.is_plain() and table.names == schema.columns():
+        yield from plain_pieces(table, most)
+    yield from csv_pieces(table, schema, most)
+
+
+def plain_pieces(table: Table, most: int) -> Iterator[Piece]:
+    """The rows as they stand, up to the first lines that `csv` has to read. They have the bytes
+    that `csv` would make of them."""
+    while text := table.text.peek():
+        lines = plain_lines(text, table.delimiter, len(table.names))
+        if lines is None:
+            return
+        table.text.pass_over()
+        places: Sequence[int] = range(table.line + 1, table.line + 1 + len(lines))
+        rows = list(filter(None, lines))
+        if len(rows) < len(lines):
+            places = array("Q", (place for place, line in zip(places, lines) if line))
+        table.go_on(table.row + len(rows), table.lines + len(lines))
+        for first in range(0, len(rows), most):
+            yield Piece(rows[first : first + most], places[first : first + most])
+
+
+def plain_lines(text: bytes, delimiter: str, width: int) -> Optional[List[bytes]]:
+    """Lines with commas between their fields; None if they have quotes or another width."""
+    text = text.replace(b"\r\n", b"\n")
+    if b'"' in text or b"\r" in text or delimiter != "," and b"," in text:
+        return None
+    text = text.replace(delimiter.encode(), b",")
+    lines = text.removesuffix(b"\n").split(b"\n")
+    commas = {line.count(b",") for line in lines if line}
+    return lines if commas <= {width - 1} else None
+
+
+def csv_pieces(table: Table, schema: Schema, most: int) -> Iterator[Piece]:
+    """The rows that are left as `csv` reads them."""
     pick, written = picker(table, schema), line_writer()
     rows: List[bytes] = []
     lines, fault = array("Q"), None

@@ -15,7 +15,7 @@ from typing import (
 )
 
 from .errors import Fault
-from .opening import FRONT, LONGEST_LINE, Lines, Source, open_rows
+from .opening import FRONT, LONGEST_LINE, Lines, open_rows
 from .rows import MARK
 from .schema import Schema
 from .values import Kind
@@ -39,16 +39,15 @@ class Table:
     def __init__(
         self, path: str, delimiter: Optional[str] = None, has_header: bool = True,
         names: Optional[Sequence[str]] = None, *, skip: int = 0, row_names: bool = False,
-        fill: bool = False, file: Optional[io.BufferedReader] = None,
+        fill: bool = False,
     ) -> None:
-        self.source = Source(path, file) if file else open_rows(path)
+        self.source = open_rows(path)
         front = Front(self.source.front, skip)
         self.is_delimiter_given = delimiter is not None
         self.delimiter = delimiter or front.delimiter()
-        if not file:
-            front.expect_no_comments(self.delimiter)
-            if has_header and not names and not row_names:
-                front.expect_header(self.delimiter)
+        front.expect_no_comments(self.delimiter)
+        if has_header and not names and not row_names:
+            front.expect_header(self.delimiter)
         self.text = Lines(self.source.stream)
         is_padded = front.is_padded(self.delimiter)
         csv.field_size_limit(LONGEST_LINE)
@@ -123,6 +122,11 @@ class Table:
                 why = f"{self.names[place]} is {error}: {cell[:60]!r}"
                 raise Fault(f"{self.place()}: {why}") from error
         return row
+
+    def is_plain(self) -> bool:
+        """Whether a row without quotes may go through as it stands."""
+        is_padded = self.reader.dialect.skipinitialspace
+        return len(self.names) > 1 and self.delimiter != SPACE and not self.forms and not is_padded
 
     def named(self, title: str) -> str:
         """The name of a column, which may stand as in the header."""

@@ -11,6 +11,7 @@ from typing import Iterator, List, Optional
 import pytest
 
 from cubetree.batches import LINES_KEPT, LONGEST, Noted, Record, line_of, sum_of
+from cubetree.columns import Columns
 from cubetree.errors import Changed, Fault
 from cubetree.loader import noted_source
 from cubetree.resume import (
@@ -160,6 +161,26 @@ def test_shorter_file(folder: Folder) -> None:
     assert folder.facts == 13
 
 
+def test_synced(tmp_path: Path, monkeypatch: pytest.MonkeyPatch) -> None:
+    """A line is synced before its batch is sent, and what the columns are before a schema."""
+    synced: List[str] = []
+    sync = os.fsync
+
+    def noticed(descriptor: int) -> None:
+        """Syncs a file, and notes which one."""
+        synced.append(os.path.basename(os.readlink(f"/proc/self/fd/{descriptor}")))
+        sync(descriptor)
+
+    monkeypatch.setattr(os, "fsync", noticed)
+    record = Record(str(tmp_path), 1, 0)
+    record.note(noted(1, rows_of("a", 2), 1, "f", 0))
+    assert synced == [".batches.new", tmp_path.name]
+    record.note(noted(2, rows_of("b", 2), 3, "f", 2))
+    assert synced[2:] == [".batches"]
+    Columns().write(str(tmp_path))
+    assert synced[3:] == [".columns.new", tmp_path.name]
+
+
 def test_copy_with_other_rows(folder: Folder) -> None:
     """A file under another name whose first 64 rows came already, and which then differs."""
     rows = rows_of("a", 200)
@@ -220,6 +241,33 @@ def test_unknown_rows(folder: Folder) -> None:
         folder.load(rows_of("a", 5), Words("f", 3))
 
 
+def test_settled_batches(folder: Folder) -> None:
+    """Once the user has given the number that is due, batches before it are none to ask for."""
+    folder.due, folder.facts = 4, 90
+    with pytest.raises(Changed, match="not known which rows 90 facts of the folder had"):
+        folder.load(rows_of("a", 3), Words("f"))
+    assert folder.load(rows_of("a", 3), Words("f", 4)) == 0
+    assert folder.load(rows_of("a", 4), Words("f")) == 3
+    assert folder.load(rows_of("b", 4), Words("g")) == 0
+
+
+def test_forgotten_batches(folder: Folder) -> None:
+    """What was taken back is unknown, also if a later batch was noted and never sent."""
+    folder.load(rows_of("a", 3), Words("f"), 9)
+    folder.load(rows_of("b", 3), Words("g"), 9)
+    record = folder.record()
+    record.note(noted(3, rows_of("c", 3), 1, "h", 6))
+    record.note_same("i", "f")
+    folder.due, folder.facts = 2, 3
+    with pytest.raises(Fault, match="has batch 3, which this folder never took"):
+        folder.record()
+    record.forget(2)
+    assert folder.record().name_of("i") == "f"
+    assert sorted(folder.record().noted) == [1]
+    assert folder.load(rows_of("c", 3), Words("g"), 9) == 0
+    assert folder.load(rows_of("a", 3), Words("f")) == 3
+
+
 def test_torn_and_stale_lines(folder: Folder) -> None:
     """What a stop leaves of a line is no batch; a folder begun anew forgets all."""
     folder.load(rows_of("a", 8), Words("f"), 4)
@@ -245,9 +293,10 @@ def test_record_of_another_folder(folder: Folder, tmp_path: Path) -> None:
     os.rename(folder.path + "/.batches", other.path + "/.batches")
     with pytest.raises(Fault, match="has batch 4, which this folder never took"):
         other.load(rows_of("b", 5), Words("g"))
-    other.due, other.facts = 5, 5
-    with pytest.raises(Fault, match="has batch 4, which this folder never took"):
-        other.load(rows_of("b", 5), Words("g"))
+    for facts in (5, 7):
+        other.due, other.facts = 5, facts
+        with pytest.raises(Fault, match="has batch 4, which this folder never took"):
+            other.load(rows_of("b", 5), Words("g"))
 
 
 def test_damaged_lines_are_unknown(folder: Folder) -> None:

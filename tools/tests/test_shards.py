@@ -14,7 +14,7 @@ import sys
 import threading
 import time
 import unittest
-from typing import Any, Iterable, Optional
+from typing import Any, Iterable, Optional, TextIO
 from unittest import mock
 from zlib import crc32
 
@@ -22,10 +22,11 @@ import pytest
 
 from cubetree import folds
 from cubetree.errors import Ended, Fault
-from cubetree.pieces import Pieces
+from cubetree.reader import pieces
 from cubetree.runs import program
 from cubetree.schema import Schema
 from cubetree.shards import Cutter, shards_in
+from cubetree.tables import Table
 from tests import helpers
 from tests.helpers import Case, SCHEMA, TOOLS, ask, load, run, wait_too_long
 from tests.test_load_csv import LoadCsv
@@ -62,11 +63,22 @@ def sums_in_sqlite(rows: "list[tuple[str, int, int]]") -> "list[list[list[str]]]
     return [[[str(cell) for cell in row] for row in base.execute(query)] for query in queries]
 
 
+def pipe_to(process: "subprocess.Popen[bytes]", path: str) -> TextIO:
+    """The end of a named pipe that a process reads; a failure if the process ends before."""
+    while process.poll() is None:
+        with contextlib.suppress(OSError):
+            descriptor = os.open(path, os.O_WRONLY | os.O_NONBLOCK)
+            os.set_blocking(descriptor, True)
+            return open(descriptor, "w")
+        time.sleep(0.02)
+    raise AssertionError(process.communicate()[1])
+
+
 class Cut(Case):
     """What needs no engine: the rows of a file, and the batches that they go into."""
 
     def flat(self, name: str, delimiter: str = ",", lines: "tuple[str, ...]" = ("attr part text", "measure qty", "view part")) -> "list[bytes]":
-        return [row for piece in Pieces(name, delimiter).rows(Schema(lines)) for row in piece]
+        return [row for piece in pieces(Table(name, delimiter), Schema(lines)) for row in piece.rows]
 
     def test_odd_files(self) -> None:
         """The rows are those that load-csv makes of the file."""
@@ -435,6 +447,7 @@ class Messages(ManyMachines):
         told, said = self.shards("ask", "count", status=11, env=dict(os.environ, CUBEFOLD=os.path.abspath(fold)))
         self.assertEqual(told, "")
         self.assertEqual(said.splitlines()[-1], "shards: the replies cannot be folded: cubefold: no whole reply")
+        self.assertRegex(said, "^shards: the load of .*/file has begun and not ended: the answers may have some of its rows")
 
     def dying(self) -> None:
         self.put("die", "")
@@ -459,9 +472,10 @@ class Messages(ManyMachines):
     def cut_off(self, status: int, wanted: str, lose: Any) -> None:
         """A load ends so when something is lost in its midst."""
         os.mkfifo("pipe")
-        words = ["load", *self.where, "--patience", "1", "--number", "1", "--batch", "100", "pipe"]
+        patience = "1" if status == 8 else "60"
+        words = ["load", *self.where, "--patience", patience, "--number", "1", "--batch", "100", "pipe"]
         begun = subprocess.Popen([os.path.join(TOOLS, "shards"), *words], stderr=subprocess.PIPE)
-        with contextlib.suppress(BrokenPipeError), open("pipe", "w") as pipe:
+        with contextlib.suppress(BrokenPipeError), pipe_to(begun, "pipe") as pipe:
             pipe.write("part,year,qty\n" + lines_of(rows_of(1, 2000)))
             pipe.flush()
             time.sleep(1)

@@ -12,12 +12,14 @@ from typing import List, Tuple
 import pytest
 
 import cubetree
-from cubetree import turns
+from cubetree import Fault, turns
+from cubetree.batches import Noted, Record
 from cubetree.files import BODY, GATES, live_body, raised_bodies
 from cubetree.forest import PAGE, Forest
 from cubetree.runs import program
 from cubetree.schema import kept_schema
 from cubetree.spool import Place, entry_of
+from cubetree.undoing import Undo, shut_gate
 from tests.helpers import TOOLS, load, run
 
 UNDO = os.path.join(TOOLS, "undo")
@@ -94,6 +96,15 @@ def test_batches_of_a_file(folder: Path) -> None:
     said = load("--into", "w", "f")[1]
     assert "2 rows loaded, 8 were there already; the folder keeps 10 facts" in said
     assert script("slice sum(qty)\n") == "45\nrows 1\n"
+
+
+def test_batch_that_was_not_sent(folder: Path) -> None:
+    """A batch that a killed load has noted after the last one is forgotten with it."""
+    Path("f").write_text("part,year,qty\na,1,5\n")
+    load("--into", "w", "f")
+    Record("w", 2, 1).note(Noted(2, 1, 1, "0" * 32, 2, os.path.realpath("f")))
+    undo("--yes")
+    assert "1 row loaded; the folder keeps 1 fact" in load("--into", "w", "f")[1]
 
 
 def test_batches_without_a_number(folder: Path) -> None:
@@ -207,6 +218,40 @@ def test_each_byte_that_a_stop_may_leave(folder: Path) -> None:
             root.seek(GATES + slot)
             root.write(bytes([value]))
         assert script("status\naudit\n") == f"facts {3 if value == 1 else 2}\naudit yes\n"
+
+
+def test_synced(folder: Path, monkeypatch: pytest.MonkeyPatch) -> None:
+    """What is written is synced."""
+    synced: List[str] = []
+    path_of = "/proc/self/fd/{}".format
+    monkeypatch.setattr(os, "fsync", lambda file: synced.append(os.readlink(path_of(file))))
+    script("load\na,1,1\nend\n")
+    shut_gate("w/root", live_body("w").slot)
+    assert synced == [os.path.realpath("w/root")]
+    assert script("status\n") == "facts 0\n"
+
+
+def test_run_without_locks(folder: Path) -> None:
+    """What was looked at has to be there still when it is taken back."""
+    script("load\na,1,1\nend\n")
+    with Undo("w", True) as undoing:
+        script("load\nb,1,1\nend\n")
+        with pytest.raises(Fault, match="another run has changed the folder meanwhile"):
+            undoing.write()
+    assert script("status\n") == "facts 2\n"
+
+
+def test_gate_that_is_shut(folder: Path) -> None:
+    """0 is never written to a gate that is not 1."""
+    script("load\na,1,1\nend\nload\nb,1,2\nend\n")
+    slot = live_body("w").slot
+    for value in (0, 2, 255):
+        with open("w/root", "r+b") as root:
+            root.seek(GATES + slot)
+            root.write(bytes([value]))
+        with pytest.raises(Fault, match="another run has changed the folder meanwhile"):
+            shut_gate("w/root", slot)
+        assert Path("w/root").read_bytes()[GATES + slot] == value
 
 
 def test_drawn(folder: Path) -> None:
