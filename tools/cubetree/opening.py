@@ -188,8 +188,8 @@ class Lines:
         self.part.seek(place)
         if rest:
             return rest.encode("utf-8", "surrogateescape")
-        self.next = self.take()
-        return self.next
+        piece = self.next = self.take()
+        return piece
 
     def pass_over(self) -> None:
         """Passes over the lines that `peek` gave."""
