@@ -188,7 +188,8 @@ class Lines:
         self.part.seek(place)
         if rest:
             return rest.encode("utf-8", "surrogateescape")
-        piece = self.next = self.take()
+        piece = self.take()
+        self.next = piece
         return piece
 
     def pass_over(self) -> None:
