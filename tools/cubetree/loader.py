@@ -246,7 +246,7 @@ def load_file(
     expect_no_rows(rows, start)
     source = noted_source(record, start, source)
     for batch in batches(rows, options.batch):
-        load.send(batch, record, source, not already and batch.first == start.first)
+        load.send(batch, record, source, batch.first == start.first)
     load.take_reply()
     say_missing(table)
     last = start.expected[-1].number if start.expected else 0

@@ -166,7 +166,7 @@ class Lines:
     def __init__(self, stream: io.BufferedReader) -> None:
         self.stream, self.left = stream, self.pieces()
         self.part = io.StringIO()  # the piece whose lines are being read
-        self.next: Optional[bytes] = None  # the piece after it, if it was looked at
+        self.next = b""  # the piece after it, if it was looked at
         self.before = 0  # lines of the pieces that were handed out
         self.odd_line: Optional[int] = None
         self.odd_lines = 0
@@ -178,7 +178,8 @@ class Lines:
 
     def take(self) -> bytes:
         """The next piece; no bytes at the end."""
-        piece, self.next = self.next or next(self.left, b""), None
+        piece = self.next or next(self.left, b"")
+        self.next = b""
         return piece
 
     def peek(self) -> bytes:

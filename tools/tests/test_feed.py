@@ -554,7 +554,7 @@ runpy.run_path(sys.argv[0], run_name="__main__")
         """Rows have amounts, dates and cells without a value as the folder's csv files had them."""
         self.put("file", "part,year,qty\na,2025-03-01,1.50\n")
         load("--into", "w", "--decimals", "qty=2", "--dates", "year", "--na", "NA", "file")
-        rows = [b"a,2025-03-02,2", b"NA,2025-03-03,NA", b"a,2025-03-02,0.255", b"a,1,1", b"b,2025-02-30,1", b"a,1"]
+        rows = [b"a,2025-03-02,2", b"NA,2025-03-03,NA", b"a,2025-03-02,0.255", b"a,1,1", b"b,2025-02-30,1", b"a,2025-03-04"]
         self.feed(given=b"\n".join(rows) + b"\n", status=1)
         self.assertEqual(
             self.rows("sum(qty) by part,year"),
