@@ -177,7 +177,10 @@ def test_busy(folder: Path) -> None:
 def test_question(folder: Path, answer: str, status: int) -> None:
     """At a terminal it asks."""
     script("load\na,1,1\nend\n")
-    mine, its = pty.openpty()
+    try:
+        mine, its = pty.openpty()
+    except OSError:
+        pytest.skip("no terminal can be made")
     done = subprocess.Popen([UNDO, "w"], stdin=its, stdout=subprocess.PIPE, stderr=subprocess.PIPE)
     os.write(mine, answer.encode() + b"\n")
     told, said = done.communicate(timeout=60)
