@@ -1,4 +1,5 @@
-"""What bench/compare and those beside it share: the facts, the views and the slices, the programs that keep them, and how these are measured."""
+"""What the scripts of this folder share: the facts, the views and the slices, the programs that
+keep them, and ways to measure these."""
 import glob
 import os
 import random
@@ -9,15 +10,20 @@ import tempfile
 import time
 
 TOP = os.path.dirname(os.path.dirname(os.path.abspath(__file__)))
-PROGRAM = os.path.abspath(os.environ.get("CUBETREE") or os.path.join(TOP, "crates", "cubetree", "out", "cubetree"))
+PROGRAM = os.path.abspath(
+    os.environ.get("CUBETREE") or os.path.join(TOP, "crates", "cubetree", "out", "cubetree")
+)
 TIMES = 20
 PIECE = 1 << 20
 
-# The views. Points are in the order of the last attribute, then of the one before it, so sqlite3's keys are the other way round.
+# The views. Points are sorted by the last attribute, then by the one before it, so the keys of
+# sqlite3 are reversed.
 TWO = [["year", "shop", "part"], ["year"]]
-EIGHT = [["year", "shop", "part"], ["shop", "part"], ["year", "part"], ["year", "shop"], ["part"], ["shop"], ["year"], []]
+EIGHT = [["year", "shop", "part"], ["shop", "part"], ["year", "part"], ["year", "shop"]]
+EIGHT += [["part"], ["shop"], ["year"], []]
 
-# Each slice in both languages: the few rows of a small view, searches of a large one, and few and many groups out of all its points.
+# Each slice in both languages: the few rows of a small view, searches of a large view, and few and
+# many groups of all its points.
 SLICES = [
     ("by year", "sum(qty),count by year", (["year"], "", ["sum", "count"])),
     (
@@ -25,37 +31,55 @@ SLICES = [
         "sum(qty),min(qty),max(qty) by shop where part=p17 and year=2003..2005",
         (["shop"], "where part='p17' and year between 2003 and 2005", ["sum", "min", "max"]),
     ),
-    ("one of each, one row", "sum(qty),count by year where part=p17 and shop=42 and year=2003", (["year"], "where part='p17' and shop=42 and year=2003", ["sum", "count"])),
-    ("by shop in one year", "sum(qty),count by shop where year=2003", (["shop"], "where year=2003", ["sum", "count"])),
+    (
+        "one of each, one row",
+        "sum(qty),count by year where part=p17 and shop=42 and year=2003",
+        (["year"], "where part='p17' and shop=42 and year=2003", ["sum", "count"]),
+    ),
+    (
+        "by shop in one year",
+        "sum(qty),count by shop where year=2003",
+        (["shop"], "where year=2003", ["sum", "count"]),
+    ),
     ("by part", "sum(qty),count by part", (["part"], "", ["sum", "count"])),
     ("by shop and year", "sum(qty),count by shop,year", (["shop", "year"], "", ["sum", "count"])),
     ("by part and shop", "sum(qty),count by part,shop", (["part", "shop"], "", ["sum", "count"])),
-    ("a row for each point", "sum(qty),count by part,shop,year", (["part", "shop", "year"], "", ["sum", "count"])),
+    (
+        "a row for each point",
+        "sum(qty),count by part,shop,year",
+        (["part", "shop", "year"], "", ["sum", "count"]),
+    ),
 ]
 
-# Views of as many points as there are facts but the last, by which a roll-up and queries are answered. sqlite3's keys are the other way round.
+# Views for a roll-up and for queries; each has a point for each fact. The keys of sqlite3 are
+# reversed.
 FOLDED = [["part"], ["shop", "year"], ["year", "shop"]]
 
 
 def batches_of(facts, batches):
     """The batches as csv, the same ones each time."""
     draw = random.Random(facts)
-    rows = [
-        f"p{draw.randrange(500)},{draw.randrange(100)},{2000 + draw.randrange(20)},{draw.randrange(-99, 1000)}\n"
-        for _ in range(facts)
-    ]
     size = facts // batches
+    rows = [fact_of(draw) for _ in range(facts)]
     return ["".join(rows[first : first + size]) for first in range(0, facts, size)]
 
 
+def fact_of(draw):
+    part, shop, year = draw.randrange(500), draw.randrange(100), 2000 + draw.randrange(20)
+    return f"p{part},{shop},{year},{draw.randrange(-99, 1000)}\n"
+
+
 def folded_rows(facts):
-    """The facts: a part of its own for each, and each year in each of 1,000 shops."""
+    """Facts with a part of its own each, and each year in each of 1,000 shops."""
     draw = random.Random(facts)
-    return "".join(f"p{number},{number % 1000},{number // 1000},{draw.randrange(-99, 1000)}\n" for number in range(facts))
+    return "".join(
+        f"p{number},{number % 1000},{number // 1000},{draw.randrange(-99, 1000)}\n"
+        for number in range(facts)
+    )
 
 
 def build(room, facts, views):
-    """A warehouse of so many facts in the folder, in batches of at most 100,000."""
+    """Builds a warehouse of these facts in the folder, in batches of at most 100,000."""
     site = Cubetree(room, views)
     for batch in batches_of(facts, -(-facts // 100_000)) if facts else []:
         site.load(batch)
@@ -63,15 +87,15 @@ def build(room, facts, views):
 
 
 def reply(run, *ends):
-    """The lines of a reply before its last one, which begins with one of these words. They are read as they come, since to take them line by
-    line would cost more than a program spends on them."""
+    """The lines of a reply before its last one, which begins with one of these words. They are read
+    in pieces: reading line by line would take longer than a program takes to write them."""
     text, last = bytearray(), b""
     while not (text.endswith(b"\n") and last.startswith(ends)):
         piece = os.read(run.stdout.fileno(), PIECE)
         text += piece
         last = bytes(text[-200:]).rstrip(b"\n").rsplit(b"\n", 1)[-1]
         if not piece or (last.startswith(b"refused") and not last.startswith(ends)):
-            raise SystemExit(f"a program has ended, or said {last}")
+            raise SystemExit(f"a program ended, or printed {last}")
     return bytes(text[: text.rfind(b"\n", 0, -1) + 1])
 
 
@@ -85,8 +109,10 @@ class Cubetree:
     name = "cubetree"
 
     def __init__(self, room, views=None, words=()):
-        """A run in the folder, which declares a schema with these views, or goes on over the one that is there."""
-        self.run = subprocess.Popen([PROGRAM, *words], cwd=room, stdin=subprocess.PIPE, stdout=subprocess.PIPE)
+        """A run in the folder. It declares a schema with these views, or uses the one there is."""
+        self.run = subprocess.Popen(
+            [PROGRAM, *words], cwd=room, stdin=subprocess.PIPE, stdout=subprocess.PIPE
+        )
         if views is not None:
             self.declare(views)
 
@@ -107,21 +133,31 @@ class Cubetree:
         return self.tell(f"slice {SLICES[number][1]}\n")
 
     def size(self, room):
-        return sum(os.path.getsize(os.path.join(room, name)) for name in ["names", "side0", "side1"] if os.path.exists(os.path.join(room, name)))
+        paths = [os.path.join(room, name) for name in ("names", "side0", "side1")]
+        return sum(os.path.getsize(path) for path in paths if os.path.exists(path))
 
     def reads(self):
-        """How many calls that read it has made, those of its script too."""
+        """How many read calls it has made, those of its script included."""
         with open(f"/proc/{self.run.pid}/io") as file:
             return next(int(line.split()[1]) for line in file if line.startswith("syscr"))
 
     def peak(self):
-        """The greatest memory that the run has had, in bytes."""
+        """The peak memory of the run, in bytes."""
         with open(f"/proc/{self.run.pid}/status") as file:
             return next(1024 * int(line.split()[1]) for line in file if line.startswith("VmHWM"))
 
     def end(self):
         self.run.stdin.close()
         self.run.wait()
+
+
+BATCH = "create temp table batch(part text, shop integer, year integer, qty integer);"
+
+
+def keys_of(view):
+    """The columns of a table for a view, in SQL."""
+    kinds = [f"{attr} {'text' if attr == 'part' else 'integer'}" for attr in view]
+    return "".join(f"{each} not null, " for each in kinds or ["one integer"])
 
 
 class Sqlite:
@@ -131,11 +167,14 @@ class Sqlite:
     def __init__(self, room, views):
         self.room = room
         self.views = views
-        self.run = subprocess.Popen(["sqlite3", "-batch", "facts.db"], cwd=room, stdin=subprocess.PIPE, stdout=subprocess.PIPE)
-        tables = self.opening + [".mode csv", ".separator , \\n", "create temp table batch(part text, shop integer, year integer, qty integer);"]
+        pipe, words = subprocess.PIPE, ["sqlite3", "-batch", "facts.db"]
+        self.run = subprocess.Popen(words, cwd=room, stdin=pipe, stdout=pipe)
+        tables = [*self.opening, ".mode csv", ".separator , \\n", BATCH]
         for number, view in enumerate(views):
-            keys = "".join(f"{attr} {'text' if attr == 'part' else 'integer'} not null, " for attr in view) or "one integer not null, "
-            tables.append(f"create table v{number}({keys}n integer, s integer, low integer, high integer, primary key({','.join(reversed(view)) or 'one'})) without rowid;")
+            tables.append(
+                f"create table v{number}({keys_of(view)}n integer, s integer, low integer,"
+                f" high integer, primary key({','.join(reversed(view)) or 'one'})) without rowid;"
+            )
         self.tell("\n".join(tables) + "\n")
 
     def tell(self, command):
@@ -152,8 +191,9 @@ class Sqlite:
             keys = ",".join(view) or "1"
             group = f" group by {keys}" if view else ""
             steps.append(
-                f"insert into v{number} select {keys},count(*),sum(qty),min(qty),max(qty) from batch where true{group} "
-                "on conflict do update set n=n+excluded.n,s=s+excluded.s,low=min(low,excluded.low),high=max(high,excluded.high);"
+                f"insert into v{number} select {keys},count(*),sum(qty),min(qty),max(qty)"
+                f" from batch where true{group} on conflict do update set n=n+excluded.n,"
+                "s=s+excluded.s,low=min(low,excluded.low),high=max(high,excluded.high);"
             )
         self.tell("\n".join(steps + ["commit;", "delete from batch;", ""]))
 
@@ -161,8 +201,10 @@ class Sqlite:
         group, where, columns = SLICES[number][2]
         table = self.table_for(set(group) | {attr for attr in EIGHT[0] if attr in where})
         told = {"sum": "sum(s)", "count": "sum(n)", "min": "min(low)", "max": "max(high)"}
-        keys = ",".join(group)
-        return self.tell(f"select {keys},{','.join(told[c] for c in columns)} from v{table} {where} group by {keys} order by {keys};\n")
+        keys, folds = ",".join(group), ",".join(told[column] for column in columns)
+        return self.tell(
+            f"select {keys},{folds} from v{table} {where} group by {keys} order by {keys};\n"
+        )
 
     def table_for(self, attrs):
         covering = [number for number, view in enumerate(self.views) if attrs <= set(view)]
@@ -177,13 +219,14 @@ class Sqlite:
 
 
 class SqliteAhead(Sqlite):
-    """With a write-ahead log, which is synced at the end of each transaction too."""
+    """With a write-ahead log, which is also synced at the end of each transaction."""
 
     opening = ["pragma journal_mode=wal;", "pragma synchronous=full;"]
 
 
 class Postgres:
-    """A server of its own in the folder, which is asked by psql. A batch is copied into a temporary table."""
+    """A server of its own in the folder, and psql to talk to it. A batch is copied into a temporary
+    table."""
 
     name = "postgres"
     home = max(glob.glob("/usr/lib/postgresql/*/bin"), default="")
@@ -193,18 +236,24 @@ class Postgres:
         os.chmod(room, 0o777)
         self.data = os.path.join(room, "data")
         self.server("initdb", "-D", self.data, "-A", "trust", "--locale=C")
-        self.server("pg_ctl", "-D", self.data, "-w", "-l", os.path.join(room, "log"), "-o", f"-c listen_addresses= -c unix_socket_directories={room}", "start")
-        words = ["psql", "-X", "-q", "-A", "-t", "-F", ",", "-v", "ON_ERROR_STOP=1", "-h", room, "-U", "postgres", "postgres"]
-        self.run = subprocess.Popen(words, cwd=room, stdin=subprocess.PIPE, stdout=subprocess.PIPE)
-        tables = ["create temp table batch(part text, shop integer, year integer, qty integer);"]
+        options = f"-c listen_addresses= -c unix_socket_directories={room}"
+        log = os.path.join(room, "log")
+        self.server("pg_ctl", "-D", self.data, "-w", "-l", log, "-o", options, "start")
+        words = [*"psql -X -q -A -t -F , -v ON_ERROR_STOP=1 -U postgres -h".split(), room]
+        pipe = subprocess.PIPE
+        self.run = subprocess.Popen([*words, "postgres"], cwd=room, stdin=pipe, stdout=pipe)
+        tables = [BATCH]
         for number, view in enumerate(views):
-            keys = "".join(f"{attr} {'text' if attr == 'part' else 'integer'} not null, " for attr in view) or "one integer not null, "
-            tables.append(f"create table v{number}({keys}n bigint, s bigint, low integer, high integer, primary key({','.join(reversed(view)) or 'one'}));")
+            tables.append(
+                f"create table v{number}({keys_of(view)}n bigint, s bigint, low integer,"
+                f" high integer, primary key({','.join(reversed(view)) or 'one'}));"
+            )
         self.tell("\n".join(tables) + "\n")
 
     def server(self, program, *words):
         user = ["runuser", "-u", "postgres", "--"] if os.getuid() == 0 else []
-        subprocess.run([*user, os.path.join(self.home, program), *words], cwd=self.room, stdout=subprocess.DEVNULL, check=True)
+        command = [*user, os.path.join(self.home, program), *words]
+        subprocess.run(command, cwd=self.room, stdout=subprocess.DEVNULL, check=True)
 
     def tell(self, command):
         self.run.stdin.write((command + "\\echo done\n").encode())
@@ -218,8 +267,10 @@ class Postgres:
             group = f" group by {keys}" if view else ""
             target = ",".join(reversed(view)) or "one"
             steps.append(
-                f"insert into v{number} as v select {keys},count(*),sum(qty),min(qty),max(qty) from batch{group} on conflict({target}) "
-                "do update set n=v.n+excluded.n,s=v.s+excluded.s,low=least(v.low,excluded.low),high=greatest(v.high,excluded.high);"
+                f"insert into v{number} as v select {keys},count(*),sum(qty),min(qty),max(qty)"
+                f" from batch{group} on conflict({target}) do update set n=v.n+excluded.n,"
+                "s=v.s+excluded.s,low=least(v.low,excluded.low),"
+                "high=greatest(v.high,excluded.high);"
             )
         self.tell("\n".join(steps + ["delete from batch;", "commit;", ""]))
 
@@ -252,7 +303,7 @@ def processor(site, call):
 
 
 def processor_time(site):
-    """In nanoseconds, up to where the program waits for what it is told next."""
+    """The processor nanoseconds of a program up to where it waits for more input."""
     while True:
         with open(f"/proc/{site.run.pid}/stat") as file:
             if file.read().rpartition(")")[2].split()[0] == "S":
@@ -262,27 +313,27 @@ def processor_time(site):
 
 
 def ended(words, **how):
-    """The processor seconds and the seconds of a program up to its end."""
+    """The processor seconds and the seconds of a program until it ends."""
     before = resource.getrusage(resource.RUSAGE_CHILDREN)
     seconds, _ = timed(lambda: subprocess.run(words, check=True, **how))
-    behind = resource.getrusage(resource.RUSAGE_CHILDREN)
-    return behind.ru_utime - before.ru_utime + behind.ru_stime - before.ru_stime, seconds
+    after = resource.getrusage(resource.RUSAGE_CHILDREN)
+    return after.ru_utime - before.ru_utime + after.ru_stime - before.ru_stime, seconds
 
 
 def run_over(room, script, words=()):
-    """The same of a run that is told this script in the folder."""
+    """The processor seconds and the seconds of a run with this script in the folder."""
     return ended([PROGRAM, *words], cwd=room, input=script.encode(), stdout=subprocess.DEVNULL)
 
 
 def spent(room, script):
-    """The same over a copy of the folder."""
+    """The processor seconds and the seconds of a run with this script over a copy of the folder."""
     with tempfile.TemporaryDirectory() as copy:
         shutil.copytree(room, copy, dirs_exist_ok=True)
         return run_over(copy, script)
 
 
-def peak_behind(room, command, end):
-    """The greatest memory of a run that has opened the files and carried out the command."""
+def peak_after(room, command, end):
+    """The peak memory of a run that opened the files and carried out the command."""
     site = Cubetree(room)
     told(site, command, end)
     peak = site.peak()
@@ -291,38 +342,46 @@ def peak_behind(room, command, end):
 
 
 def counted(room, script):
-    """The instructions of a run over a copy of the folder, and how many points there are behind it."""
+    """The instructions of a run over a copy of the folder, and the number of points after it."""
     with tempfile.TemporaryDirectory() as copy:
         shutil.copytree(room, copy, dirs_exist_ok=True)
         counts = os.path.join(copy, "counts")
         words = ["valgrind", "--tool=callgrind", f"--callgrind-out-file={counts}", PROGRAM]
-        subprocess.run(words, cwd=copy, input=script.encode(), stdout=subprocess.DEVNULL, stderr=subprocess.DEVNULL, check=True)
+        subprocess.run(words, cwd=copy, input=script.encode(), capture_output=True, check=True)
         with open(counts) as file:
-            return next(int(line.split()[1]) for line in file if line.startswith("summary:")), points_in(copy)
+            summary = next(line for line in file if line.startswith("summary:"))
+        return int(summary.split()[1]), points_in(copy)
 
 
 def side(number):
-    """The side that batch number N of a folder is written to."""
+    """The side that this batch of a folder is written to."""
     return f"side{number % 2}"
 
 
 def live_body(room):
-    """The body of the file `root` that counts."""
+    """The live body of the file `root`."""
     with open(os.path.join(room, "root"), "rb") as file:
         root = file.read()
-    bodies = [root[1024 * slot : 1024 * slot + 1024] for slot in range(2) if root[2048 + slot : 2049 + slot] == b"\x01"]
+    slots = [slot for slot in range(2) if root[2048 + slot : 2049 + slot] == b"\x01"]
+    bodies = [root[1024 * slot : 1024 * slot + 1024] for slot in slots]
     return max(bodies, key=lambda body: int.from_bytes(body[16:24], "big"))
 
 
 def points_in(room):
-    """How many points the views of the live body have."""
+    """How many points all views of the live body have."""
     live = live_body(room)
     return sum(int.from_bytes(live[place : place + 8], "big") for place in range(104, 360, 8))
 
 
 def head(*columns):
+    """Prints the head of a table."""
     print("| " + " | ".join(columns) + " |")
     print("|" + "---|" * len(columns), flush=True)
+
+
+def row(*cells):
+    """Prints a row of a table."""
+    print("| " + " | ".join(map(str, cells)) + " |", flush=True)
 
 
 def over(first, second, form):

@@ -1,0 +1,1 @@
+"""Csv files: how they are read, what their columns mean, and how they are loaded."""

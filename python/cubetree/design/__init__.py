@@ -1,0 +1,1 @@
+"""Which views a schema should have, and which view answers a question."""

@@ -1,0 +1,1 @@
+"""Rows that come one by one, for as long as they come."""

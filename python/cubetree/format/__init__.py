@@ -1,0 +1,1 @@
+"""The files of a warehouse, read by their format: docs/FORMATS.md."""

@@ -1,0 +1,1 @@
+"""A warehouse that is spread over folders and machines."""
