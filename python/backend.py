@@ -98,7 +98,8 @@ def build_editable(
 def build_sdist(folder: str, settings: Settings = None) -> str:
     """Packs what the package is made of."""
     name = f"cubetree-{version()}"
-    with tarfile.open(Path(folder) / f"{name}.tar.gz", "w:gz", format=tarfile.PAX_FORMAT) as archive:
+    path_of_sdist = Path(folder) / f"{name}.tar.gz"
+    with tarfile.open(path_of_sdist, "w:gz", format=tarfile.PAX_FORMAT) as archive:
         for path in ("pyproject.toml", "README.md", "LICENSE-APACHE", "LICENSE-MIT"):
             archive.add(TOP / path, f"{name}/{path}")
         for path in ("python/backend.py", *(f"python/{module}" for module in modules())):

@@ -6,7 +6,7 @@ import operator
 import re
 from datetime import date
 from decimal import Decimal
-from typing import Callable, Iterable, Iterator, Mapping, Optional, Sequence, SupportsIndex, Union
+from typing import Any, Callable, Iterable, Iterator, Mapping, Optional, Sequence, SupportsIndex, Union
 
 from .errors import Fault, Refused
 from .questions import Question
@@ -41,11 +41,16 @@ def encoded(rows: Iterable[GivenRow], kinds: Sequence[Optional[Kind]] = ()) -> I
     written = line_writer()
     for number, given in enumerate(rows, 1):
         row = with_kinds(given, kinds, number) if any(kinds) else given
-        fields = [value if isinstance(value, str) else int(operator.index(value)) for value in row]  # type: ignore[arg-type]
+        fields = list(map(cell_of, row))
         # A row without fields would be none, and `end` alone would end the block: as one empty
         # field the program refuses them by their number.
         text = written(fields)[:-2] if len(fields) > 1 else '""'
         yield text.encode("utf-8", "surrogateescape") + b"\n"
+
+
+def cell_of(value: Any) -> str | int:
+    """A text as it is, and a whole number of any type; anything else is a TypeError."""
+    return value if isinstance(value, str) else int(operator.index(value))
 
 
 def with_kinds(row: GivenRow, kinds: Sequence[Optional[Kind]], number: int) -> GivenRow:

@@ -20,6 +20,8 @@ BESIDE = (
 def copy(folder: str, new: str, waits: bool = True) -> int:
     """Copies the warehouse of a folder into a new one, which appears whole or not at all. Writers
     wait meanwhile, so that the copy is of one moment between two batches; how many facts it has."""
+    if os.path.islink(new):
+        new = os.path.realpath(new)
     if os.path.exists(new) and (not os.path.isdir(new) or os.listdir(new)):
         raise Fault(f"{new} is there, and is no empty folder")
     parent = os.path.dirname(os.path.abspath(new))
@@ -30,12 +32,14 @@ def copy(folder: str, new: str, waits: bool = True) -> int:
     try:
         if not os.path.exists(os.path.join(folder, FILES[0])):
             raise Fault(f"{folder} has no warehouse: there is nothing to copy")
-        return copy_files(folder, new, parent)
+        facts = live_body(folder).facts
+        copy_files(folder, new, parent)
+        return facts
     finally:
         turns.leave()
 
 
-def copy_files(folder: str, new: str, parent: str) -> int:
+def copy_files(folder: str, new: str, parent: str) -> None:
     """Copies the files, in the turn of a reader."""
     room = tempfile.mkdtemp(prefix=".copy-", dir=parent)
     try:
@@ -43,15 +47,21 @@ def copy_files(folder: str, new: str, parent: str) -> int:
             path = os.path.join(folder, name)
             if os.path.exists(path):
                 copy_file(path, os.path.join(room, name))
-        facts = live_body(room).facts
         shutil.copymode(folder, room)
         sync_folder(room)
-        os.rename(room, new)
+        rename(room, new)
         sync_folder(parent)
-        return facts
     except BaseException:
         shutil.rmtree(room, ignore_errors=True)
         raise
+
+
+def rename(room: str, new: str) -> None:
+    """Gives the copy its name."""
+    try:
+        os.rename(room, new)
+    except OSError as error:
+        raise Fault(f"{new} cannot be made: {error.strerror}") from error
 
 
 def copy_file(path: str, new: str) -> None:

@@ -6,22 +6,26 @@ each. Other rows have a bar each, the greatest values first.
 from __future__ import annotations
 
 import os
+import re
 import shutil
 import subprocess
 import tempfile
-from datetime import date
 from decimal import Decimal
-from typing import List, NamedTuple, Sequence, Union
+from typing import List, NamedTuple, Sequence, Tuple, Union
 
 from .codec import Answer
 from .errors import Fault
 from .output import cell_of
+from .sorting import comparable
 from .ui import counted, shown
+from .values import Value
 
 EIGHTHS, SHADE, SPARKS = " ▏▎▍▌▋▊▉", "▒", "▁▂▃▄▅▆▇█"
 MOST_BARS, LINE_FROM = 40, 25  # rows
-WIDEST_NAME = 30  # characters
-GNUPLOT = "gnuplot"
+WIDEST_NAME, LEAST_ROOM = 30, 10  # characters of a name, and cells of the longest bar
+GNUPLOT, PICTURE = "gnuplot", "picture"
+TIMES = {"day": "%Y-%m-%d", "month": "%Y-%m"}  # of the kinds of columns, for gnuplot
+DATE = re.compile(r"[0-9]{4}-[0-9]{2}(?:-[0-9]{2})?")
 Number = Union[int, Decimal]
 
 
@@ -47,11 +51,12 @@ def chart_of(answer: Answer, places: Sequence[int], is_sorted: bool) -> Chart:
     has sorted stay as they are."""
     groups = [place for place in range(len(answer.columns)) if place not in places]
     kind = answer.kinds[groups[0]] if len(groups) == 1 else None
-    is_time = kind is not None and kind.name in ("day", "month")
-    is_ordered = len(groups) == 1 and (is_time or answer.numeric[groups[0]])
-    time = ("%Y-%m-%d" if kind.name == "day" else "%Y-%m") if kind and is_time else ""
-    if time and not all(isinstance(row[groups[0]], (date, str)) for row in answer):
-        time = ""
+    time = TIMES.get(kind.name, "") if kind else ""
+    is_ordered = (
+        len(groups) == 1
+        and (bool(time) or answer.numeric[groups[0]])
+        and is_ascending([row[groups[0]] for row in answer])
+    )
     found = []
     for place in places:
         rows = [row for row in answer if isinstance(row[place], (int, Decimal))]
@@ -59,7 +64,13 @@ def chart_of(answer: Answer, places: Sequence[int], is_sorted: bool) -> Chart:
             rows.sort(key=lambda row: number(row[place]), reverse=True)
         keys = [" ".join(shown(cell_of(row[each])) or "(empty)" for each in groups) for row in rows]
         found.append(Series(answer.columns[place], keys, [number(row[place]) for row in rows]))
-    return Chart(found, is_ordered, time)
+    return Chart(found, is_ordered, time if is_ordered else "")
+
+
+def is_ascending(keys: Sequence[Value]) -> bool:
+    """Whether keys are in order; they are not if the user has sorted the rows by something else."""
+    sizes = [comparable(key) for key in keys]
+    return sizes == sorted(sizes)
 
 
 def number(value: object) -> Number:
@@ -85,10 +96,11 @@ def bars(series: Series, width: int) -> List[str]:
     """A bar for each of the first rows."""
     names = [name or "all" for name in series.keys[:MOST_BARS]]
     values = series.values[:MOST_BARS]
-    digits = [f"{value:,}" for value in values]
-    wide = min(WIDEST_NAME, max(map(len, names), default=0))
+    digits = [digits_of(value) for value in values]
     column = max(map(len, digits), default=0)
-    room = max(10, width - wide - column - 4)
+    widest = max(1, min(WIDEST_NAME, width - column - 4 - LEAST_ROOM))
+    wide = min(widest, max(map(len, names), default=0))
+    room = max(LEAST_ROOM, width - wide - column - 4)
     most = greatest(values) or 1
     left = len(series.keys) - len(names)
     return [
@@ -99,6 +111,11 @@ def bars(series: Series, width: int) -> List[str]:
         ),
         *([f"({counted(left, 'more row')})"] if left else []),
     ]
+
+
+def digits_of(value: Number) -> str:
+    """A value with all its digits, and commas between thousands."""
+    return f"{value:,f}" if isinstance(value, Decimal) else f"{value:,}"
 
 
 def greatest(values: Sequence[Number]) -> Number:
@@ -124,9 +141,9 @@ def line(series: Series, width: int) -> List[str]:
     low, high = min(means), max(means)
     blocks = (SPARKS[int((mean - low) * 7 / (high - low or 1) + Decimal("0.5"))] for mean in means)
     first, last = series.keys[0], series.keys[-1]
-    least, greatest = min(series.values), max(series.values)
+    least, most = digits_of(min(series.values)), digits_of(max(series.values))
     return [
-        f"{series.name}: least {least:,}, greatest {greatest:,}",
+        f"{series.name}: least {least}, greatest {most}",
         "".join(blocks),
         f"{first}{last.rjust(max(cells - len(first), len(last) + 1))}",
     ]
@@ -142,47 +159,59 @@ def draw(chart: Chart, path: str, title: str) -> None:
         raise Fault(f"{path}: a picture is a file .png or .svg")
     if shutil.which(GNUPLOT) is None:
         raise Fault("a picture needs gnuplot: apt install gnuplot-nox")
-    if not chart.series or not chart.series[0].keys:
+    if not drawn_series(chart):
         raise Fault("the answer has no rows to draw")
+    if os.path.isdir(path):
+        raise Fault(f"{path} is a folder")
     folder = os.path.dirname(os.path.abspath(path))
     with tempfile.TemporaryDirectory(prefix=".picture-", dir=folder) as room:
-        made = os.path.join(room, "picture")
-        script = script_of(chart, made, kind, title).encode()
-        done = subprocess.run([GNUPLOT], input=script, capture_output=True, check=False)
+        script = script_of(chart, kind, title).encode()
+        done = subprocess.run([GNUPLOT], cwd=room, input=script, capture_output=True, check=False)
         if done.returncode:
             said = done.stderr.decode("utf-8", "replace").strip().splitlines()
             raise Fault(f"gnuplot failed: {said[-1] if said else done.returncode}")
-        os.replace(made, path)
+        os.replace(os.path.join(room, PICTURE), path)
 
 
 def quoted(text: str) -> str:
     """A text for gnuplot, in which nothing is a command."""
-    plain = text.replace("\\", "\\\\").replace('"', "'").replace("`", "'").replace("\n", " ")
+    plain = shown(text).replace("\\", "\\\\").replace('"', "'").replace("`", "'")
     return f'"{plain}"'
 
 
-def script_of(chart: Chart, path: str, kind: str, title: str) -> str:
+def drawn_rows(chart: Chart, series: Series) -> List[Tuple[str, Number]]:
+    """The rows of a series that are drawn. A cell without a date has no place in a time."""
+    rows = list(zip(series.keys, series.values))
+    if chart.time:
+        return [row for row in rows if DATE.fullmatch(row[0])]
+    return rows if chart.is_ordered else rows[:MOST_BARS]
+
+
+def drawn_series(chart: Chart) -> List[Series]:
+    """The columns that are drawn: those that have rows, and only the first of them as bars."""
+    found = [series for series in chart.series if drawn_rows(chart, series)]
+    return found if chart.is_ordered else found[:1]
+
+
+def script_of(chart: Chart, kind: str, title: str) -> str:
     """The script of gnuplot for a chart. Rows go to it as data."""
     blocks, plots = [], []
-    shown_series = chart.series if chart.is_ordered else chart.series[:1]
-    for place, series in enumerate(shown_series):
-        rows = zip(series.keys, series.values)
-        kept = list(rows)[: None if chart.is_ordered else MOST_BARS]
+    for place, series in enumerate(drawn_series(chart)):
         data = [
             f"{key if chart.is_ordered else quoted(key)} {format(value, 'f')}"
-            for key, value in kept
+            for key, value in drawn_rows(chart, series)
         ]
         blocks.append(f"$rows{place} << END_OF_ROWS\n" + "\n".join(data) + "\nEND_OF_ROWS")
         plots.append(f"$rows{place} using {columns_of(chart)} title {quoted(series.name)}")
     time = f'set xdata time\nset timefmt "{chart.time}"\nset format x "{chart.time}"\n'
     return (
         f"set terminal {kind} size 900,400\n"
-        f"set output {quoted(path)}\n"
+        f"set output {quoted(PICTURE)}\n"
         "set style fill solid 0.8\nset boxwidth 0.8 relative\nset key noenhanced top\n"
         'set xtics noenhanced rotate by -45\nset format y "%.10g"\n'
         f"set title {quoted(title)} noenhanced\n"
         f"{time if chart.time else ''}"
-        f"{'' if chart.is_ordered else 'set yrange [0<*:*]' + chr(10)}"
+        f"{'' if chart.is_ordered else 'set yrange [*<0:0<*]' + chr(10)}"
         + "\n".join(blocks)
         + f"\nplot {', '.join(plots)}\n"
     )

@@ -87,7 +87,8 @@ class Kind:
             return f"{value:%Y%m%d}" if self.name == "day" else f"{value:%Y%m}"
         if self.name == "decimal" and isinstance(value, (Decimal, float)):
             return self.kept(format(value, "f") if isinstance(value, Decimal) else repr(value))
-        text = value if isinstance(value, str) else str(operator.index(value))  # type: ignore[arg-type]
+        is_text = isinstance(value, str)
+        text = str(value if is_text else operator.index(value))  # type: ignore[arg-type]
         if self.name == "day" and DATE_OF_ISO.fullmatch(text):
             return f"{day_of(text, 'YMD'):%Y%m%d}"
         return self.kept(text)

@@ -74,7 +74,8 @@ class Ask(Case):
     def test_csv_and_json(self):
         wanted = (
             'part,year,max(qty)\n"a,'
-            ' ""b""\nc",1999,123456789012345678901234567890\nbolt,1997,5\nbolt,1998,4\nnut,1997,-2\n'
+            ' ""b""\nc",1999,123456789012345678901234567890\n'
+            'bolt,1997,5\nbolt,1998,4\nnut,1997,-2\n'
         )
         self.assertEqual(ask("--in", "w", "--csv", "max(qty) by part,year")[0], wanted)
         rows = [
@@ -521,12 +522,12 @@ def test_wrong_orders(tops: str, words: "list[str]", said: str) -> None:
     printed, errors = ask("--in", tops, *words, "count by part", status=2)
     assert printed == ""
     assert said.replace("cube ask: ", "cube ask: error: ") in errors
-    assert errors.count("\n") == 1
+    assert errors.splitlines()[-1].startswith("cube ask: error: ")
 
 
 def test_missing_arguments(tops: str) -> None:
     for words in (["--sort"], ["--top"]):
-        assert "usage: ask" in ask("--in", tops, *words, status=2)[1]
+        assert "usage: cube ask" in ask("--in", tops, *words, status=2)[1]
 
 
 @pytest.mark.parametrize(

@@ -85,7 +85,7 @@ def test_several_files(room: Path) -> None:
         said.splitlines()[-1]
         == "cube load: bad: 1 row loaded; the folder keeps 4 facts; the next number is 4"
     )
-    assert "several files go with --into" in load("file", "more", status=2)[1]
+    assert "are for one file" in load("--script", "file", "more", status=2)[1]
 
 
 def test_standard_input(room: Path) -> None:

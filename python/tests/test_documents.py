@@ -129,6 +129,34 @@ def test_arguments_in_italics_are_short(page: str) -> None:
     assert [each for each in italics if len(each) > LONGEST_ARGUMENT] == []
 
 
+def python_files() -> "list[str]":
+    """All files of Python in the repository, also scripts without an ending."""
+    found = []
+    for folder in ("bin", "python", "tools", "bench", "fuzz"):
+        for path in Path(TOP, folder).rglob("*"):
+            if path.is_file() and not path.is_symlink() and path.suffix in ("", ".py"):
+                with open(path, "rb") as file:
+                    if path.suffix == ".py" or b"python" in file.readline():
+                        found.append(str(path))
+    return sorted(found)
+
+
+def test_lines_are_short() -> None:
+    """No line of Python has more than 100 columns."""
+    long = []
+    for path in python_files():
+        for number, line in enumerate(Path(path).read_text(encoding="utf-8").splitlines(), 1):
+            if len(line) > 100:
+                long.append(f"{path}:{number}")
+    assert long == []
+
+
+@pytest.mark.skipif(shutil.which("ruff") is None, reason="no ruff")
+def test_ruff() -> None:
+    """The settings are those of pyproject.toml."""
+    run("ruff", "check", *python_files(), cwd=TOP)
+
+
 def test_completion() -> None:
     """Commands, options and actions are completed; the script is what the parsers say."""
     script = subprocess.run(

@@ -52,7 +52,8 @@ class Faults(Feeding):
             feed = self.start(*words)
             for _ in range(draw.randrange(1, 4)):
                 rows = [
-                    f"p{draw.randrange(300)},{draw.randrange(1990, 2020)},{draw.randrange(-99, 1000)}"
+                    f"p{draw.randrange(300)},{draw.randrange(1990, 2020)},"
+                    f"{draw.randrange(-99, 1000)}"
                     for _ in range(draw.randrange(200))
                 ]
                 rows += [

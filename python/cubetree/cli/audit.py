@@ -19,8 +19,8 @@ from ..status import Status
 from ..ui import Progress, counted, say_bytes
 from .command import Command, Parser, add_folder, add_no_wait, folder_of
 
-DESCRIPTION = """Audits the warehouse in a folder: reads each page of its live side, and says whether
-all of them are sound.
+DESCRIPTION = """Audits the warehouse in a folder: reads each page of its live side, and says
+whether all of them are sound.
 
 A warehouse is sound if its files open, each page is the one that the points below it ask for, the
 counts of each view add up to the accepted facts, and each view is what every finer view gives,

@@ -28,7 +28,8 @@ FORMER = {
     "run-tour": "tour",
     **{name: name for name in ("ask", "feed", "audit", "undo", "shards")},
 }
-DESCRIPTION = """Keeps sums, counts, least and greatest values of facts by group, in a folder on disk.
+DESCRIPTION = """Keeps sums, counts, least and greatest values of facts by group, in a folder on
+disk.
 
 `cube COMMAND -h` is the help of a command."""
 

@@ -1,6 +1,7 @@
 """The questions of a call: its argument, lines of standard input, or what is typed."""
 from __future__ import annotations
 
+import io
 import os
 import re
 import select
@@ -55,10 +56,12 @@ def piped() -> Iterator[Optional[str]]:
 
 def typed(schema: Schemas, kinds: Kinds) -> Iterator[Optional[str]]:
     """What is typed at a terminal, and None before each line. Lines are kept for the next time, and
-    the tab key completes names."""
+    the tab key completes names. Answers that go into a file have no prompts between them."""
     import readline
 
-    kept = history_file()
+    if isinstance(sys.stdin, io.TextIOWrapper):
+        sys.stdin.reconfigure(errors="surrogateescape")
+    prompt, kept = "cube> " if sys.stdout.isatty() else "", history_file()
     with suppress(OSError):
         readline.read_history_file(kept)
     words = words_of(schema(), kinds())
@@ -68,7 +71,7 @@ def typed(schema: Schemas, kinds: Kinds) -> Iterator[Optional[str]]:
     try:
         while True:
             yield None
-            line = input("cube> ")
+            line = input(prompt)
             if line.strip() in ENDS:
                 return
             if line.strip() in HELPS:
@@ -76,7 +79,7 @@ def typed(schema: Schemas, kinds: Kinds) -> Iterator[Optional[str]]:
             else:
                 yield line
     except EOFError:
-        print()
+        print(end="\n" if prompt else "")
     finally:
         with suppress(OSError):
             os.makedirs(os.path.dirname(kept), mode=0o700, exist_ok=True)

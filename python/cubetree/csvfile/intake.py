@@ -75,12 +75,13 @@ def size_of(piece: Piece) -> int:
     return sum(map(len, piece.rows)) + len(piece.rows)
 
 
-def fit_one_batch(rows: Rows) -> bool:
-    """Whether the rows that are left fit one batch. None of them is taken."""
-    count = size = 0
+def fit_one_batch(rows: Rows, size: int) -> bool:
+    """Whether the rows that are left fit one batch. None of them is taken. They do not, and no more
+    are read, if the size of the file says so by the rows at its front."""
+    count = length = 0
     for piece in rows.look_ahead():
-        count, size = count + len(piece.rows), size + size_of(piece)
-        if count > MOST_ROWS or size > MOST_BYTES:
+        count, length = count + len(piece.rows), length + size_of(piece)
+        if count > MOST_ROWS or length > MOST_BYTES or size * count > 2 * MOST_ROWS * length:
             return False
     return True
 

@@ -255,7 +255,7 @@ def load_file(
     already = expect_rows(rows, start, source)
     expect_no_rows(rows, start)
     source = noted_source(record, start, source)
-    for batch in batches(rows, options.batch or usual_batch(path, rows)):
+    for batch in batches(rows, options.batch or usual_batch(path, table, rows)):
         load.send(batch, record, source, batch.first == start.first)
     load.take_reply()
     say_missing(table)
@@ -264,10 +264,11 @@ def load_file(
     return Done(load.facts - before, already, load.facts, due if number else None, load.last)
 
 
-def usual_batch(path: str, rows: Rows) -> int:
+def usual_batch(path: str, table: Table, rows: Rows) -> int:
     """The most rows of a batch, if the user names no number: a file that fits one batch is one. The
     rows of a pipe are not waited for."""
-    return MOST_ROWS if os.path.isfile(path) and fit_one_batch(rows) else BATCH
+    is_one = os.path.isfile(path) and fit_one_batch(rows, table.source.size)
+    return MOST_ROWS if is_one else BATCH
 
 
 def noted_source(record: Record, start: Start, source: str) -> str:

@@ -16,6 +16,7 @@ from .resume import INPUT, Piece
 from .tables import Table, picker
 
 ROWS = 10_000  # of a piece
+NO_MARKS = bytes(set(range(256)) - set(b",\n"))
 
 
 def pieces(table: Table, schema: Schema, most: int = ROWS) -> Iterator[Piece]:
@@ -50,8 +51,18 @@ def plain_lines(text: bytes, delimiter: str, width: int) -> Optional[list[bytes]
         return None
     text = text.replace(delimiter.encode(), b",")
     lines = text.removesuffix(b"\n").split(b"\n")
+    if have_width(text, len(lines), width):
+        return lines
     commas = {line.count(b",") for line in lines if line}
     return lines if commas <= {width - 1} else None
+
+
+def have_width(text: bytes, count: int, width: int) -> bool:
+    """Whether each of these lines has as many fields, by their commas and ends alone, which are
+    compared with those of such lines at once. An empty line has none."""
+    marks = text.translate(None, NO_MARKS)
+    end = b"" if marks.endswith(b"\n") else b"\n"
+    return width > 1 and marks + end == (b"," * (width - 1) + b"\n") * count
 
 
 def csv_pieces(table: Table, schema: Schema, most: int) -> Iterator[Piece]:

@@ -49,7 +49,8 @@ class Told:
 
 @dataclass(frozen=True)
 class Doubt:
-    """What may be wrong with a file or its proposal, and the option of `cube load` that settles it."""
+    """What may be wrong with a file or its proposal, and the option of `cube load` that settles
+    it."""
 
     text: str
     word: str

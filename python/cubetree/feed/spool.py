@@ -131,7 +131,8 @@ class Spool:
             head = json.loads(text[:end])
         except ValueError as error:
             if name == "gathered":
-                return None  # A stop of the machine has left nothing of it, and then it kept nothing yet.
+                # A stop of the machine has left nothing of it, and then it kept nothing yet.
+                return None
             raise Fault(f"the spool {self.folder} is damaged: {name}") from error
         self.expect_owner(head)
         self.places = {(place[0], place[1]): Place(*place) for place in head["places"]}
