@@ -33,5 +33,5 @@ def audit_of(reply: str) -> Audit:
     if words[:2] == ["audit", "no"]:
         return Audit(True, FILES[int(words[2])], int(words[3]))
     if reply not in ("audit yes", "no schema"):
-        raise Fault(f"the program replied what is no verdict: {reply}")
+        raise Fault(f"the program replied with no verdict: {reply}")
     return Audit(reply == "audit yes")

@@ -86,7 +86,7 @@ def sum_of(rows: Iterable[bytes]) -> str:
 
 
 class Record:
-    """The record of a folder where the batch `due` comes next and which has so many `facts`."""
+    """The record of a folder where the batch `due` comes next and which has `facts` facts."""
 
     def __init__(self, folder: str, due: int, facts: int) -> None:
         self.folder, self.path, self.due = folder, os.path.join(folder, NAME), due
@@ -268,7 +268,7 @@ class Numbered:
         return False
 
     def count(self, number: int, facts: int) -> None:
-        """Counts a batch that was acknowledged, after which there are so many facts."""
+        """Counts a batch that was acknowledged, after which there are `facts` facts."""
         self.record.due, self.facts = number + 1, facts
 
 

@@ -6,7 +6,17 @@ import operator
 import re
 from datetime import date
 from decimal import Decimal
-from typing import Any, Callable, Iterable, Iterator, Mapping, Optional, Sequence, SupportsIndex, Union
+from typing import (
+    Any,
+    Callable,
+    Iterable,
+    Iterator,
+    Mapping,
+    Optional,
+    Sequence,
+    SupportsIndex,
+    Union,
+)
 
 from .errors import Fault, Refused
 from .questions import Question

@@ -129,7 +129,7 @@ class Turns:
             )
 
     def pass_turnstile(self, kind: int) -> None:
-        """Takes B behind Q."""
+        """Takes Q, then B, then releases Q."""
         self.take(QUEUE, kind)
         self.take(BATCH, kind)
         self.give(QUEUE)

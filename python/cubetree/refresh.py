@@ -24,7 +24,7 @@ FIRST_STEP = 1000  # moves
 
 
 class Moves:
-    """How many moves take a batch in, by the pages and points before it and behind it."""
+    """How many moves take a batch in, by the pages and points before it and after it."""
 
     def __init__(self, folder: str, schema: Schema) -> None:
         self.folder, self.forest, self.before = folder, Forest(schema), live_body(folder)
@@ -40,8 +40,8 @@ class Moves:
 
     def made(self) -> int:
         """Those that were made, once the batch is accepted."""
-        behind = live_body(self.folder)
-        return self.up_to(behind.points, behind.width())
+        after = live_body(self.folder)
+        return self.up_to(after.points, after.width())
 
     def up_to(self, points: list[int], width: int) -> int:
         """Reads of old pages, points and writes of new pages."""

@@ -62,7 +62,7 @@ def declared_lines(lines: Union[str, Iterable[str]]) -> list[str]:
 
 def kept_lines(folder: str) -> list[str]:
     """The lines of the schema that the folder keeps, which is declared: its text stands at the
-    front of the file `names`, and behind it names, each of which begins with the number of an
+    front of the file `names`, and after it names, each of which begins with the number of an
     attribute, below 16."""
     with open(os.path.join(folder, "names"), "rb") as file:
         text = file.read(1 << 16)

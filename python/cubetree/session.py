@@ -78,7 +78,7 @@ class Session:
             self.turns.leave()
 
     def drop(self) -> None:
-        """The same of a run that need not end well."""
+        """Ends a run that need not end well."""
         self.run.close()
         self.turns.leave()
 
@@ -119,7 +119,7 @@ class Loading(Session):
         self.run.send(command)
 
     def reply(self) -> str:
-        """The reply to it, behind which readers have their turn unless a batch is pending."""
+        """The reply to it, after which readers have their turn unless a batch is pending."""
         reply = self.run.reply()
         word = reply.split(" ")[0]
         self.is_pending = (

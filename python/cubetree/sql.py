@@ -40,7 +40,7 @@ Parameter = Union[str, SupportsIndex]
 
 class Item(NamedTuple):
     """What is asked for in a column, as it is written: an attribute, or a function; and the
-    place behind it."""
+    place after it."""
 
     text: str
     is_attribute: bool

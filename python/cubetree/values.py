@@ -128,7 +128,7 @@ def scaled(cell: str, places: int) -> str:
 
 
 def scaled_exponent(cell: str, places: int) -> str:
-    """The same of a number with an exponent, as 1e-05."""
+    """A number with an exponent, such as 1e-05, times 10^places."""
     try:
         number = Decimal(cell).scaleb(places)
         if number != number.to_integral_value():

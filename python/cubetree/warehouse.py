@@ -108,7 +108,7 @@ class Warehouse:
         self._write(block(b"begin", self._sendable(rows)))
 
     def step(self, moves: int) -> None:
-        """Makes so many moves of the refresh that takes in the pending batch, or all that are
+        """Makes some moves of the refresh that takes in the pending batch, or all that are
         left."""
         self._write(b"step %d\n" % moves)
 
@@ -177,7 +177,7 @@ class Warehouse:
         return made if question.sent.text == text else Sent(made.text)
 
     def visits(self, text: str) -> Visits:
-        """The same, with how many pages the slice goes to."""
+        """The view that answers a slice, with the pages that it reads."""
         with self._question() as session:
             made = self._plain(text, session)
             reply = session.ask(b"explain " + sent(made.text) + b"\n")
@@ -218,7 +218,7 @@ class Warehouse:
             return self._kinds_in(session)
 
     def _kinds_in(self, session: Session) -> dict[str, Kind]:
-        """The same, for a run of the program."""
+        """The kinds of columns, as a run of the program has them."""
         if self._is_raw:
             return {}
         if session.kinds is None:

@@ -22,6 +22,7 @@ import cubetree
 from cubetree import Fault, copies
 from cubetree import locks as turns
 from cubetree.copies import copy
+from cubetree.format.files import live_body
 from cubetree.process import program
 from tests.helpers import CUBE, ask, load, run, until
 
@@ -161,8 +162,14 @@ def test_synced(monkeypatch: pytest.MonkeyPatch) -> None:
     """All bytes are on the device before the copy has its name, and the name after it."""
     told: List[str] = []
     place, real = os.path.realpath("."), os.rename
+
+    def renamed(old: str, new: str) -> None:
+        """Renames a folder, and notes it."""
+        told.append("renamed")
+        real(old, new)
+
     monkeypatch.setattr(os, "fsync", lambda file: told.append(os.readlink(f"/proc/self/fd/{file}")))
-    monkeypatch.setattr(os, "rename", lambda old, new: (told.append("renamed"), real(old, new)))
+    monkeypatch.setattr(os, "rename", renamed)
     copy("w", "new")
     room = os.path.dirname(told[0])
     assert os.path.dirname(room) == place and os.path.basename(room).startswith(".copy-")
@@ -331,6 +338,19 @@ def test_held_batch() -> None:
     assert is_sound("new") and rows("new") == [(7, 310)]
 
 
+def line_of(qty: int) -> str:
+    """A drawn row."""
+    return f"p{qty % 7},{1990 + qty % 5},{qty}\n"
+
+
+def has_facts(folder: str, count: int) -> bool:
+    """Whether a folder has a schema, and so many facts or more."""
+    try:
+        return live_body(folder).facts >= count
+    except (Fault, FileNotFoundError):
+        return False
+
+
 def test_copies_beside_a_load() -> None:
     """Each copy is sound, and has a front of the file up to the end of a batch."""
     draw = random.Random(7)
@@ -339,30 +359,29 @@ def test_copies_beside_a_load() -> None:
     os.mkdir("v")
     words = [CUBE, "load", "--folder", "v", "--schema", "schema", "--batch", "30", "pipe"]
     begun = subprocess.Popen(words, stderr=subprocess.PIPE)
-    counts = set()
+    counts = []
     with open("pipe", "w") as pipe:
         pipe.write("part,year,qty\n")
-        for number, batch in enumerate(batches):
-            pipe.write("".join(f"p{qty % 7},{1990 + qty % 5},{qty}\n" for qty in batch))
+        for number, batch in enumerate(batches, 1):
+            pipe.write("".join(map(line_of, batch)))
             pipe.flush()
             if number % 6:
                 continue
-            if not number:
-                until(lambda: os.path.exists("v/side1"))
-            facts = copy("v", f"new{number}")
-            assert facts % 30 == 0
-            sent = sum(map(sum, batches[: facts // 30]))
-            assert rows(f"new{number}") == ([(facts, sent)] if facts else [])
+            until(lambda: has_facts("v", 30 * number - 60))
+            counts.append(copy("v", f"new{number}"))
+            sent = sum(sum(each) for each in batches[: counts[-1] // 30])
+            assert rows(f"new{number}") == [(counts[-1], sent)]
             assert is_sound(f"new{number}")
-            counts.add(facts)
-    assert begun.wait(60) == 0 and len(counts) > 3
+    assert begun.wait(60) == 0
+    assert len(set(counts)) == 10 and not any(count % 30 for count in counts)
     assert copy("v", "last") == 1800
-    # A load of the same rows goes on in each copy.
-    text = "".join(f"p{qty % 7},{1990 + qty % 5},{qty}\n" for batch in batches for qty in batch)
-    Path("whole").write_text("part,year,qty\n" + text)
-    said = load("--folder", "new30", "--number", "1", "--batch", "30", "whole")[1]
+    # A load of the same rows goes on in a copy.
+    Path("all").write_text(
+        "part,year,qty\n" + "".join(line_of(n) for each in batches for n in each)
+    )
+    said = load("--folder", "new30", "--number", "1", "--batch", "30", "all")[1]
     assert "the folder keeps 1,800 facts" in said
-    assert files("new30")["names"] == files("last")["names"]
+    assert rows("new30", "sum(qty) by part,year") == rows("last", "sum(qty) by part,year")
 
 
 # ---- stops and faults
@@ -374,15 +393,26 @@ def stopped_at(place: int) -> None:
     if not child:
         left = [place]
 
-        def before(*_: object) -> None:
+        real, real_rename = copies.copy_file, os.rename
+
+        def before() -> None:
             """Ends the process at the place."""
             if not left[0]:
                 os.kill(os.getpid(), signal.SIGKILL)
             left[0] -= 1
 
-        real, real_rename = copies.copy_file, os.rename
-        copies.copy_file = lambda *words: (before(), real(*words))[1]
-        os.rename = lambda *words: (before(), real_rename(*words))[1]  # type: ignore[assignment]
+        def copied(path: str, new: str) -> None:
+            """Copies a file unless the place has come."""
+            before()
+            real(path, new)
+
+        def renamed(old: str, new: str) -> None:
+            """Renames a folder unless the place has come."""
+            before()
+            real_rename(old, new)
+
+        copies.copy_file = copied
+        os.rename = renamed  # type: ignore[assignment]
         try:
             copy("w", "new")
         finally:

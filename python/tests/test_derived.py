@@ -10,6 +10,7 @@ import sqlite3
 from datetime import date
 from decimal import Decimal, localcontext
 from fractions import Fraction
+from itertools import product
 from pathlib import Path
 from typing import Dict, List, NamedTuple, Sequence, Tuple
 
@@ -332,45 +333,29 @@ def test_rounding_and_great_numbers(tmp_path: Path) -> None:
 
 def test_order(tmp_path: Path) -> None:
     """Rows ascend by numbers in order of size, and by texts in order of their bytes."""
-    names = [
-        b"Z",
-        b"a",
-        "\u00e9".encode(),
-        b"\xff",
-        b"",
-        b"a.b",
-        "\U0001f600".encode(),
-        b"\xee\x80\x80",
-    ]
-    days = [b"2025-10-01", b"2025-09-30", b"2025-09-01", b""]
-    rows = [
-        b"%s,%d,%s,1\n" % (name, kg, day) for name in names for kg in (9, 10, 100) for day in days
-    ]
+    texts = [b"Z", b"a", b"\xc3\xa9", b"\xff", b"", b"a.b", b"\xf0\x9f\x98\x80", b"\xee\x80\x80"]
+    weights, days = [9, 100, 10], [b"2025-10-01", b"2025-09-30", b"2025-09-01", b""]
+    rows = [b"%s,%d,%s,1\n" % row for row in product(texts, weights, days)]
     schema = "attr depot text\nattr kg number\nattr day number\nmeasure fee\nview depot,kg,day\n"
     content = b"depot,kg,day,fee\n" + b"".join(rows)
     folder = loaded(tmp_path, schema, content, "--dates", "day", "--na", "", "--yes")
-    texts = [name.decode("utf-8", "surrogateescape") for name in sorted(names)]
+    names = [text.decode("utf-8", "surrogateescape") for text in sorted(texts)]
     months = [("0", 1), ("2025-09", 2), ("2025-10", 1)]
     with cubetree.open(folder) as warehouse:
-        assert warehouse.slice("count by depot,kg,month(day)") == [
-            (text, kg, month, count)
-            for text in texts
-            for kg in (9, 10, 100)
-            for month, count in months
+        found = warehouse.slice("count by depot,kg,month(day)")
+        assert found == [
+            (name, kg, *month) for name, kg, month in product(names, sorted(weights), months)
         ]
-        assert warehouse.slice("count by kg,month(day),depot") == [
-            (kg, month, text, count)
-            for kg in (9, 10, 100)
-            for month, count in months
-            for text in texts
+        found = warehouse.slice("count by kg,month(day),depot")
+        assert found == [
+            (kg, month, name, count)
+            for kg, (month, count), name in product(sorted(weights), months, names)
         ]
         assert warehouse.slice("count by year(day),depot")[:2] == [(0, "", 3), (0, "Z", 3)]
-    printed = ask("--folder", folder, "--csv", "avg(fee) by depot,year(day) where year(day)=2025")[
-        0
-    ]
-    assert printed == "depot,year(day),avg(fee)\n" + "".join(
-        f"{text},2025,1.0000\n" for text in texts
-    )
+    text = "avg(fee) by depot,year(day) where year(day)=2025"
+    printed = ask("--folder", folder, "--csv", text)[0]
+    lines = [f"{name},2025,1.0000\n" for name in names]
+    assert printed == "depot,year(day),avg(fee)\n" + "".join(lines)
 
 
 def test_months(tmp_path: Path) -> None:
@@ -537,10 +522,9 @@ def test_forms(fees: str) -> None:
         "2025-04     -3.000000              -0.600000\n"
         "(4 rows)\n"
     )
-    assert (
-        ask("--folder", fees, "--csv", text + " where depot=Bath")[0]
-        == "month(day),avg(fee),sum(fee)/sum(parcels)\n2024-12,7.000000,\n2025-04,-3.000000,-0.600000\n"
-    )
+    printed = ask("--folder", fees, "--csv", text + " where depot=Bath")[0].splitlines()
+    assert printed[0] == "month(day),avg(fee),sum(fee)/sum(parcels)"
+    assert printed[1:] == ["2024-12,7.000000,", "2025-04,-3.000000,-0.600000"]
     printed = ask("--folder", fees, "--json", "avg(fee),count/sum(parcels) by year(day)")[0]
     assert [json.loads(line) for line in printed.splitlines()] == [
         {"year(day)": 0, "avg(fee)": "1.000000", "count/sum(parcels)": "0.2500"},
@@ -627,8 +611,8 @@ GROUPS = {
 
 
 class Drawn(NamedTuple):
-    """A question in the words of both programs: its text, its columns, and the query in SQL with the
-    columns of the program."""
+    """A question in the words of both programs: its text, its columns and groups, and the query in
+    SQL, which has all that columns are worked out of."""
 
     text: str
     columns: List[str]

@@ -284,7 +284,7 @@ runpy.run_path(sys.argv[0], run_name="__main__")
         feed = self.start("--every", "0", "log")
         until(lambda: sums() == [["1023"]])
         self.assertIn(
-            "cube feed: the former log is gone: what it had behind byte 8 is not read\n",
+            "cube feed: the former log is gone: what it had after byte 8 is not read\n",
             self.stop(feed),
         )
 

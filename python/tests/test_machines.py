@@ -13,6 +13,7 @@ from zlib import crc32
 import pytest
 
 from cubetree.process import program
+from cubetree.status import Status
 from tests import helpers
 from tests.engines import ManyMachines, lines_of, pipe_to, rows_of, sums_in_sqlite
 from tests.helpers import CUBE, SCHEMA, run
@@ -247,11 +248,11 @@ class Messages(ManyMachines):
         under way."""
         self.shards("init", "schema")
         self.cut_off(
-            8,
+            Status.WORKER,
             "shard 1 .*: the scheduler has had no worker of this address for 1 second",
             self.lose_worker,
         )
-        self.cut_off(5, "the scheduler was lost", self.machines.scheduler.kill)
+        self.cut_off(Status.ENGINE, "the scheduler was lost", self.machines.scheduler.kill)
 
     def lose_worker(self) -> None:
         """Ends the first worker for good."""
@@ -264,7 +265,7 @@ class Messages(ManyMachines):
     def cut_off(self, status: int, wanted: str, lose: Any) -> None:
         """A load ends so when something is lost in its midst."""
         os.mkfifo("pipe")
-        patience = "1" if status == 8 else "60"
+        patience = "1" if status == Status.WORKER else "60"
         words = [
             "load",
             *self.where,
@@ -287,7 +288,7 @@ class Messages(ManyMachines):
         self.assertEqual(begun.returncode, status, said)
         self.assertRegex(said, wanted)
         os.remove("pipe")
-        if status == 8:
+        if status == Status.WORKER:
             self.machines.start_worker(0)
             self.machines.addresses[0] = self.machines.addresses.pop()
             self.name()

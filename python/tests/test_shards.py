@@ -35,7 +35,7 @@ class Cut(Case):
         ]
 
     def test_odd_files(self) -> None:
-        """The rows are those that load-csv makes of the file."""
+        """The rows are those that `cube load` makes of the file."""
         self.put("schema", "attr part text\nmeasure qty\nview part\n")
         for content in [
             *(content for content, _ in LoadCsv.ODD),
@@ -44,7 +44,7 @@ class Cut(Case):
         ]:
             with self.subTest(content[:40]):
                 words = ["--delimiter", ";"] if b";" in content else []
-                script = load("--schema", "schema", "--yes", *words, self.put("file", content))[
+                script = load("--script", "--schema", "schema", "--yes", *words, self.put("file", content))[
                     0
                 ].encode("utf-8", "surrogateescape")
                 wanted = script.partition(b"load\n")[2].rpartition(b"end\n")[0].lstrip(b"\n")

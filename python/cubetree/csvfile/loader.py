@@ -65,7 +65,7 @@ class Meanings:
         return any(kind in OPEN for kind in self.kinds.values())
 
     def told(self, table: Table) -> Told:
-        """They by the names of the columns of a table."""
+        """The meanings by the names of the columns of a table."""
         kinds = {table.named(title): kind for title, kind in self.kinds.items()}
         sums = {table.named(title) for title in self.sums}
         texts = {table.named(title) for title in self.texts}
@@ -223,7 +223,7 @@ class Done:
     last: int
 
     def said(self, name: str) -> str:
-        """It in words."""
+        """What became of the file, in words."""
         verb = "was" if self.already == 1 else "were"
         already = f", {self.already:,} {verb} there already" if self.already else ""
         due = f"; the next number is {self.next}" if self.next else ""

@@ -439,7 +439,7 @@ class Column:
         self.role, self.why = self.judged()
 
     def judged(self) -> tuple[str, str]:
-        """Its role, and why."""
+        """The role of the column, and why."""
         if self.told == TEXT:
             return "attribute", ""
         if self.is_summed or self.told and self.told.name == "decimal":

@@ -109,7 +109,7 @@ class Search:
     # ---- all ways
 
     def share_out(self, parts: Parts, most: int) -> None:
-        """Looks at all ways to put the questions behind those of these parts into them, and into
+        """Looks at all ways to put the questions after those of these parts into them, and into
         more parts up to a number."""
         if self.best is not None and self.size(parts) >= self.size(self.best):
             return

@@ -61,7 +61,7 @@ class Rows:
 
     def pass_line(self) -> list[bytes]:
         """The first line alone, which has a quote that is not closed and must not take in all
-        that follows, and the rows behind it."""
+        that follows, and the rows after it."""
         line, _, behind = self.front.partition(b"\n")
         return [line, *self.cut(behind)]
 

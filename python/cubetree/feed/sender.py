@@ -177,7 +177,7 @@ class Sender:
 
 
 def refused_line(why: str, row: bytes) -> str:
-    """A refused row behind the reason, as a line of csv."""
+    """A refused row after the reason, as a line of csv."""
     return line_writer()([why, row.decode("utf-8", "surrogateescape")])[:-2] + "\n"
 
 

@@ -30,7 +30,7 @@ def say(text: str) -> None:
 
 
 class Stream:
-    """Standard input, which comes to its end, or a named pipe, which is opened again behind each
+    """Standard input, which comes to its end, or a named pipe, which is opened again after each
     writer."""
 
     def __init__(self, path: str, places: Places, put_aside: Aside) -> None:
@@ -122,7 +122,7 @@ class Tail:
         self.first = first_of(descriptor, offset)
 
     def place(self) -> Place:
-        """The offset behind the last row that is whole."""
+        """The offset after the last row that is whole."""
         offset = self.offset - len(self.rows.front)
         return Place(self.path, self.inode, offset, first_of(self.descriptor, offset))
 
@@ -184,7 +184,7 @@ class Growing:
                         self.formers.append(Tail(self.path, descriptor, place.offset))
                         return
                     os.close(descriptor)
-        say(f"the former {self.path} is gone: what it had behind byte {place.offset:,} is not read")
+        say(f"the former {self.path} is gone: what it had after byte {place.offset:,} is not read")
         self.forget(place)
 
     def open(self) -> None:

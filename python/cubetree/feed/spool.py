@@ -189,7 +189,7 @@ class Spool:
             self.room = self.used + 2 * ROOM
 
     def add(self, place: Place, rows: list[bytes]) -> None:
-        """Keeps the rows of a piece, with the place behind it."""
+        """Keeps the rows of a piece, with the place after it."""
         self.write(entry_of(place, rows))
         self.places[place[:2]] = place
         self.rows += rows
@@ -216,7 +216,7 @@ class Spool:
         """The batch that was gathered."""
         assert self.gathered is not None
         os.ftruncate(self.gathered, self.used)
-        # The next file begins with the places behind these rows, so they have to be there whenever
+        # The next file begins with the places after these rows, so they have to be there whenever
         # it is.
         os.fsync(self.gathered)
         os.close(self.gathered)
@@ -279,7 +279,7 @@ def entry_of(place: Place, rows: Sequence[bytes]) -> bytes:
 
 
 def entry_at(text: bytes, start: int) -> tuple[Optional[dict[str, Any]], int]:
-    """The piece at an offset and the offset behind it; None where no whole one is."""
+    """The piece at an offset and the offset after it; None where no whole one is."""
     end = text.find(b"\n", start) + 1
     try:
         entry = json.loads(text[start:end])

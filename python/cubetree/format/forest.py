@@ -6,7 +6,7 @@ from typing import NamedTuple, Sequence
 
 from ..schema import Schema
 
-PAGE, ENTRIES = 4096, 4088  # the bytes of a page, and those behind its header
+PAGE, ENTRIES = 4096, 4088  # the bytes of a page, and those after its header
 NARROW, WIDE = 4, 8  # the bytes of a coordinate in the two formats
 
 
@@ -37,7 +37,7 @@ class Forest:
         ]
 
     def trees(self, points: Sequence[int], width: int) -> list[Tree]:
-        """All trees with so many points in each view, whose coordinates have this width."""
+        """All trees with these points in the views, whose coordinates have this width."""
         trees, first = [], 0
         for number in range(max(self.numbers) + 1):
             views = [

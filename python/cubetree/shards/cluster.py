@@ -132,7 +132,7 @@ class Engine:
             return list(pool.map(self.result, self.shards, futures, repeat(task)))
 
     def wait(self, futures: list[Any], any_of: bool = False) -> list[Any]:
-        """The tasks that are not done, behind a wait for all of them, or for any, that ends now
+        """The tasks that are not done, after a wait for all of them, or for any, that ends now
         and then to look for the workers."""
         left = [future for future in futures if not future.done()]
         if not left or any_of and len(left) < len(futures):

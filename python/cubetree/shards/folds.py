@@ -106,7 +106,7 @@ class Keys:
         )
 
     def first_from(self, rows: bytes, key: Key) -> int:
-        """Where the first row begins whose key is not below this one, behind the last row where
+        """Where the first row begins whose key is not below this one, after the last row where
         there is none."""
         low, high = 0, len(rows)
         while low < high:
@@ -164,7 +164,7 @@ def answer_in(schema: Schema, text: str, reply: Reply) -> Answer:
 
 
 def csv_of(text: str, reply: Reply) -> list[str]:
-    """The rows as csv behind a header line, as they were printed, since the program quotes what
+    """The rows as csv after a header line, as they were printed, since the program quotes what
     csv does."""
     question = question_of(text)
     header = line_writer()(question.groups + question.columns)[:-2]

@@ -56,7 +56,7 @@ class Load:
 
     def count(self, future: Any, batch: Cut) -> None:
         """Counts a batch once it is acknowledged. One that has come before another is sent again
-        behind it."""
+        after it."""
         shard = self.engine.shards[batch.shard]
         try:
             taken = self.engine.result(shard, future, worker.take_in)

@@ -35,7 +35,7 @@ class Shard(NamedTuple):
     folder: str
 
     def name(self) -> str:
-        """It in words."""
+        """The shard in words."""
         return f"shard {self.number} ({self.folder} on {self.worker})"
 
     def fault(self, status: Status, words: str) -> ShardFault:
@@ -103,7 +103,7 @@ class Cut(NamedTuple):
 
 
 class Cutter:
-    """Cuts rows into batches for shards, numbered from these numbers on, with at most so many
+    """Cuts rows into batches for shards, numbered from these numbers on, with at most this many
     rows each."""
 
     def __init__(self, numbers: Sequence[int], most_rows: int) -> None:

@@ -88,7 +88,7 @@ def telling(
 
     @functools.wraps(work)
     def tried(*words: object) -> Union[Trouble, Result]:
-        """The same, whatever it raises."""
+        """What the task finds; a Trouble if it raises something."""
         try:
             return work(*words)
         except Refused as fault:
