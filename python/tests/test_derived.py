@@ -18,6 +18,7 @@ import pytest
 
 import cubetree
 from cubetree import Answer, Fault, Refused
+from cubetree.dates import slice_with_dates
 from cubetree.derived import attributes_in, derived, rounded
 from cubetree.values import Kind
 from tests.helpers import ask, load
@@ -757,3 +758,53 @@ def test_as_in_sqlite(tmp_path: Path) -> None:
             assert cells(warehouse.slice(question.text)) == wanted, question.text
             empty += not wanted
     assert empty < 60
+
+
+# ---- what is wrong elsewhere
+
+
+def elsewhere(where: str) -> pytest.MarkDecorator:
+    """The mark of a test of something that another module does wrong."""
+    return pytest.mark.xfail(strict=True, reason=where)
+
+
+@elsewhere("codec.kind_of_column gives the column `count` the kind of a measure `count`")
+def test_count_beside_a_measure_of_its_name(tmp_path: Path) -> None:
+    """A count is a plain number in a plain question too."""
+    content = "depot,count\na,1.50\na,3.00\n"
+    folder = loaded(
+        tmp_path, "attr depot text\nmeasure count\nview depot\nview\n", content, "--cents", "count"
+    )
+    assert asked(folder, "count,sum(count)") == ["2,4.50"]
+
+
+@elsewhere("dates.VALUE finds conditions within a quoted value")
+def test_dates_in_quotes() -> None:
+    """A quoted value stays as it is."""
+    text = 'count where depot="x and day=2025 and y"'
+    assert slice_with_dates(text, KINDS).text == text
+
+
+@elsewhere("Warehouse._plain drops where the parts of a derived question stood")
+@pytest.mark.parametrize("marked", ["avg(fee) by ^colour", "count by month(day),^colour"])
+def test_bytes_of_explain(fees: str, marked: str) -> None:
+    """A refusal of `explain` has the byte of the text that was typed."""
+    with cubetree.open(fees) as warehouse:
+        for explain in (warehouse.explain, warehouse.visits):
+            with pytest.raises(Refused) as caught:
+                explain(marked.replace("^", ""))
+            assert caught.value.byte == marked.index("^") + 1
+
+
+@elsewhere("questions.ranges_of_texts takes month(day) for a text")
+def test_range_of_months_is_no_text(fees: str) -> None:
+    """A range of months is said to be nothing else."""
+    text = "count where month(day)=2024-12..2025-03"
+    assert ask("--folder", fees, "--csv", text) == ("count\n3\n", "")
+
+
+@elsewhere("a folder without a schema has no dates, and this is said first")
+def test_months_without_a_schema(tmp_path: Path) -> None:
+    """A folder without a schema says so, whatever is asked."""
+    with cubetree.open(tmp_path) as warehouse, pytest.raises(Fault, match="refused no schema"):
+        warehouse.slice("count by month(day)")
