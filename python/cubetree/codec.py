@@ -145,6 +145,11 @@ def reader_of(is_number: bool, kind: Optional[Kind]) -> Callable[[str], Value]:
     return lambda cell: value(int(cell)) if cell else ""
 
 
+def kind_of_value(column: str, kinds: Mapping[str, Kind]) -> Optional[Kind]:
+    """The kind of a count, a sum, a least or a greatest value; a count has none."""
+    return None if column == "count" else kind_of_column(column, kinds)
+
+
 def kind_of_column(column: str, kinds: Mapping[str, Kind]) -> Optional[Kind]:
     """The kind of a column of an answer: that of an attribute, or of the measure of a sum."""
     measure = OF_MEASURE.fullmatch(column)
@@ -160,4 +165,6 @@ def answer_of(
     """The answer to a slice: its groups, and then its columns."""
     numeric = [name in schema.numbers for name in question.groups] + [True] * len(question.columns)
     columns = question.groups + question.columns
-    return Answer(columns, numeric, records, [kind_of_column(each, kinds) for each in columns])
+    own = [kinds.get(group) for group in question.groups]
+    own += [kind_of_value(column, kinds) for column in question.columns]
+    return Answer(columns, numeric, records, own)

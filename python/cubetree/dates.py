@@ -12,9 +12,10 @@ from dataclasses import dataclass, field
 from typing import Mapping, Optional
 
 from .errors import Refused
+from .questions import CONDITION
 from .values import Kind
 
-VALUE = re.compile(r"(?<![^ ])([^= ]+)=([0-9][0-9./-]*)(?= and |$)")
+WHERE = " where "
 DATE = re.compile(r"(\d{4})(?:-(\d{2})(?:-(\d{2}))?)?", re.ASCII)
 TOKEN = re.compile(r"'((?:[^']|'')*)'|[A-Za-z][A-Za-z0-9_]*")
 
@@ -22,13 +23,20 @@ TOKEN = re.compile(r"'((?:[^']|'')*)'|[A-Za-z][A-Za-z0-9_]*")
 @dataclass
 class Sent:
     """A question as it is sent, and the parts of its text that were replaced: where each begins
-    there, where it ends, and how long it is in what is sent, all in bytes."""
+    there, where it ends, and how long it is in what is sent, all in bytes. `before` is how the text
+    itself was made of another one."""
 
     text: str
     parts: list[tuple[int, int, int]] = field(default_factory=list)
+    before: Optional[Sent] = None
 
     def refused(self, refused: Refused) -> Refused:
         """A refusal, with the byte as it counts in the text that was given."""
+        found = self.refused_here(refused)
+        return self.before.refused(found) if self.before else found
+
+    def refused_here(self, refused: Refused) -> Refused:
+        """A refusal, with the byte as it counts in the text whose parts were replaced."""
         if refused.byte is None or not self.parts:
             return refused
         byte = refused.byte - 1
@@ -57,11 +65,14 @@ def replaced(text: str, parts: list[tuple[int, int, str]]) -> Sent:
 def slice_with_dates(text: str, kinds: Mapping[str, Kind]) -> Sent:
     """A slice whose dates are numbers."""
     parts = []
-    for found in VALUE.finditer(text, text.find(" where ") + 1 or len(text)):
-        kind = kinds.get(found[1])
-        new = bounds_of(found[2], kind) if kind else None
+    where = text.find(WHERE)
+    place = where + len(WHERE) if where >= 0 else len(text)
+    while found := CONDITION.match(text, place):
+        kind, value = kinds.get(found["name"]), found["plain"]
+        new = bounds_of(value, kind) if kind and value else None
         if new:
-            parts.append((found.start(2), found.end(2), new))
+            parts.append((found.start("plain"), found.end("plain"), new))
+        place = found.end()
     return replaced(text, parts)
 
 

@@ -11,7 +11,7 @@ import re
 from dataclasses import dataclass
 from typing import Callable, Iterable, List, Mapping, NamedTuple, Optional, Sequence, Tuple
 
-from .codec import Answer, kind_of_column
+from .codec import Answer, kind_of_value
 from .dates import Sent, replaced
 from .errors import Fault
 from .questions import question_of
@@ -80,6 +80,11 @@ class Derived:
         return any(group.part for group in self.groups)
 
 
+def plain(text: str) -> Derived:
+    """A question that goes to the program as it stands."""
+    return Derived(Sent(text), [], [])
+
+
 def derived(text: str, kinds: Mapping[str, Kind]) -> Derived:
     """A question as the program can answer it; a fault if a part is not one of a date."""
     question, conditions = taken_apart(text)
@@ -96,7 +101,7 @@ def taken_apart(text: str) -> Tuple[Derived, List[Condition]]:
     conditions: List[Condition] = []
     head = HEAD.match(text)
     if not head:
-        return Derived(Sent(text), [], []), conditions
+        return plain(text), conditions
     columns = columns_in(head["columns"], parts)
     groups = groups_in(head["groups"] or "", head.start("groups"), parts)
     for found in CONDITION.finditer(text, head.end()):
@@ -255,11 +260,11 @@ def worked_out(
     column: Column, asked: Sequence[str], kinds: Mapping[str, Kind]
 ) -> Tuple[Callable[[Record], str], Optional[Kind]]:
     """What makes the cell of a column of the cells of a row, and the kind of the column."""
-    kind, above, below = kind_asked(asked[column.above], kinds), column.above, column.below
+    kind, above, below = kind_of_value(asked[column.above], kinds), column.above, column.below
     if below is None:
         return (lambda cells: cells[above]), kind
     divided_by: int = below
-    other = kind_asked(asked[below], kinds)
+    other = kind_of_value(asked[below], kinds)
     places = places_of(kind) + MORE_PLACES
     scale = 10 ** (MORE_PLACES + places_of(other))
 
@@ -270,11 +275,6 @@ def worked_out(
         return str(rounded(int(cells[above]) * scale, divisor)) if divisor else ""
 
     return quotient, Kind("decimal", places=places)
-
-
-def kind_asked(column: str, kinds: Mapping[str, Kind]) -> Optional[Kind]:
-    """The kind of a column of the program. A count has none, also beside a measure `count`."""
-    return None if column == "count" else kind_of_column(column, kinds)
 
 
 def places_of(kind: Optional[Kind]) -> int:

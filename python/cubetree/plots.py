@@ -198,7 +198,7 @@ def script_of(chart: Chart, kind: str, title: str) -> str:
     blocks, plots = [], []
     for place, series in enumerate(drawn_series(chart)):
         data = [
-            f"{key if chart.is_ordered else quoted(key)} {format(value, 'f')}"
+            f"{key if chart.is_ordered else quoted(key[:WIDEST_NAME])} {format(value, 'f')}"
             for key, value in drawn_rows(chart, series)
         ]
         blocks.append(f"$rows{place} << END_OF_ROWS\n" + "\n".join(data) + "\nEND_OF_ROWS")

@@ -16,6 +16,7 @@ CONDITION = re.compile(
     re.DOTALL,
 )
 
+OF_DATE = re.compile(r"(?:month|year)\([^()]+\)")
 LONGEST_SLICE = 65_000  # bytes
 
 
@@ -101,5 +102,7 @@ def ranges_of_texts(text: str, numbers: Container[str]) -> list[str]:
         f"{each['name']} is a text: {each['plain']} is one value, no range (ranges need an"
         " attribute of numbers, in a new folder)"
         for each in found
-        if ".." in (each["plain"] or "") and each["name"] not in numbers
+        if ".." in (each["plain"] or "")
+        and each["name"] not in numbers
+        and not OF_DATE.fullmatch(each["name"])
     ]

@@ -13,7 +13,7 @@ from .batches import PYTHON, Numbered
 from .codec import Answer, GivenRow, answer_of, block, sendable
 from .columns import Columns, kept_columns
 from .dates import Sent, query_with_dates, slice_with_dates
-from .derived import derived, derived_answer
+from .derived import derived, derived_answer, plain
 from .design.views import Choice, views_of
 from .errors import Damaged, Fault, Refused
 from .format.visits import Visits, visits
@@ -172,9 +172,10 @@ class Warehouse:
     def _plain(self, text: str, session: Session) -> Sent:
         """The slice that the program is asked for a question."""
         kinds = self._kinds_in(session)
-        question = derived(text, kinds)
+        question = derived(text, kinds) if session.schema else plain(text)
         made = slice_with_dates(question.sent.text, kinds)
-        return made if question.sent.text == text else Sent(made.text)
+        made.before = question.sent
+        return made
 
     def visits(self, text: str) -> Visits:
         """The view that answers a slice, with the pages that it reads."""
@@ -292,13 +293,14 @@ class Warehouse:
         """The answer to a slice, in which these levels may stand; a fault if it is refused."""
         with self._question() as session:
             kinds = self._kinds_in(session)
-            question = derived(text, kinds)
+            question = derived(text, kinds) if session.schema else plain(text)
             made = slice_with_dates(question.sent.text, kinds)
+            made.before = question.sent
             command = word + sent(made.text)
             told = session.tell(levels, len(command) + 1)
             records, last = ([], told) if told.startswith("refused ") else session.answer(command)
         if session.schema is None or last.startswith("refused "):
-            raise question.sent.refused(made.refused(Refused(last)))
+            raise made.refused(Refused(last))
         if question.is_plain():
             return answer_of(question_of(made.text), session.schema, records, kinds)
         return derived_answer(question, session.schema, records, kinds)

@@ -75,7 +75,7 @@ class Ask(Case):
         wanted = (
             'part,year,max(qty)\n"a,'
             ' ""b""\nc",1999,123456789012345678901234567890\n'
-            'bolt,1997,5\nbolt,1998,4\nnut,1997,-2\n'
+            "bolt,1997,5\nbolt,1998,4\nnut,1997,-2\n"
         )
         self.assertEqual(ask("--in", "w", "--csv", "max(qty) by part,year")[0], wanted)
         rows = [

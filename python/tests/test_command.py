@@ -98,12 +98,7 @@ def test_meanings() -> None:
     assert used == set(Status)
 
 
-NARROW = pytest.mark.xfail(
-    strict=True, reason="indented lines are not filled: statuses, examples, and the commands"
-)
-
-
-@pytest.mark.parametrize("width", [100, 80, pytest.param(60, marks=NARROW)])
+@pytest.mark.parametrize("width", [100, 80, 60])
 def test_width(width: int) -> None:
     """No line of a help is wider than the terminal."""
     lines = [line for name in ("", *COMMANDS) for line in helped(name, width).splitlines()]
@@ -256,9 +251,6 @@ def closed(*words: str) -> "Tuple[int, bytes]":
     return done.returncode, done.stderr
 
 
-UNREAD = pytest.mark.xfail(strict=True, reason="the parser prints outside of what `run` catches")
-
-
 @pytest.mark.parametrize(
     "words",
     [
@@ -267,9 +259,9 @@ UNREAD = pytest.mark.xfail(strict=True, reason="the parser prints outside of wha
         "ask --folder w --explain count",
         "undo --dry-run w",
         "copy w new",
-        pytest.param("-h", marks=UNREAD),
-        pytest.param("ask -h", marks=UNREAD),
-        pytest.param("--version", marks=UNREAD),
+        "-h",
+        "ask -h",
+        "--version",
     ],
 )
 def test_output_that_nobody_reads(words: str) -> None:

@@ -423,6 +423,8 @@ def test_measure_with_the_name_count(tmp_path: Path) -> None:
         ("avg(fee) by month(day)^ group by depot", "syntax"),
         ("avg(fee) by depot where depot=x^ or month(day)=2025-03", "syntax"),
         ("avg(fee) by ^month(day", "attribute"),
+        ("count by depot,^month()", "attribute"),
+        ("count by ^month,day", "attribute"),
         ("avg(fee),^avg(fee)/count", "syntax"),
         ("sum(fee)/count,^avg()", "syntax"),
         ("sum(fee)^/count/count", "syntax"),
@@ -763,12 +765,6 @@ def test_as_in_sqlite(tmp_path: Path) -> None:
 # ---- what is wrong elsewhere
 
 
-def elsewhere(where: str) -> pytest.MarkDecorator:
-    """The mark of a test of something that another module does wrong."""
-    return pytest.mark.xfail(strict=True, reason=where)
-
-
-@elsewhere("codec.kind_of_column gives the column `count` the kind of a measure `count`")
 def test_count_beside_a_measure_of_its_name(tmp_path: Path) -> None:
     """A count is a plain number in a plain question too."""
     content = "depot,count\na,1.50\na,3.00\n"
@@ -778,14 +774,12 @@ def test_count_beside_a_measure_of_its_name(tmp_path: Path) -> None:
     assert asked(folder, "count,sum(count)") == ["2,4.50"]
 
 
-@elsewhere("dates.VALUE finds conditions within a quoted value")
 def test_dates_in_quotes() -> None:
     """A quoted value stays as it is."""
     text = 'count where depot="x and day=2025 and y"'
     assert slice_with_dates(text, KINDS).text == text
 
 
-@elsewhere("Warehouse._plain drops where the parts of a derived question stood")
 @pytest.mark.parametrize("marked", ["avg(fee) by ^colour", "count by month(day),^colour"])
 def test_bytes_of_explain(fees: str, marked: str) -> None:
     """A refusal of `explain` has the byte of the text that was typed."""
@@ -796,14 +790,12 @@ def test_bytes_of_explain(fees: str, marked: str) -> None:
             assert caught.value.byte == marked.index("^") + 1
 
 
-@elsewhere("questions.ranges_of_texts takes month(day) for a text")
 def test_range_of_months_is_no_text(fees: str) -> None:
     """A range of months is said to be nothing else."""
     text = "count where month(day)=2024-12..2025-03"
     assert ask("--folder", fees, "--csv", text) == ("count\n3\n", "")
 
 
-@elsewhere("a folder without a schema has no dates, and this is said first")
 def test_months_without_a_schema(tmp_path: Path) -> None:
     """A folder without a schema says so, whatever is asked."""
     with cubetree.open(tmp_path) as warehouse, pytest.raises(Fault, match="refused no schema"):

@@ -219,8 +219,10 @@ class LoadCsv(Case):
         """A folder keeps what its columns are, and each later load and answer has it so."""
         self.put(
             "file",
-            "Day,Month,Fee\n2025-03-14,2025-03,12.50\n2025-03-15,2025-03,-0.8\n"
-            "2025-04-01,2025-04,12\n",
+            (
+                "Day,Month,Fee\n2025-03-14,2025-03,12.50\n2025-03-15,2025-03,-0.8\n"
+                "2025-04-01,2025-04,12\n"
+            ),
         )
         words = ["--cents", "Fee", "--dates", "Day,month"]
         lines = [

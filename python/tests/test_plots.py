@@ -14,7 +14,7 @@ from typing import List, Sequence, Tuple
 import pytest
 
 from cubetree import Answer, Fault
-from cubetree.plots import Chart, Series, chart_lines, chart_of, draw, quoted
+from cubetree.plots import Chart, Series, chart_lines, chart_of, draw
 from cubetree.process import program
 from cubetree.sorting import Top
 from cubetree.values import Kind
@@ -250,6 +250,9 @@ def test_names() -> None:
     answer = Answer(("part", "year", "sum(qty)"), (False, True, True), records)
     chart = chart_of(answer, [2], False)
     assert chart.series[0].keys == ['a\\n"b"\\t 1', "(empty) 2", "\\udcff\\x1b[31m 3"]
+    pairs = [("1990", "a", "1"), ("1991", "a", "2")]
+    chart = chart_of(Answer(("year", "part", "sum(qty)"), (True, False, True), pairs), [2], False)
+    assert (chart.is_ordered, chart.series[0].keys) == (False, ["1991 a", "1990 a"])
     total = chart_of(Answer(("count", "sum(qty)"), (True, True), [("3", "9")]), [0, 1], False)
     assert chart_lines(total, 24)[:2] == ["count", "all  3  " + "█" * 16]
     assert chart_lines(total, 24)[2:] == ["", "sum(qty)", "all  9  " + "█" * 16]
@@ -363,6 +366,18 @@ def test_bars_of_a_picture(
 
 
 @needs_gnuplot
+def test_many_bars_of_a_picture(tmp_path: Path, monkeypatch: pytest.MonkeyPatch) -> None:
+    """There are 40 bars, as in a terminal; ordered rows are all drawn."""
+    monkeypatch.chdir(tmp_path)
+    pairs = [(str(1000 + place), 1000 - place) for place in range(50)]
+    assert len(heights(by_name(pairs))) == 40
+    texts = texts_of("bars.svg")
+    assert "1039" in texts and "1040" not in texts
+    draw(ordered(pairs), "line.svg", "t")
+    assert {"1040", "1050"} & set(texts_of("line.svg"))
+
+
+@needs_gnuplot
 def test_cells_without_a_date(tmp_path: Path, monkeypatch: pytest.MonkeyPatch) -> None:
     """Days and months stand at their time, and what has none is left out."""
     monkeypatch.chdir(tmp_path)
@@ -392,19 +407,18 @@ def test_columns_without_values(tmp_path: Path, monkeypatch: pytest.MonkeyPatch)
         draw(Chart([empty], True), "x.svg", "t")
 
 
-HOSTILE = [
-    '"; system("touch x"); "',
-    "`touch x`",
-    "$(touch x)",
-    "END_OF_ROWS",
-    "\\",
-    '\\"; !touch x',
-    "@GNUTERM @x",
-    "{/Bold %s} ^_<&>",
-    "a\n!touch x\nb",
-    "\x01\x1b\r\x7f\udcff",
-    "",
-]
+HOSTILE = {
+    '"; system("touch ../hit"); "': "'; system('touch ../hit'); '",
+    "`touch ../hit`": "'touch ../hit'",
+    "$(touch ../hit)": "$(touch ../hit)",
+    '\\"; !touch ../hit': "\\'; !touch ../hit",
+    "a\n!touch ../hit\nb": "a\\n!touch ../hit\\nb",
+    "END_OF_ROWS": "END_OF_ROWS",
+    "\\": "\\",
+    "@GNUTERM @x": "@GNUTERM @x",
+    "{/Bold %s} ^_<&>": "{/Bold %s} ^_<&>",
+    "\x01\x1b\r\x7f\udcff": "\\x01\\x1b\\r\\x7f\\udcff",
+}
 
 
 @needs_gnuplot
@@ -412,25 +426,36 @@ HOSTILE = [
 def test_hostile_names(tmp_path: Path, monkeypatch: pytest.MonkeyPatch, kind: str) -> None:
     """Nothing in a name, a title or a column is a command."""
     monkeypatch.chdir(tmp_path)
-    records = [(name, str(place + 1)) for place, name in enumerate(HOSTILE)]
-    chart = chart_of(answer_of(records), [1], False)
-    for name in HOSTILE:
-        draw(chart._replace(series=[chart.series[0]._replace(name=name)]), f"p.{kind}", name)
-        assert os.listdir() == [f"p.{kind}"]
-        if kind == "svg":
-            texts = texts_of("p.svg")
-            assert {"{/Bold %s} ^_<&>", "@GNUTERM @x", "END_OF_ROWS", "\\", "(empty)"} <= set(texts)
-            assert quoted(name)[1:-1].replace("\\\\", "\\").strip() in texts + [""]
+    path, texts = f"p.{kind}", [*HOSTILE.values()]
+    chart = chart_of(answer_of([(name, "1") for name in HOSTILE]), [1], False)
+    for name, text in HOSTILE.items():
+        named = chart._replace(series=[chart.series[0]._replace(name=name)])
+        for each, title, wanted in ((chart, name, [text, "sum(qty)"]), (named, "t", [text, "t"])):
+            draw(each, path, title)
+            assert os.listdir() == [path]
+            if kind == "svg":
+                found = texts_of(path)
+                assert sorted(item for item in found if item in texts) == sorted([*texts, text])
+                assert set(wanted) <= set(found)
+
+
+@needs_gnuplot
+def test_long_names_of_a_picture(tmp_path: Path, monkeypatch: pytest.MonkeyPatch) -> None:
+    """Names are cut to 30 characters, as in a terminal, so that they leave room for the bars."""
+    monkeypatch.chdir(tmp_path)
+    found = heights(by_name([("x" * 255, 9), ("y" * 30, 9), ("z", 3)]))
+    assert {"x" * 30, "y" * 30, "z"} <= set(texts_of("bars.svg"))
+    assert found[0] > 100 and found[2] == pytest.approx(found[0] / 3, rel=0.02)
 
 
 @needs_gnuplot
 def test_hostile_question(folder: Path) -> None:
     """The title is the question, whatever bytes it has."""
-    part = '"`touch x`""; system(""touch x"")\\\x07\udcff"'
+    part = '"`touch ../hit`""; system(""touch ../hit"")\\\x07\udcff"'
     rows = f"load\n{part},1990,1\nend\n".encode("utf-8", "surrogateescape")
     run(program(), given=rows, cwd="w")
     assert ask("--folder", "w", "--picture", "p.svg", f"count where part={part}") == ("", "")
-    title = r"count where part=''touch x'''; system(''touch x'')\\x07\udcff'"
+    title = r"count where part=''touch ../hit'''; system(''touch ../hit'')\\x07\udcff'"
     assert title in texts_of("p.svg")
     assert sorted(os.listdir()) == ["p.svg", "w"]
 

@@ -318,8 +318,10 @@ class Explained(Case):
         )[0]
         self.assertEqual(
             told,
-            'view,suffix,run,pages,of\n"year,part",1,yes,2,3\n\n'
-            'view,suffix,run,pages,of\n"part,year",1,yes,2,3\n',
+            (
+                'view,suffix,run,pages,of\n"year,part",1,yes,2,3\n\n'
+                'view,suffix,run,pages,of\n"part,year",1,yes,2,3\n'
+            ),
         )
         self.assertEqual(
             ask("--in", "w", "--explain", "--json", "count")[0],

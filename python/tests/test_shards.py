@@ -44,9 +44,9 @@ class Cut(Case):
         ]:
             with self.subTest(content[:40]):
                 words = ["--delimiter", ";"] if b";" in content else []
-                script = load("--script", "--schema", "schema", "--yes", *words, self.put("file", content))[
-                    0
-                ].encode("utf-8", "surrogateescape")
+                script = load(
+                    "--script", "--schema", "schema", "--yes", *words, self.put("file", content)
+                )[0].encode("utf-8", "surrogateescape")
                 wanted = script.partition(b"load\n")[2].rpartition(b"end\n")[0].lstrip(b"\n")
                 self.assertEqual(
                     b"".join(row + b"\n" for row in self.flat("file", *words[1:])), wanted

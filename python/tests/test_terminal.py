@@ -32,7 +32,10 @@ SUMS = ["part  sum(qty)", "----  --------", "bolt         9", "nut         -2", 
 
 
 class Terminal:
-    """A run of ask whose input, output and errors are a terminal."""
+    """A run of ask whose input, output and errors are a terminal; all that were begun are ended
+    behind each test."""
+
+    begun: List["subprocess.Popen[bytes]"] = []
 
     def __init__(self, *words: str, **variables: str) -> None:
         try:
@@ -50,6 +53,7 @@ class Terminal:
             # A shell that runs the tests in the background has the signal ignored.
             preexec_fn=lambda: signal.signal(signal.SIGINT, signal.SIG_DFL),
         )
+        self.begun.append(self.process)
         os.close(its)
         self.told = b""
 
@@ -84,31 +88,34 @@ class Terminal:
     def end(self, keys: bytes = END) -> int:
         """Types the last keys, and gives the exit status."""
         self.type(keys)
+        end = time.monotonic() + 60
         while self.read():
-            pass
+            assert time.monotonic() < end, self.told
         os.close(self.mine)
         return self.process.wait(60)
 
 
 @pytest.fixture(name="room", autouse=True)
-def room_of(tmp_path: Path, monkeypatch: pytest.MonkeyPatch) -> Path:
+def room_of(tmp_path: Path, monkeypatch: pytest.MonkeyPatch) -> Iterator[Path]:
     """A folder `w` with three facts, in the current folder."""
     monkeypatch.chdir(tmp_path)
     (tmp_path / "w").mkdir()
     run(program(), given=f"schema\n{SCHEMA}end\nload\n{ROWS}end\n".encode(), cwd="w")
     texts = {name: Kind("text" if name == "part" else "whole") for name in ("part", "year", "qty")}
     Columns({**texts, **KINDS}).write("w")
-    return tmp_path
+    yield tmp_path
+    while Terminal.begun:
+        begun = Terminal.begun.pop()
+        begun.kill()
+        begun.wait()
 
 
 @pytest.fixture(name="terminal")
-def terminal_of(room: Path) -> Iterator[Terminal]:
+def terminal_of(room: Path) -> Terminal:
     """A terminal that asks for its first question."""
     terminal = Terminal("--folder", "w")
     assert terminal.until() == []
-    yield terminal
-    terminal.process.kill()
-    terminal.process.wait()
+    return terminal
 
 
 # ---- what is typed
@@ -265,7 +272,7 @@ def test_history() -> None:
         assert kept.read_text() == "sum(qty) by part\nquit\nsum(qty) by part\n"
 
 
-def test_length_of_history(terminal: Terminal) -> None:
+def test_length_of_history() -> None:
     """The last 1,000 lines are kept."""
     os.makedirs("long/cubetree")
     Path("long/cubetree/history").write_text("".join(f"line {n}\n" for n in range(3000)))

@@ -2,6 +2,7 @@
 from __future__ import annotations
 
 import argparse
+import re
 import textwrap
 from typing import Callable, Iterable, NamedTuple, Sequence
 
@@ -33,16 +34,23 @@ class HelpFormatter(argparse.HelpFormatter):
         super().__init__(prog, max_help_position=24)
 
     def _fill_text(self, text: str, width: int, indent: str) -> str:
-        """Fills each paragraph by itself; lines that are indented stay as they are."""
-        paragraphs = textwrap.dedent(text).strip().split("\n\n")
-        return "\n\n".join(
-            (
-                paragraph
-                if paragraph.startswith(" ")
-                else super(HelpFormatter, self)._fill_text(paragraph, width, indent)
-            )
-            for paragraph in paragraphs
-        )
+        """Fills each paragraph by itself, and each line of one that is indented."""
+        filled: list[str] = []
+        for paragraph in textwrap.dedent(text).strip().split("\n\n"):
+            if paragraph.startswith(" "):
+                filled.append("\n".join(hung(line, width) for line in paragraph.split("\n")))
+            else:
+                filled.append(super()._fill_text(paragraph, width, indent))
+        return "\n\n".join(filled)
+
+
+def hung(line: str, width: int) -> str:
+    """A line that is filled; what does not fit stands below its second column, or its words."""
+    if len(line) <= width:
+        return line
+    column = re.match(r" +\S+ {2,}", line)
+    below = " " * (len(column[0]) if column else len(line) - len(line.lstrip()) + 2)
+    return textwrap.fill(line, width, subsequent_indent=below, drop_whitespace=True)
 
 
 def statuses_in_words(statuses: Iterable[Status]) -> str:

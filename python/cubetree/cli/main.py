@@ -76,9 +76,7 @@ def run(name: str, words: list[str]) -> int:
         sys.stdout.flush()
         return status
     except BrokenPipeError:
-        # Whoever read the output has gone. Python must not meet that again at its end.
-        os.dup2(os.open(os.devnull, os.O_WRONLY), 1)
-        return Status.FAILED
+        raise
     except KeyboardInterrupt:
         print(f"cube {name}: stopped", file=sys.stderr)
         return Status.FAILED
@@ -92,7 +90,7 @@ def status_of(fault: Fault | OSError) -> Status:
     return fault.exit_status if isinstance(fault, Fault) else Status.FAILED
 
 
-def main() -> int:
+def carry_out() -> int:
     """Runs the command of the command line, and gives its exit status."""
     called, words = os.path.basename(sys.argv[0]), sys.argv[1:]
     former = FORMER.get(called.removeprefix("cubetree-"))
@@ -109,3 +107,17 @@ def main() -> int:
     if options.command not in COMMANDS:
         parser.error(f"no command `{options.command}`; there are {', '.join(COMMANDS)}")
     return run(options.command, options.words)
+
+
+def main() -> int:
+    """Runs a command; it ends quietly if whoever read its output has gone."""
+    try:
+        try:
+            return carry_out()
+        finally:
+            if sys.stdout is not None:
+                sys.stdout.flush()
+    except BrokenPipeError:
+        # Python must not meet that again at its end.
+        os.dup2(os.open(os.devnull, os.O_WRONLY), 1)
+        return Status.FAILED
