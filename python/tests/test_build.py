@@ -1,7 +1,6 @@
 """Tests of tools/build, with a stand-in for the kit."""
 import importlib.machinery
 import importlib.util
-import os
 import shutil
 import sys
 from pathlib import Path

@@ -6,9 +6,9 @@ import os
 import re
 import signal
 import subprocess
-import sys
+from contextlib import suppress
 from pathlib import Path
-from typing import Callable, List, Sequence, Tuple
+from typing import Callable, List, Tuple
 
 import pytest
 
@@ -19,7 +19,7 @@ from cubetree.errors import Busy, Doubtful, Ended, Fault, Full
 from cubetree.process import program
 from cubetree.status import MEANINGS, Status
 from cubetree.version import __version__
-from tests.helpers import CUBE, run
+from tests.helpers import CUBE, run, until
 
 SCHEMA = "attr part text\nmeasure qty\nview part\nview\n"
 FORMS = "--csv --json --markdown --sort --top"
@@ -282,6 +282,14 @@ def test_many_rows_that_nobody_reads() -> None:
     begun.stderr.close()
 
 
+def is_stopped(process: "subprocess.Popen[bytes]") -> bool:
+    """Whether a signal ends a process: one that comes just before Python waits is not seen."""
+    process.send_signal(signal.SIGINT)
+    with suppress(subprocess.TimeoutExpired):
+        process.wait(5)
+    return process.poll() is not None
+
+
 def test_interrupt() -> None:
     """Control-C says that it stopped, with status 1."""
     pipe = subprocess.PIPE
@@ -297,8 +305,8 @@ def test_interrupt() -> None:
     begun.stdin.write(b"count\n")
     begun.stdin.flush()
     assert begun.stdout.readline() + begun.stdout.readline() == b"count\n2\n"
-    begun.send_signal(signal.SIGINT)
-    assert begun.communicate(timeout=60) == (b"", b"cube ask: stopped\n")
+    until(lambda: is_stopped(begun))
+    assert begun.communicate() == (b"", b"cube ask: stopped\n")
     assert begun.returncode == 1
 
 

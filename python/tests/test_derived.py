@@ -4,26 +4,21 @@ from __future__ import annotations
 import csv
 import io
 import json
-import os
-import random
-import sqlite3
 from datetime import date
-from decimal import Decimal, localcontext
-from fractions import Fraction
+from decimal import Decimal
 from itertools import product
 from pathlib import Path
-from typing import Dict, List, NamedTuple, Sequence, Tuple
+from typing import List
 
 import pytest
 
 import cubetree
-from cubetree import Answer, Fault, Refused
+from cubetree import Fault, Refused
 from cubetree.dates import slice_with_dates
-from cubetree.derived import attributes_in, derived, rounded
 from cubetree.values import Kind
-from tests.helpers import ask, load
+from tests.deriving import KINDS, cells, loaded
+from tests.helpers import ask
 
-KINDS = {"day": Kind("day", order="YMD"), "month": Kind("month"), "fee": Kind("decimal", places=2)}
 SCHEMA = "attr depot text\nattr day number\nmeasure parcels\nmeasure fee\n"
 VIEWS = "view day\nview depot,day\nview\n"
 # Of the months: no date 4 parcels, 1.00; 2024-12 0, 7.00; 2025-03 5, 12.55; 2025-04 5, -3.00.
@@ -37,17 +32,6 @@ Ely,,4,1.00
 GREATEST = 2**127 - 1
 
 
-def loaded(folder: Path, schema: str, content: "str | bytes", *words: str) -> str:
-    """A new folder with the rows of a csv file."""
-    (folder / "w").mkdir()
-    (folder / "schema").write_text(schema)
-    text = content if isinstance(content, bytes) else content.encode()
-    (folder / "file").write_bytes(text)
-    names = ["--folder", str(folder / "w"), "--schema", str(folder / "schema")]
-    load(*names, *words, str(folder / "file"))
-    return str(folder / "w")
-
-
 @pytest.fixture(name="fees", scope="module")
 def folder_of_fees(tmp_path_factory: pytest.TempPathFactory) -> str:
     """A folder with FEES."""
@@ -55,102 +39,10 @@ def folder_of_fees(tmp_path_factory: pytest.TempPathFactory) -> str:
     return loaded(tmp_path_factory.mktemp("fees"), SCHEMA + VIEWS, FEES, *words)
 
 
-def cells(answer: Answer) -> List[str]:
-    """The rows of an answer as lines of csv without quotes."""
-    return [
-        ",".join(format(cell, "f") if isinstance(cell, Decimal) else str(cell) for cell in row)
-        for row in answer
-    ]
-
-
 def asked(folder: str, text: str, raw: bool = False) -> List[str]:
     """The rows of the answer to a question."""
     with cubetree.open(folder, raw=raw) as warehouse:
         return cells(warehouse.slice(text))
-
-
-# ---- questions, without the program
-
-
-@pytest.mark.parametrize(
-    "text, sent",
-    [
-        ("avg(qty)", "sum(qty),count"),
-        ("avg(qty),count,avg(fee) by a", "sum(qty),count,sum(fee),count by a"),
-        ("sum(fee)/count,max(a)/min(b)", "sum(fee),count,max(a),min(b)"),
-        ("count/count by month(day)", "count,count by day"),
-        ("count by year(day),a where b=1", "count by day,a where b=1"),
-        ("count by day,month(day),a,year(day)", "count by day,a"),
-        ("count by month(day),day", "count by day"),
-        ("count by month(day),year(month)", "count by day,month"),
-        ("count where month(day)=2025-03", "count where day=2025-03"),
-        (
-            "count where a=1 and year(day)=2024..2025 and b=2",
-            "count where a=1 and day=2024..2025 and b=2",
-        ),
-        (
-            'count where a="x and year(day)=1" and b="""" and year(month)=2025',
-            'count where a="x and year(day)=1" and b="""" and month=2025',
-        ),
-        ('count where a=" where month(day)=2025-03"', 'count where a=" where month(day)=2025-03"'),
-        # What is no such column or group goes to the program, which refuses it by its byte.
-        ("avg(qty)/count", "avg(qty)/count"),
-        ("avg()", "avg()"),
-        ("avg", "avg"),
-        ("Avg(qty)", "Avg(qty)"),
-        ("count/", "count/"),
-        ("count/count/count", "count/count/count"),
-        ("count by month(day", "count by month(day"),
-        ("count by day(day)", "count by day(day)"),
-        ("count where xmonth(day)=2025-03", "count where xmonth(day)=2025-03"),
-        ("", ""),
-    ],
-)
-def test_sent(text: str, sent: str) -> None:
-    """The program is asked for what the columns and groups are worked out of."""
-    assert derived(text, KINDS).sent.text == sent
-
-
-@pytest.mark.parametrize(
-    "text, is_plain",
-    [
-        ("count,sum(qty) by day,a where year(day)=2025", True),
-        ("avg(qty)", False),
-        ("count/count", False),
-        ("count by a,month(day)", False),
-    ],
-)
-def test_plain(text: str, is_plain: bool) -> None:
-    """A condition alone leaves the rows as the program has them."""
-    assert derived(text, KINDS).is_plain() == is_plain
-
-
-@pytest.mark.parametrize(
-    "text, names",
-    [
-        ("avg(fee) by depot,month(day)", ["depot", "day"]),
-        ("count/sum(fee) by day,month(day),depot", ["day", "depot"]),
-        ("count by year(day) where month(day)=2025-03 and depot=x", ["day", "depot"]),
-        ('avg(fee) by a where b="by month(c)"', ["a", "b"]),
-        ("avg(fee),count", []),
-        ("avg(fee)/count by depot", []),
-    ],
-)
-def test_attributes(text: str, names: List[str]) -> None:
-    """They are those that a view needs."""
-    assert attributes_in(text) == names
-
-
-def test_rounded() -> None:
-    """As Python rounds fractions: the nearest number, and the even one of two."""
-    for above, below, wanted in [(5, 2, 2), (7, 2, 4), (-5, 2, -2), (-7, 2, -4), (7, -2, -4)]:
-        assert rounded(above, below) == wanted
-    draw = random.Random(3)
-    for _ in range(2000):
-        above, below = draw.randrange(-99, 100), draw.choice([-8, -3, -2, -1, 1, 2, 4, 7])
-        assert rounded(above, below) == round(Fraction(above, below))
-    assert rounded(GREATEST, 2) == 2**126
-    assert rounded(GREATEST - 2, 2) == 2**126 - 2
 
 
 # ---- answers
@@ -314,7 +206,6 @@ def test_rounding_and_great_numbers(tmp_path: Path) -> None:
     with cubetree.open(tmp_path) as warehouse:
         warehouse.declare("attr part text\nmeasure a\nmeasure b\nview part\nview\n")
         warehouse.load((f"{n:02}", *pair) for n, pair in enumerate(ROUNDED))
-        found = warehouse.slice("sum(a)/sum(b) by part")
         wanted = [f"{n:02},{quotient}" for n, quotient in enumerate(ROUNDED.values())]
         assert cells(warehouse.slice("sum(a)/sum(b) by part")) == wanted
     (tmp_path / "great").mkdir()
@@ -596,173 +487,7 @@ def test_levels(fees: str, tmp_path: Path) -> None:
             warehouse.rollup("avg(fee) by month(kind)")
 
 
-# ---- drawn questions, against sqlite3
-
-
-DEPOTS = ["Hull", "Bath", "a b", "\u00e9", ""]
-BASES = [
-    "count",
-    *(f"{word}({name})" for word in ("sum", "min", "max") for name in ("parcels", "fee")),
-]
-GROUPS = {
-    "depot": "depot",
-    "kg": "kg",
-    "day": "case day when '' then '0' else day end",
-    "month(day)": "case day when '' then '0' else substr(day, 1, 7) end",
-    "year(day)": "cast(substr(day, 1, 4) as int)",
-}
-
-
-class Drawn(NamedTuple):
-    """A question in the words of both programs: its text, its columns and groups, and the query in
-    SQL, which has all that columns are worked out of."""
-
-    text: str
-    columns: List[str]
-    groups: List[str]
-    query: str
-
-
-def drawn_rows(draw: random.Random) -> List[Tuple[str, int, str, int, int]]:
-    """Facts: a depot, a weight, a day or none, parcels and cents."""
-    days = [
-        f"{y}-{m:02}-{d:02}" for y in (2023, 2024, 2025) for m in (1, 2, 11, 12) for d in (1, 28)
-    ]
-    return [
-        (
-            draw.choice(DEPOTS),
-            draw.choice([2, 9, 10, 100]),
-            draw.choice([*days, ""]),
-            draw.randrange(-3, 4),
-            draw.randrange(-900, 900),
-        )
-        for _ in range(400)
-    ]
-
-
-def drawn_bound(draw: random.Random) -> Tuple[str, str]:
-    """A condition on the days, for both programs."""
-    years = sorted([draw.choice(["2023", "2024", "2025"]) for _ in range(2)])
-    months = sorted([f"{draw.choice(years)}-{draw.choice(['01', '11', '12'])}" for _ in range(2)])
-    return draw.choice(
-        [
-            (f"month(day)={months[0]}", f"substr(day, 1, 7) = '{months[0]}'"),
-            (f"day={months[0]}", f"substr(day, 1, 7) = '{months[0]}'"),
-            (
-                f"month(day)={'..'.join(months)}",
-                f"substr(day, 1, 7) between '{months[0]}' and '{months[1]}'",
-            ),
-            (f"month(day)={years[0]}", f"substr(day, 1, 4) = '{years[0]}'"),
-            (f"year(day)={years[1]}", f"substr(day, 1, 4) = '{years[1]}'"),
-            (
-                f"year(day)={'..'.join(years)}",
-                f"substr(day, 1, 4) between '{years[0]}' and '{years[1]}'",
-            ),
-            ("month(day)=0", "day = ''"),
-            (f"day={months[0]}-28", f"day = '{months[0]}-28'"),
-        ]
-    )
-
-
-def drawn(draw: random.Random) -> Drawn:
-    """A question."""
-    columns = [
-        draw.choice(
-            [
-                draw.choice(BASES),
-                f"avg({draw.choice(['parcels', 'fee'])})",
-                f"{draw.choice(BASES)}/{draw.choice(BASES)}",
-            ]
-        )
-        for _ in range(draw.randrange(1, 4))
-    ]
-    groups = draw.sample([*GROUPS], draw.randrange(0, 4))
-    depot, low = draw.choice(DEPOTS), draw.choice([2, 9])
-    bounds = [
-        each
-        for each in (
-            drawn_bound(draw),
-            (f'depot="{depot}"', f"depot = '{depot}'"),
-            (f"kg={low}..10", f"kg between {low} and 10"),
-        )
-        if draw.random() < 0.3
-    ]
-    draw.shuffle(bounds)
-    text = ",".join(columns) + (" by " + ",".join(groups) if groups else "")
-    text += " where " + " and ".join(each for each, _ in bounds) if bounds else ""
-    keys = ", ".join(GROUPS[each] for each in groups)
-    query = f"select {keys + ', ' if keys else ''}{', '.join(map(in_sql, BASES))} from facts"
-    query += " where " + " and ".join(each for _, each in bounds) if bounds else ""
-    return Drawn(
-        text, columns, groups, query + (f" group by {keys} order by {keys}" if keys else "")
-    )
-
-
-def in_sql(base: str) -> str:
-    """A column of the program in SQL."""
-    return "count(*)" if base == "count" else base
-
-
-def cell_of(column: str, found: Dict[str, int]) -> str:
-    """The cell of a column, of the sums, counts and extremes that sqlite3 has found."""
-    name = column.replace("avg(", "sum(") + ("/count" if column.startswith("avg") else "")
-    above, slash, below = name.partition("/")
-    places = 2 if "fee" in above else 0
-    if not slash:
-        return format(Decimal(found[above]).scaleb(-places), "f")
-    with localcontext() as context:
-        context.prec = 60
-        divisor = Decimal(found[below]).scaleb(-2 if "fee" in below else 0)
-        if not divisor:
-            return ""
-        quotient = Decimal(found[above]).scaleb(-places) / divisor
-        return format(quotient.quantize(Decimal(1).scaleb(-places - 4)) + 0, "f")
-
-
-def wanted_rows(base: sqlite3.Connection, question: Drawn) -> List[str]:
-    """The rows of the answer, by sqlite3."""
-    rows = []
-    for row in base.execute(question.query):
-        keys, sums = row[: len(question.groups)], row[len(question.groups) :]
-        found = dict(zip(BASES, sums))
-        if found["count"]:
-            rows.append(
-                ",".join([*map(str, keys), *(cell_of(each, found) for each in question.columns)])
-            )
-    return rows
-
-
-def test_as_in_sqlite(tmp_path: Path) -> None:
-    """Drawn questions, each answered as sqlite3 answers it over the raw rows."""
-    draw = random.Random(2026)
-    rows = drawn_rows(draw)
-    schema = (
-        "attr depot text\nattr kg number\nattr day number\nmeasure parcels\nmeasure fee\nview"
-        " depot,kg,day\n"
-    )
-    text = io.StringIO()
-    csv.writer(text).writerows(
-        [
-            ("depot", "kg", "day", "parcels", "fee"),
-            *((*row[:4], Decimal(row[4]).scaleb(-2)) for row in rows),
-        ]
-    )
-    words = ["--dates", "day", "--cents", "fee", "--na", "", "--batch", "90"]
-    folder = loaded(tmp_path, schema, text.getvalue(), *words)
-    base = sqlite3.connect(":memory:")
-    base.execute("create table facts (depot text, kg int, day text, parcels int, fee int)")
-    base.executemany("insert into facts values (?, ?, ?, ?, ?)", rows)
-    empty = 0
-    with cubetree.open(folder) as warehouse:
-        for _ in range(300):
-            question = drawn(draw)
-            wanted = wanted_rows(base, question)
-            assert cells(warehouse.slice(question.text)) == wanted, question.text
-            empty += not wanted
-    assert empty < 60
-
-
-# ---- what is wrong elsewhere
+# ---- beside other things
 
 
 def test_count_beside_a_measure_of_its_name(tmp_path: Path) -> None:

@@ -562,7 +562,7 @@ runpy.run_path(sys.argv[0], run_name="__main__")
         feed.terminate()
         writer.leave()
         self.assertIn("cube feed: 2 rows sent", feed.communicate(timeout=60)[1].decode())
-        with open("w/root") as held:
+        with open("w/root"):
             fcntl.flock(os.open("w", os.O_RDONLY), fcntl.LOCK_EX)
             self.assertEqual(
                 self.feed("--no-wait", given=b"", status=4), "cube feed: another run is in w\n"

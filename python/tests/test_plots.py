@@ -4,7 +4,6 @@ from __future__ import annotations
 import os
 import re
 import shutil
-import subprocess
 import xml.etree.ElementTree
 from datetime import date, timedelta
 from decimal import Decimal
@@ -18,7 +17,7 @@ from cubetree.plots import Chart, Series, chart_lines, chart_of, draw
 from cubetree.process import program
 from cubetree.sorting import Top
 from cubetree.values import Kind
-from tests.helpers import CUBE, ask, run
+from tests.helpers import ask, run
 
 needs_gnuplot = pytest.mark.skipif(shutil.which("gnuplot") is None, reason="no gnuplot")
 Pairs = Sequence[Tuple[str, "int | Decimal"]]

@@ -8,6 +8,7 @@ import signal
 import stat
 import subprocess
 import time
+from contextlib import suppress
 from pathlib import Path
 from typing import Iterator, List
 
@@ -166,10 +167,18 @@ def test_help(terminal: Terminal, word: bytes) -> None:
     assert terminal.end() == 0
 
 
+def is_stopped(process: "subprocess.Popen[bytes]") -> bool:
+    """Whether a signal ends a process: one that comes just before Python waits is not seen."""
+    process.send_signal(signal.SIGINT)
+    with suppress(subprocess.TimeoutExpired):
+        process.wait(5)
+    return process.poll() is not None
+
+
 def test_interrupt(terminal: Terminal) -> None:
     """Control-C ends it, and what was typed is kept."""
     assert terminal.asked(b"count")[0] == "count"
-    terminal.process.send_signal(signal.SIGINT)
+    until(lambda: is_stopped(terminal.process))
     assert terminal.end(b"") == 1
     assert terminal.told == b"cube ask: stopped\r\n"
     assert Path(".local/state/cubetree/history").read_text() == "count\n"
@@ -236,6 +245,10 @@ def test_words() -> None:
     found = [completed(words, "ye", place) for place in range(3)]
     assert found == ["year", "year(day)", None]
     assert [completed(words, "x", 0), completed(words, "part", 1)] == [None, None]
+    kinds = {"m": Kind("month"), "q": Kind("decimal", places=2)}
+    found = words_of(Schema(["attr m number", "measure q"]), kinds)
+    parts = [word for word in found if word.startswith(("month", "year"))]
+    assert parts == ["month(m)", "year(m)"]
     assert "count" in words_of(None, {}) and "part" not in words_of(None, {})
 
 
@@ -362,3 +375,8 @@ def test_piped_questions() -> None:
     assert [line.startswith(start) for line, start in zip(lines, starts)] == [True, True]
     assert ask("--folder", "w", given=b"") == ("", "")
     assert not os.path.exists("state")
+    run(program(), given=b"load\nK\xf6ln,1,0,8\nend\n", cwd="w")
+    asked = b'sum(qty) where part="K\xf6ln"\r\nslice count\r\n'
+    assert ask("--folder", "w", "--csv", given=asked) == ("sum(qty)\n8\n\ncount\n4\n", "")
+    words = ["sum(qty)", "by", "part", "where", "year=1"]
+    assert ask("--folder", "w", "--csv", *words)[0] == "part,sum(qty)\nK\udcf6ln,8\n"
