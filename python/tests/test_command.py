@@ -346,16 +346,17 @@ def test_statuses(
     assert capsys.readouterr() == ("", f"cube ask: {said}\n")
 
 
-def test_output_that_is_full() -> None:
-    """A device that takes no output is named by the system, with status 1."""
+@pytest.mark.parametrize(
+    "words, name", [("ask --folder w count", "cube ask"), ("-h", "cube"), ("ask -h", "cube")]
+)
+def test_output_that_is_full(words: str, name: str) -> None:
+    """A device that takes no output is named once, with status 1."""
     if not os.path.exists("/dev/full"):
         pytest.skip("no device that is full")
     with open("/dev/full", "w") as full:
-        done = subprocess.run(
-            [CUBE, "ask", "--folder", "w", "count"], stdout=full, stderr=subprocess.PIPE
-        )
+        done = subprocess.run([CUBE, *words.split()], stdout=full, stderr=subprocess.PIPE)
     assert done.returncode == 1
-    assert done.stderr.startswith(b"cube ask: [Errno 28] No space left on device\n")
+    assert done.stderr.decode() == f"{name}: [Errno 28] No space left on device\n"
 
 
 # ---- arguments

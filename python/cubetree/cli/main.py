@@ -82,7 +82,17 @@ def run(name: str, words: list[str]) -> int:
         return Status.FAILED
     except (Fault, OSError) as fault:
         print(f"cube {name}: {told(fault)}", file=sys.stderr)
+        drop_output()
         return status_of(fault)
+
+
+def drop_output() -> None:
+    """Lets go of output that cannot be written, so that Python does not try it again at its end."""
+    if sys.stdout is not None:
+        try:
+            sys.stdout.flush()
+        except OSError:
+            os.dup2(os.open(os.devnull, os.O_WRONLY), 1)
 
 
 def status_of(fault: Fault | OSError) -> Status:
@@ -117,7 +127,8 @@ def main() -> int:
         finally:
             if sys.stdout is not None:
                 sys.stdout.flush()
-    except BrokenPipeError:
-        # Python must not meet that again at its end.
-        os.dup2(os.open(os.devnull, os.O_WRONLY), 1)
+    except OSError as error:
+        if not isinstance(error, BrokenPipeError):
+            print(f"cube: {error}", file=sys.stderr)
+        drop_output()
         return Status.FAILED

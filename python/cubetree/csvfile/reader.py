@@ -59,10 +59,10 @@ def plain_lines(text: bytes, delimiter: str, width: int) -> Optional[list[bytes]
 
 def have_width(text: bytes, count: int, width: int) -> bool:
     """Whether each of these lines has as many fields, by their commas and ends alone, which are
-    compared with those of such lines at once. An empty line has none."""
+    compared with those of such lines at once."""
     marks = text.translate(None, NO_MARKS)
     end = b"" if marks.endswith(b"\n") else b"\n"
-    return width > 1 and marks + end == (b"," * (width - 1) + b"\n") * count
+    return marks + end == (b"," * (width - 1) + b"\n") * count
 
 
 def csv_pieces(table: Table, schema: Schema, most: int) -> Iterator[Piece]:
