@@ -40,7 +40,7 @@ class Status(NamedTuple):
 
 class Warehouse:
     """The warehouse in a folder. A call may wait for other runs there, as
-    tools/cubetree/turns.py says; several threads may share it.
+    python/cubetree/locks.py says; several threads may share it.
 
     What only asks begins a run of the program, which ends in the next pause. The first call that
     writes makes it a writer until it is closed: other writers wait for that, and readers get in

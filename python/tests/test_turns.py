@@ -22,7 +22,7 @@ LAST = "cube load: to take the last 30 of them back: cube undo --folder w\n"
 
 
 class Turns(Case):
-    """Tools beside each other in a folder: tools/cubetree/turns.py says who waits for whom."""
+    """Tools beside each other in a folder: python/cubetree/locks.py says who waits for whom."""
 
     BUSY = "another run is in w\n"
     WAITS = "waits for another run in w\n"

@@ -73,7 +73,7 @@ def run(name: str, words: list[str]) -> int:
     command, options = parse(name, words)
     try:
         status = command.run(options)
-        sys.stdout.flush()
+        flush()
         return status
     except BrokenPipeError:
         raise
@@ -86,13 +86,18 @@ def run(name: str, words: list[str]) -> int:
         return status_of(fault)
 
 
+def flush() -> None:
+    """Writes what was printed, unless standard output is closed."""
+    if sys.stdout is not None:
+        sys.stdout.flush()
+
+
 def drop_output() -> None:
     """Lets go of output that cannot be written, so that Python does not try it again at its end."""
-    if sys.stdout is not None:
-        try:
-            sys.stdout.flush()
-        except OSError:
-            os.dup2(os.open(os.devnull, os.O_WRONLY), 1)
+    try:
+        flush()
+    except OSError:
+        os.dup2(os.open(os.devnull, os.O_WRONLY), 1)
 
 
 def status_of(fault: Fault | OSError) -> Status:
@@ -125,8 +130,7 @@ def main() -> int:
         try:
             return carry_out()
         finally:
-            if sys.stdout is not None:
-                sys.stdout.flush()
+            flush()
     except OSError as error:
         if not isinstance(error, BrokenPipeError):
             print(f"cube: {error}", file=sys.stderr)
