@@ -552,3 +552,18 @@ def test_as_in_sqlite(tmp_path: Path, words: "list[str]", query: str) -> None:
     wanted = base.execute(f"select part, {column} from facts group by part order by {query}")
     found = csv_rows("--in", str(tmp_path / "w"), *words)[1:]
     assert found == [[part, str(number)] for part, number in wanted]
+
+
+def test_markdown(tmp_path: Path, monkeypatch: pytest.MonkeyPatch) -> None:
+    """Numbers stand to the right, and a bar within a cell is no end of it."""
+    monkeypatch.chdir(tmp_path)
+    os.mkdir("w")
+    Path("file").write_text("part,qty\na|b,5\nc,-2\n")
+    Path("schema").write_text("attr part text\nmeasure qty\nview part\n")
+    load("--schema", "schema", "--folder", "w", "file")
+    assert ask("--folder", "w", "--markdown", "sum(qty) by part")[0].splitlines() == [
+        "| part | sum(qty) |",
+        "| --- | --: |",
+        "| a\\|b | 5 |",
+        "| c | -2 |",
+    ]

@@ -263,7 +263,7 @@ def test_no_wait() -> None:
     writer = turns.Writer("cube load", "w")
     writer.enter()
     writer.begin_batch()
-    said = run(*COPY, "--no-wait", "w", "new", status=4)
+    said = run(*COPY, "--no-wait", "w", "new", status=4, timeout=60)
     assert said == ("", "cube copy: another run is in w\n")
     assert sorted(os.listdir()) == ["f", "schema", "w"]
     waits = subprocess.Popen([*COPY, "w", "new"], stdout=subprocess.PIPE, stderr=subprocess.PIPE)
@@ -274,7 +274,7 @@ def test_no_wait() -> None:
     assert run(*COPY, "--no-wait", "w", "second")[0] == "second keeps 5 facts\n"
     writer.leave()
     with flocked("w"):
-        assert run(*COPY, "--no-wait", "w", "third", status=4)[1] == said[1]
+        assert run(*COPY, "--no-wait", "w", "third", status=4, timeout=60)[1] == said[1]
 
 
 @contextmanager
@@ -328,7 +328,10 @@ def test_held_batch() -> None:
     words = [CUBE, "load", "--folder", "w", "f"]
     begun = subprocess.Popen(words, env=slow, stderr=subprocess.PIPE)
     until(lambda: os.path.exists("mid"))
-    assert run(*COPY, "--no-wait", "w", "new", status=4)[1] == "cube copy: another run is in w\n"
+    assert (
+        run(*COPY, "--no-wait", "w", "new", status=4, timeout=60)[1]
+        == "cube copy: another run is in w\n"
+    )
     waits = subprocess.Popen([*COPY, "w", "new"], stdout=subprocess.PIPE)
     time.sleep(0.3)
     assert waits.poll() is None and not os.path.exists("new")

@@ -336,6 +336,14 @@ class LocalShards(WithEngine):
         asked = "".join(
             text + "\n" for text in [*SLICES, "count by part,part", "sum(cost)"]
         ).encode()
+        for words in (
+            ["avg(qty) by part"],
+            ["sum(qty)/count,count where year=1999..2003"],
+            ["--csv", "--sort", "avg(qty) desc,part", "--top", "5", "avg(qty) by part"],
+            ["--csv", "--sort", "part desc", "count by part"],
+            ["--markdown", "--top", "3", "sum(qty) by part"],
+        ):
+            self.assertEqual(self.shards("ask", *words), ask("--folder", "w", *words))
         told, said = self.shards("ask", given=asked, status=1)
         self.assertEqual(
             (told, said.replace("cube shards: ", "cube ask: ")),
