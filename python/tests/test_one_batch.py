@@ -67,7 +67,7 @@ def test_size_of_the_file() -> None:
 
 
 def loaded(*words: str, batch: int = 2) -> List[int]:
-    """The rows of each batch of a load into `w`, where files without --batch have this usual one."""
+    """The rows of each batch of a load into `w`, where files without --batch have this many."""
     Path("schema").write_text(SCHEMA)
     options = loader.Options(loader.Reading(), loader.Meanings(), "schema")
     with mock.patch.object(loader, "BATCH", batch):
