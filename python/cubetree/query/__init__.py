@@ -1,0 +1,1 @@
+"""Queries in SQL beyond what the program answers by itself."""
