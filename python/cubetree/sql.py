@@ -6,7 +6,7 @@ from __future__ import annotations
 
 import operator
 import re
-from datetime import date
+from datetime import date, datetime
 from decimal import Decimal
 from math import isfinite
 from typing import Mapping, NamedTuple, Sequence, SupportsIndex, Union
@@ -128,7 +128,14 @@ def statement_of(text: str, parameters: Sequence[Parameter]) -> Statement:
         counts = f"{marks} in the query, {len(literals)} passed"
         raise Fault(f"pass one parameter for each `?`: {counts}")
     left = iter(literals)
-    shown = [next(left) if piece.lastgroup == "mark" else piece[0] for piece in pieces]
+    shown: list[str] = []
+    for piece in pieces:
+        part = next(left) if piece.lastgroup == "mark" else piece[0]
+        # A sign and a negative number would begin a comment.
+        is_comment = (
+            part[:1] == "-" and piece.lastgroup == "mark" and "".join(shown[-1:])[-1:] == "-"
+        )
+        shown.append(" " + part if is_comment else part)
     sent = [
         " " * length(part) if piece.lastgroup in ("comment", "end") else part
         for piece, part in zip(pieces, shown)
@@ -171,14 +178,14 @@ def length(text: str) -> int:
 
 def literal(value: Parameter, number: int) -> str:
     """A parameter as a literal. Faults name it by its number, which counts from 1."""
-    if isinstance(value, (str, date)):
+    if isinstance(value, (str, date)) and not isinstance(value, datetime):
         text = value if isinstance(value, str) else value.isoformat()
         check_characters(text, f"parameter {number}")
         return "'" + text.replace("'", "''") + "'"
     if value is None:
         return "NULL"
     if isinstance(value, (float, Decimal)) and isfinite(value):
-        return repr(value) if isinstance(value, float) else format(value, "f")
+        return repr(float(value)) if isinstance(value, float) else format(value, "f")
     try:
         return str(operator.index(value))  # type: ignore[arg-type]
     except TypeError as error:
