@@ -358,7 +358,7 @@ class Warehouse:
 
 def records_of(session: Session, core: Core) -> list[list[str]]:
     """The rows of the part of a query that the program answers."""
-    records, last = session.answer(b"sql " + sent(core.query()))
+    records, last = session.answer(sent(core.command()))
     if last == "refused notcovered":
         assert session.schema
         raise missing_view(core, session.schema)

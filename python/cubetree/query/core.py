@@ -8,6 +8,7 @@ from ..values import Kind
 from .tables import Table
 
 COUNT = "#count"
+WORDS = set("SELECT FROM WHERE GROUP BY AND IN BETWEEN COUNT SUM MIN MAX".split())
 MOST_OF_TESTS = 50_000  # bytes of a query for the program, which takes 65,000
 
 
@@ -30,6 +31,7 @@ class Core:
     values: dict[str, Asked] = field(default_factory=dict)
     tests: list[str] = field(default_factory=list)
     tested: list[str] = field(default_factory=list)
+    used: int = 0  # bytes of tests
 
     @property
     def name(self) -> str:
@@ -61,9 +63,11 @@ class Core:
 
     def test(self, attribute: str, text: str) -> bool:
         """Adds a test of an attribute, and tells whether there was room for it."""
-        used = sum(len(each) for each in self.tests) + 5 * len(self.tests)
-        if used + len(text.encode("utf-8", "surrogateescape")) > MOST_OF_TESTS:
+        size = len(text.encode("utf-8", "surrogateescape")) + len(" AND ")
+        names = (column.name.upper() for column in self.table.columns())
+        if self.used + size > MOST_OF_TESTS or not WORDS.isdisjoint(names):
             return False
+        self.used += size
         self.tests.append(text)
         self.tested.append(attribute)
         return True
@@ -73,13 +77,21 @@ class Core:
         a reply of the program."""
         return {**self.groups, **(self.values or {COUNT: Asked("COUNT(*)", True, None)})}
 
+    def asked(self) -> list[Asked]:
+        """The columns behind the attributes."""
+        return list(self.columns().values())[len(self.groups) :]
+
     def needs(self) -> list[str]:
         """The attributes that a view has to have for it."""
         return list(dict.fromkeys([*self.groups, *self.tested]))
 
-    def query(self) -> str:
-        """The query for the program."""
-        items = ", ".join(each.text for each in self.columns().values())
-        where = f" WHERE {' AND '.join(self.tests)}" if self.tests else ""
-        names = ", ".join(each.text for each in self.groups.values())
-        return f"SELECT {items} FROM facts{where}" + (f" GROUP BY {names}" if names else "")
+    def command(self) -> str:
+        """The command for the program: a query, or a slice where there are no tests. A slice may
+        have any names, and a query has none that are words of SQL."""
+        names = ",".join(self.groups)
+        if not self.tests:
+            asked = [each.text.lower().replace("count(*)", "count") for each in self.asked()]
+            return f"slice {','.join(asked)}" + (f" by {names}" if names else "")
+        items = ", ".join([*self.groups, *(each.text for each in self.asked())])
+        group = f" GROUP BY {names}" if names else ""
+        return f"sql SELECT {items} FROM facts WHERE {' AND '.join(self.tests)}{group}"
