@@ -149,7 +149,8 @@ class Analysis:
         if not wanted:
             refuse("syntax", self.text, star.begin, "no table stands for this `*`")
         if is_facts(wanted[0][0]):
-            scope.refuse_single(star.begin, "this asks for a row of each fact")
+            hint = "name attributes and group by them, or ask for all columns of a view"
+            scope.refuse_single(star.begin, "this asks for a row of each fact", hint)
         found: list[Item] = []
         for seen, source in wanted:
             joined = {name.lower() for name in source.using} if star.table is None else set()
