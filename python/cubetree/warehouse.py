@@ -19,6 +19,7 @@ from .errors import Damaged, Fault, Refused
 from .format.visits import Visits, visits
 from .levels import Level, Pairs, level_in_file, level_of
 from .locks import Reader, Writer
+from .query.views import Moment
 from .questions import question_of, sent
 from .schema import Schema, declared_lines
 from .session import Asking, Loading, Session
@@ -142,6 +143,24 @@ class Warehouse:
         if session.schema is None or last.startswith("refused "):
             raise made.refused(query.refused(last))
         return query.answer(session.schema, records, kinds)
+
+    def view(self, name: str) -> Answer:
+        """All rows of a view, which is called as `part,year`, or `total` where it has no attribute.
+        The columns are the attributes, then `count`, and `sum_qty`, `min_qty` and `max_qty` for
+        each measure `qty`."""
+        with self.moment() as moment:
+            table = moment.views.find(name)
+            answer = moment.answer(table) if table else None
+        if answer is None:
+            raise moment.views.missing(name)
+        return answer
+
+    @contextmanager
+    def moment(self) -> Iterator[Moment]:
+        """The views at one moment between two batches. Writers wait until its end; an exception
+        from within ends the run, and drops a batch that is pending in it."""
+        with self._question() as session:
+            yield Moment(session, self._kinds_in(session))
 
     def level(self, name: str, attribute: str, pairs: Pairs) -> int:
         """Gives values of an attribute a parent each, by a mapping or pairs of both, and gives
