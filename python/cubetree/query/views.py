@@ -54,6 +54,14 @@ def called(table: Table) -> str:
     return ",".join(column.name for column in table.attributes) or table.name
 
 
+def slice_of(table: Table) -> str:
+    """The slice of all rows of a view. It may have any names, where a query in SQL has no words of
+    SQL as names."""
+    columns = [column.asked.lower().replace("count(*)", "count") for column in table.values]
+    groups = ",".join(column.name for column in table.attributes)
+    return ",".join(columns) + (f" by {groups}" if groups else "")
+
+
 class Moment:
     """The views of one run of the program, and how many facts there are meanwhile."""
 
@@ -63,7 +71,7 @@ class Moment:
 
     def records(self, table: Table) -> list[list[str]]:
         """The rows of a view, as the program writes them."""
-        records, last = self._session.answer(b"sql " + sent(table.query()))
+        records, last = self._session.answer(b"slice " + sent(slice_of(table)))
         if last.startswith("refused "):
             raise Refused(last)
         return records
