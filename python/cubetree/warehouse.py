@@ -19,6 +19,7 @@ from .errors import Damaged, Fault, Refused
 from .format.visits import Visits, visits
 from .levels import Level, Pairs, level_in_file, level_of
 from .locks import Reader, Writer
+from .query.tables import Table, tables_of
 from .query.views import Moment
 from .questions import question_of, sent
 from .schema import Schema, declared_lines
@@ -236,6 +237,13 @@ class Warehouse:
         those that were given to this object."""
         with self._question() as session:
             return self._kinds_in(session)
+
+    @property
+    def tables(self) -> dict[str, Table]:
+        """The tables that SQL finds here by their names; none where no schema is declared."""
+        with self._question() as session:
+            kinds = self._kinds_in(session)
+            return tables_of(session.schema, kinds) if session.schema else {}
 
     def _kinds_in(self, session: Session) -> dict[str, Kind]:
         """The kinds of columns, as a run of the program has them."""

@@ -23,7 +23,7 @@ import cubetree
 from cubetree import Fault
 from cubetree.export import export, export_csv
 from cubetree.process import program
-from cubetree.rooms import room_for
+from cubetree.rooms import room_for, taken
 from cubetree.version import __version__
 from tests.helpers import CUBE, PACKAGES, load, run, until
 
@@ -242,10 +242,10 @@ def test_hostile_names() -> None:
 def test_same_table_names() -> None:
     """Views whose tables would have one name have a number behind it."""
     schema = "attr a text\nattr b text\nattr a_b text\nattr total text\nmeasure q\n"
-    views = "view a,b\nview a_b\nview total\nview\n"
+    views = "view a,b\nview a_b\nview\nview total\n"
     made("v", schema + views, [("x", "y", "z", "t", 1), ("x", "y", "u", "t", 2)])
     run(*EXPORT, "v", "v.db")
-    assert tables("v.db") == ["by_a_b", "by_a_b_2", "by_total", "total", "_about"]
+    assert tables("v.db") == ["by_a_b", "by_a_b_2", "total", "by_total", "_about"]
     assert rows("v.db", "SELECT a, b, count FROM by_a_b") == [("x", "y", 2)]
     found = rows("v.db", "SELECT a_b, sum_q FROM by_a_b_2 ORDER BY a_b")
     assert found == [("u", 2), ("z", 1)]
@@ -592,6 +592,8 @@ def test_room_that_was_taken_away(monkeypatch: pytest.MonkeyPatch) -> None:
     monkeypatch.setattr(fcntl, "flock", flock)
     with room_for(os.path.abspath("x")) as path:
         Path(path).write_text("new")
+        with pytest.raises(Fault, match="another export has the folder .*/.x.cube-export$"):
+            taken(os.path.abspath(".x.cube-export"))
         assert os.listdir("old") == [] and os.listdir(".x.cube-export") == ["x"]
     assert sorted(os.listdir()) == ["old", "w"]
 

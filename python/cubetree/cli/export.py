@@ -68,7 +68,6 @@ def run(options: argparse.Namespace) -> int:
     with Warehouse(options.folder, wait=not options.no_wait, tool="cube export") as warehouse:
         if options.out == "-":
             answer = warehouse.view(options.views[0])
-            warehouse.pause()
             print(*csv_lines(answer), sep="\n")
             return Status.DONE
         write = export_csv if options.csv else export
