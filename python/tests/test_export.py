@@ -353,6 +353,16 @@ def test_view_beside_a_pending_batch() -> None:
         assert sorted(warehouse.view("year")) == [*BY_YEAR, (1999, 1, 7, 7, 7)]
 
 
+def test_export_from_a_writer() -> None:
+    """A warehouse that has loaded a batch exports it too."""
+    with cubetree.open("w") as warehouse:
+        warehouse.load([("bolt", 1999, 7)])
+        warehouse.load([("bolt", 1999, 1)])
+        assert export(warehouse, "w.db", ["total"]) == (1, 1, 6, [])
+        assert export_csv(warehouse, "out") == (3, 8, 6, [])
+    assert rows("w.db", "SELECT total.count, facts FROM total, _about") == [(6, 6)]
+
+
 def test_view_without_schema() -> None:
     """That is a fault."""
     os.mkdir("v")

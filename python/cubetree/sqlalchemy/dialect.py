@@ -51,6 +51,7 @@ class CubetreeDialect(DefaultDialect):
     supports_alter = False
     supports_empty_insert = False
     supports_comments = True
+    supports_cast = True
     div_is_floordiv = True
 
     def __init__(self, isolation_level: Optional[str] = None, **words: Any) -> None:
@@ -145,11 +146,7 @@ class CubetreeDialect(DefaultDialect):
 
     def _table(self, connection: Any, name: str, schema: Optional[str], more: Reflected) -> Table:
         """A table; an error where it is not there."""
-        found: Optional[Table] = (
-            None
-            if schema
-            else self._tables(connection, more).get(name)
-        )
+        found: Optional[Table] = None if schema else self._tables(connection, more).get(name)
         if found is None:
             raise exc.NoSuchTableError(f"{schema}.{name}" if schema else name)
         return found
@@ -178,7 +175,7 @@ class CubetreeDialect(DefaultDialect):
         return [
             {
                 "name": column.name,
-                "type": type_of(column, table),
+                "type": type_of(column),
                 "nullable": False,
                 "default": None,
                 "autoincrement": False,
@@ -244,7 +241,7 @@ def check_reads(statement: str) -> None:
         raise dbapi.NotSupportedError(f"{word} is not supported: {hint}", statement)
 
 
-def type_of(column: Column, table: Table) -> Any:
+def type_of(column: Column) -> Any:
     """The type of a column in SQLAlchemy."""
     if not column.is_number or column.kind and column.kind.name == "month":
         return types.Text()
@@ -252,8 +249,7 @@ def type_of(column: Column, table: Table) -> Any:
         return types.Date()
     if column.kind and column.kind.name == "decimal":
         return types.Numeric(MOST_DIGITS, column.kind.places)
-    is_short = column in table.attributes or column.asked == "COUNT(*)"
-    return types.BigInteger() if is_short else types.Numeric(MOST_DIGITS, 0)
+    return types.BigInteger()
 
 
 def comment_of(column: Column, table: Table) -> str:
