@@ -4,9 +4,11 @@ from __future__ import annotations
 import datetime
 import fcntl
 import os
+import re
 import sys
 import threading
 import warnings
+import zipfile
 from decimal import Decimal
 from pathlib import Path
 from typing import Any, Iterator, List
@@ -15,7 +17,8 @@ import pytest
 
 import cubetree
 from cubetree.export import export
-from tests.helpers import TOP, load, run, until
+from cubetree.version import __version__
+from tests.helpers import PACKAGES, TOP, load, run, until
 
 sqlalchemy = pytest.importorskip("sqlalchemy")
 import cubetree.sqlalchemy  # isort: skip  # noqa: E402
@@ -497,6 +500,56 @@ def test_threads(engine: Any) -> None:
     assert wrong == [] and rows(engine, text("SELECT COUNT(*) FROM facts")) == [(64,)]
 
 
+# ---- as others see it
+
+
+SETTINGS = """[sqla_testing]
+requirement_cls = tests.alchemy.requirements:Requirements
+profile_file = profiles
+[db]
+default = cubetree:///w
+"""
+
+
+def test_suite(room: Path) -> None:
+    """The suite of SQLAlchemy passes, as far as python/tests/alchemy/suite.py has it. It runs by
+    itself, since its plugin changes how pytest finds tests."""
+    os.makedirs("folders")
+    os.rename("w", "folders/w")
+    os.symlink("folders/w", "w")
+    Path("setup.cfg").write_text(SETTINGS)
+    Path("pytest.ini").write_text("[pytest]\npython_files = suite.py\n")
+    words = "-q --noconftest -c pytest.ini --rootdir . -p no:cacheprovider".split()
+    words += ["-p", "tests.alchemy.plugin", str(TOP / "python/tests/alchemy/suite.py")]
+    own = dict(os.environ, PYTHONPATH=os.pathsep.join([PACKAGES, str(TOP / "python")]))
+    printed = run(sys.executable, "-m", "pytest", *words, status=None, env=own)[0]
+    found = re.search(r"\n(\d+) passed, \d+ skipped in ", printed)
+    assert found and int(found[1]) >= 60, printed
+
+
+def test_entry_point(room: Path) -> None:
+    """An installed package registers the dialect by itself, be it a wheel or that of a system."""
+    sys.path.insert(0, str(TOP / "python"))
+    import backend
+
+    os.mkdir("wheel")
+    with zipfile.ZipFile(backend.build_wheel(str(room))) as wheel:
+        wheel.extractall("wheel")
+    os.mkdir("system")
+    os.symlink(os.path.join(PACKAGES, "cubetree"), "system/cubetree")
+    backend.write_info("system")
+    asks = (
+        "import importlib.metadata, sqlalchemy\n"
+        "engine = sqlalchemy.create_engine('cubetree:///w')\n"
+        "print(sqlalchemy.inspect(engine).get_table_names(), end=' ')\n"
+        "print(importlib.metadata.version('cubetree'))\n"
+    )
+    for folder in ("wheel", "system"):
+        own = dict(os.environ, PYTHONPATH=folder)
+        printed = run(sys.executable, "-c", asks, env=own)[0]
+        assert printed == f"['facts', 'by_part_year', 'by_year', 'total'] {__version__}\n"
+
+
 # ---- pandas
 
 
@@ -511,8 +564,10 @@ def test_read_sql(engine: Any, fees: Any) -> None:
     frame = pandas.read_sql_table("by_year", engine, index_col="year")
     assert str(frame["sum_qty"].dtype) == str(frame["count"].dtype) == "int64"
     assert frame.sort_index()["min_qty"].to_dict() == {1997: -2, 1998: 4}
-    frame = pandas.read_sql_table("by_month", fees, coerce_float=False)
-    assert frame.sort_values("month")["sum_fee"].tolist() == [Decimal("12.50"), Decimal("0.95")]
+    frame = pandas.read_sql_table("by_month", fees)
+    assert frame.sort_values("month")["sum_fee"].tolist() == [12.5, 0.95]
+    frame = pandas.read_sql("SELECT month, sum_fee FROM by_month", fees, coerce_float=False)
+    assert sorted(frame["sum_fee"]) == [Decimal("0.95"), Decimal("12.50")]
     frame = pandas.read_sql_table("by_day", fees).sort_values("sum_fee")
     days = [pandas.Timestamp("2025-03-15"), pandas.Timestamp("2025-03-14")]
     assert frame["day"].isna().tolist() == [False, True, False]

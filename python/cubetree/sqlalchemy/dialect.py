@@ -9,6 +9,7 @@ from __future__ import annotations
 
 import os
 import re
+from decimal import Decimal
 from typing import Any, Mapping, Optional, Sequence
 
 from sqlalchemy import exc, types
@@ -27,6 +28,7 @@ LEVELS = ("READ COMMITTED", "AUTOCOMMIT")
 FIRST_WORD = re.compile(r"(?:[\s(;]|--[^\n]*|/\*.*?\*/)*(\w*)", re.DOTALL)
 READS = ("SELECT", "WITH", "VALUES", "")
 MOST_DIGITS = 39  # of a sum
+SCALE = 10  # decimals of an expression that says none
 WORDS = {
     "COUNT": "how many facts there are",
     "SUM": "the sum of {}",
@@ -38,6 +40,17 @@ CACHED = "tables of cubetree"  # by an inspector
 Reflected = dict[str, Any]
 
 
+class Amount(types.Numeric):
+    """An amount, which is a Decimal also where an expression is a floating-point number."""
+
+    def result_processor(self, dialect: Any, coltype: Any) -> Any:
+        """What makes a value of what a cursor has."""
+        if not self.asdecimal:
+            return super().result_processor(dialect, coltype)
+        scale = self.decimal_return_scale or self.scale or SCALE
+        return lambda value: (Decimal(f"{value:.{scale}f}") if isinstance(value, float) else value)
+
+
 class CubetreeDialect(DefaultDialect):
     """How SQLAlchemy asks a warehouse."""
 
@@ -45,6 +58,7 @@ class CubetreeDialect(DefaultDialect):
     statement_compiler = SQLiteCompiler
     type_compiler = SQLiteTypeCompiler
     preparer = SQLiteIdentifierPreparer
+    colspecs = {types.Numeric: Amount}
     default_paramstyle = "qmark"
     supports_statement_cache = True
     supports_native_decimal = True
