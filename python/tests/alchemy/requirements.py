@@ -20,11 +20,11 @@ class Requirements(SuiteRequirements):
         return {"default": "READ COMMITTED", "supported": ["READ COMMITTED", "AUTOCOMMIT"]}
 
     @property
-    def parens_in_union_selects_w_limit_offset(self) -> Any:
+    def parens_in_union_contained_select_w_limit_offset(self) -> Any:
         """The queries of a UNION have no brackets."""
         return exclusions.closed()
 
     @property
-    def parens_in_union_selects_wo_limit_offset(self) -> Any:
+    def parens_in_union_contained_select_wo_limit_offset(self) -> Any:
         """This is so as well."""
         return exclusions.closed()
