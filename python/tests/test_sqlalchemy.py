@@ -102,6 +102,7 @@ def test_columns(engine: Any) -> None:
     columns = sqlalchemy.inspect(engine).get_columns("by_part_year")
     assert [column["name"] for column in columns] == ["part", "year", "count", *OF_QTY]
     assert [column["nullable"] for column in columns] == [False] * 6
+    assert table(engine, "by_year").c.year.autoincrement is False
     part, year, count, *values = [column["type"] for column in columns]
     assert isinstance(part, types.Text)
     assert {type(each) for each in (year, count, *values)} == {types.BigInteger}
@@ -126,6 +127,17 @@ def test_kinds(fees: Any) -> None:
     total = table(fees, "total").c
     assert total.sum_fee.type.scale == total.min_fee.type.scale == 2
     assert isinstance(total.count.type, types.BigInteger)
+
+
+def test_places() -> None:
+    """An amount has as many decimals as its column."""
+    os.mkdir("x")
+    Path("f.csv").write_text("part,weight\na,1.125\nb,0.5\n")
+    load("f.csv", "--folder", "x", "--yes", "--decimals", "weight=3")
+    engine = sqlalchemy.create_engine("cubetree:///x")
+    total = table(engine, "total").c.sum_weight
+    assert total.type.scale == 3 and rows(engine, select(total)) == [(Decimal("1.625"),)]
+    engine.dispose()
 
 
 def test_keys(engine: Any) -> None:
@@ -245,6 +257,34 @@ def test_values(fees: Any) -> None:
     assert rows(fees, total) == [(Decimal("12.50"),)]
 
 
+def test_parameters(fees: Any) -> None:
+    """They go as they are: a Decimal with all its digits, and a date."""
+    sent: List[Any] = []
+    sqlalchemy.event.listen(
+        fees, "before_cursor_execute", lambda *words: sent.extend(words[3]), named=False
+    )
+    view, amount = table(fees, "by_day"), Decimal("9007199254740993.05")
+    day = datetime.date(2025, 3, 14)
+    own = select(view.c.day).where(view.c.sum_fee < amount, view.c.day == day)
+    assert rows(fees, own) == [(day,)]
+    assert sent == [amount, day] and isinstance(sent[0], Decimal)
+
+
+def test_decimals_of_expressions(fees: Any) -> None:
+    """An expression of amounts is a Decimal, of as many decimals as its type says."""
+    total = table(fees, "total").c
+    ((double, half, number),) = rows(
+        fees,
+        select(
+            total.sum_fee * 2,
+            sqlalchemy.cast(total.sum_fee / 2, types.Numeric(9, 3)),
+            sqlalchemy.cast(total.sum_fee, types.Float),
+        ),
+    )
+    assert (double, str(half), number) == (Decimal("26.90"), "6.725", 13.45)
+    assert [type(double), type(half), type(number)] == [Decimal, Decimal, float]
+
+
 def test_great_sums() -> None:
     """A sum of more than 63 bits has all its digits."""
     made("great", SCHEMA, [("x", 1, 2**80), ("x", 1, 1)])
@@ -255,17 +295,19 @@ def test_great_sums() -> None:
 
 def test_hostile_names() -> None:
     """Names that are words of SQL, or have its signs in their values, are asked for too."""
-    schema = "attr select text\nattr order text\nmeasure group\nview select,order\nview order\n"
+    schema = "attr select text\nattr isnull text\nmeasure group\nview select,isnull\nview isnull\n"
     made("x", schema, [("it's", "100%", 3), ('"', ":a ?", 4)])
     engine = sqlalchemy.create_engine("cubetree:///x")
-    view = table(engine, "by_select_order")
+    view = table(engine, "by_select_isnull")
     query = select(view.c.select, view.c.sum_group).where(view.c.select == "it's")
     assert rows(engine, query) == [("it's", 3)]
+    named = select(view.c.isnull.label("notnull")).order_by("notnull")
+    assert rows(engine, named) == [("100%",), (":a ?",)]
     facts = table(engine, "facts")
-    query = select(facts.c.order, func.max(facts.c.group)).group_by(facts.c.order)
+    query = select(facts.c.isnull, func.max(facts.c.group)).group_by(facts.c.isnull)
     assert sorted(rows(engine, query)) == [("100%", 3), (":a ?", 4)]
-    assert rows(engine, query.where(facts.c.order == ":a ?")) == [(":a ?", 4)]
-    assert rows(engine, query.where(facts.c.order.like("100\\%", escape="\\"))) == [("100%", 3)]
+    assert rows(engine, query.where(facts.c.isnull == ":a ?")) == [(":a ?", 4)]
+    assert rows(engine, query.where(facts.c.isnull.like("100\\%", escape="\\"))) == [("100%", 3)]
     engine.dispose()
 
 
@@ -273,6 +315,28 @@ def test_text(engine: Any) -> None:
     """SQL that is written by hand has parameters by name."""
     query = text("SELECT part, SUM(qty) FROM facts WHERE year = :year GROUP BY part ORDER BY part")
     assert rows(engine, query.bindparams(year=1997)) == [("bolt", 6), ("nut", -2)]
+
+
+def test_no_parameters(engine: Any) -> None:
+    """A text may go as it is, unless it would write."""
+    with engine.connect().execution_options(no_parameters=True) as connection:
+        found = connection.exec_driver_sql("SELECT COUNT(*) FROM facts WHERE part LIKE 'b%'")
+        assert found.scalar() == 3
+        with pytest.raises(exc.NotSupportedError, match="DELETE is not supported"):
+            connection.exec_driver_sql("DELETE FROM facts")
+
+
+def test_compiled_once(engine: Any) -> None:
+    """A query of the same form is compiled once."""
+    view, compiled = table(engine, "by_year"), []
+    sqlalchemy.event.listen(
+        engine,
+        "before_cursor_execute",
+        lambda *words: compiled.append(words[4].compiled),
+    )
+    for year in (1997, 1998):
+        assert rows(engine, select(view.c.year).where(view.c.year == year)) == [(year,)]
+    assert len(compiled) == 2 and compiled[0] is compiled[1]
 
 
 # ---- what is refused

@@ -56,7 +56,7 @@ class CubetreeDialect(DefaultDialect):
 
     name = driver = "cubetree"
     statement_compiler = SQLiteCompiler
-    type_compiler = SQLiteTypeCompiler
+    type_compiler = type_compiler_cls = SQLiteTypeCompiler
     preparer = SQLiteIdentifierPreparer
     colspecs = {types.Numeric: Amount}
     default_paramstyle = "qmark"
@@ -229,7 +229,8 @@ class CubetreeDialect(DefaultDialect):
         """There are neither views in the sense of SQL, nor sequences, nor tables for a while."""
         return []
 
-    get_view_names = get_temp_table_names = get_temp_view_names = get_sequence_names = _none
+    get_view_names = get_materialized_view_names = get_sequence_names = _none
+    get_temp_table_names = get_temp_view_names = _none
 
     def get_view_definition(
         self, connection: Any, view_name: str, schema: Optional[str] = None, **more: Any
