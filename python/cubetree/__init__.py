@@ -21,6 +21,9 @@ cubetree.open("folder", raw=True) there are whole numbers alone.
 A query in SQL gives the same rows: warehouse.sql("SELECT part, SUM(qty) FROM facts GROUP BY part"),
 or cubetree.connect("folder"), which is the interface of databases to Python (PEP 249).
 
+All rows of a view are warehouse.view("part,year"), and SQLAlchemy takes the tables of SQL by
+create_engine("cubetree:///folder").
+
 A level gives values of an attribute a parent each, as long as the warehouse is open. After
 warehouse.level("kind", "part", {"bolt": "steel"}) you may ask warehouse.rollup("count by kind").
 

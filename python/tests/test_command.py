@@ -35,10 +35,17 @@ OPTIONS = {
     "audit": "--folder --quiet --no-wait",
     "undo": "--folder --yes --dry-run --no-wait",
     "copy": "--no-wait",
+    "export": "--csv --no-wait",
     "shards": f"--shards --local --count --number --batch --delimiter {FORMS} --patience --no-wait",
     "tour": "",
 }
-NEEDED = {"load": ["f"], "refresh": ["f"], "copy": ["w", "new"], "shards": ["ask", "--local", "w"]}
+NEEDED = {
+    "load": ["f"],
+    "refresh": ["f"],
+    "copy": ["w", "new"],
+    "export": ["w", "w.db"],
+    "shards": ["ask", "--local", "w"],
+}
 
 
 @pytest.fixture(name="room", autouse=True)
@@ -194,7 +201,7 @@ def former(name: str, *words: str, status: int = 0, given: bytes = b"") -> Tuple
 def test_former_names() -> None:
     """Each stands for a command, and has its help."""
     assert FORMER["load-csv"] == "load" and FORMER["refresh-slowly"] == "refresh"
-    assert set(FORMER.values()) == set(COMMANDS) - {"copy"}
+    assert set(FORMER.values()) == set(COMMANDS) - {"copy", "export"}
     for name, command in FORMER.items():
         assert former(name, "-h") == (helped(command), "")
         assert f"cube {command}: error: " in former(name, "--never", status=2)[1]

@@ -18,6 +18,7 @@ COMMANDS = {
     "audit": "read all pages of a folder, and say whether they are sound",
     "undo": "take the last batch back",
     "copy": "copy a folder, also while it is loaded",
+    "export": "write views as tables of an SQLite file, or as csv",
     "shards": "spread facts over folders and machines, and ask them as one",
     "tour": "run the commands of the tour, and show where the output differs",
 }
