@@ -13,6 +13,7 @@ from typing import Mapping, Optional
 
 PYTHON = Path(__file__).resolve().parent
 TOP = PYTHON.parent
+KINDS = (".py", ".html", ".css", ".js", ".svg")  # of files: modules, and what a page is made of
 EPOCH = (1980, 1, 1, 0, 0, 0)
 Settings = Optional[Mapping[str, object]]
 
@@ -55,7 +56,7 @@ def sum_of(content: bytes) -> str:
 def modules() -> dict[str, bytes]:
     """The files of the package, by their names in a wheel."""
     found = sorted((PYTHON / "cubetree").rglob("*"))
-    files = [path for path in found if path.suffix == ".py" or path.name == "py.typed"]
+    files = [path for path in found if path.suffix in KINDS or path.name == "py.typed"]
     return {path.relative_to(PYTHON).as_posix(): path.read_bytes() for path in files}
 
 

@@ -56,13 +56,17 @@ def served(options: argparse.Namespace) -> Server:
     except OSError as error:
         if error.errno == errno.EADDRINUSE:
             raise Fault(f"the port {options.port} is in use: give another one") from error
-        raise Fault(f"the port {options.port} of {HOST}: {os.strerror(error.errno or 0)}") from error
+        raise Fault(
+            f"the port {options.port} of {HOST}: {os.strerror(error.errno or 0)}"
+        ) from error
 
 
 def run(options: argparse.Namespace) -> int:
     """Serves the page until Ctrl-C, and gives the exit status."""
     with served(options) as server:
-        print(f"{shown(options.folder)}: {server.address(server.word)}  (Ctrl-C ends it)", flush=True)
+        print(
+            f"{shown(options.folder)}: {server.address(server.word)}  (Ctrl-C ends it)", flush=True
+        )
         if not options.no_browser:
             # A browser for terminals goes on until it is left.
             address = server.address(server.once)

@@ -113,12 +113,11 @@ class Explorer:
         if not re.fullmatch("[a-z0-9_]+", name):
             raise Fault(f"no attribute has the name {shown(name)}")
         answer = self.asked("values", f"count by {name}", self.warehouse.slice)
-        found = sorted(answer, key=lambda row: row[1], reverse=True)[:MOST_VALUES]
-        values = [cell_of(value) for value, _ in found]
+        sort_by(answer, 1, True)
+        found = [(cell_of(value), cell_of(count)) for value, count in answer[:MOST_VALUES]]
         return {
             "values": [
-                {"value": value, "shown": shown(value), "count": str(count)}
-                for value, (_, count) in zip(values, found)
+                {"value": value, "shown": shown(value), "count": count} for value, count in found
             ]
         }
 

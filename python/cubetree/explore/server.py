@@ -128,7 +128,7 @@ class Page(BaseHTTPRequestHandler):
     server: Server
     protocol_version = "HTTP/1.1"
     server_version, sys_version = "cube", ""
-    timeout = IDLE  # type: ignore[assignment]
+    timeout = IDLE
 
     def do_GET(self) -> None:
         """Answers a request."""

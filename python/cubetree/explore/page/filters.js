@@ -4,12 +4,7 @@ import { $, encoded, get, make } from "./page.js";
 import * as numbers from "./numbers.js";
 import { isTime, wanted, whyNot } from "./question.js";
 
-const HINTS = {
-  text: ["is"],
-  day: ["2025, 2025-03 or a day", "to"],
-  month: ["2025 or 2025-03", "to"],
-  whole: ["is, or from", "to"],
-};
+const FORMS = { day: "2025, 2025-03 or 2025-03-14", month: "2025 or 2025-03" }; // of dates
 const KEYS = ["from", "to"];
 
 /** Makes the filters of a schema; `changed` is called when another value is chosen. */
@@ -34,7 +29,7 @@ const inputs = (name) => $("filters").querySelectorAll(`[data-name="${name}"] in
 function filter({ name, title, kind }, changed) {
   const list = make("datalist", { id: `values-${name}` });
   const raw = new Map(); // the values that are not as they are shown
-  const fields = (HINTS[kind] || HINTS.whole).map((hint, at) => {
+  const fields = (kind === "text" ? ["is"] : ["is, or from", "to"]).map((hint, at) => {
     const value = (wanted.where[name] || {})[KEYS[at]] || "";
     const input = make("input", { value, placeholder: hint, autocomplete: "off" });
     input.setAttribute("list", list.id);
@@ -45,7 +40,7 @@ function filter({ name, title, kind }, changed) {
     return input;
   });
   const box = make("div", {}, ...fields, list);
-  const label = make("label", { textContent: name, title });
+  const label = make("div", { className: "name", title }, name, make("small", {}, FORMS[kind] || ""));
   const made = make("div", { className: "filter" }, label, box);
   made.dataset.name = name;
   return made;

@@ -6,7 +6,7 @@ import { addsUp, isTime, wanted } from "./question.js";
 
 const COLOURS = 8; // as many series as have a colour
 const MOST_FILLED = 1000; // keys of an axis of time with those that no row has
-const SMALL = 20; // a series that is so many times smaller has an axis of its own
+const SMALL = 10; // a series that is so many times smaller has an axis of its own
 let chart = null;
 
 /** Whether Chart.js is there, in a form that this page knows. */
@@ -191,7 +191,7 @@ function options(planned, small, colour) {
     scales: {
       x: {
         stacked: isStack,
-        ticks: { color: ink, maxRotation: 60, autoSkipPadding: 6, callback: shortened },
+        ticks: { color: ink, maxRotation: 60, autoSkipPadding: 2, callback: shortened },
         title: { display: true, text: planned.axis + left, color: ink },
         grid: { display: false },
       },
