@@ -120,7 +120,6 @@ class Doors(Exploring):
         self.assertEqual(scripts, {name for name, _ in server.FILES.values()})
         for path in ("/../server.py", "/page/index.html", "//etc/passwd", "/%2e%2e/server.py", "/x"):
             self.get(path, 404)
-        self.get("http://[", 400)
 
     def test_charts(self) -> None:
         """Chart.js is served where it is installed."""
@@ -303,7 +302,8 @@ class Folders(Exploring):
             [(["part", "year"], 6, 4096), (["part"], 6, 4096), (["year"], 3, 4096), ([], 1, 4096)],
         )
         for name, size in state["sizes"].items():
-            self.assertEqual(size, os.path.getsize(f"w/{name}"))
+            path = Path("w", name)
+            self.assertEqual(size, path.stat().st_size if path.exists() else 0)
         self.assertEqual(state["changed"], os.path.getmtime("w/root"))
         with cubetree.open("w") as warehouse:
             warehouse.load([("x", 2000, 1)], 2)
@@ -338,9 +338,9 @@ class Folders(Exploring):
         self.fill()
         self.serve()
         time.sleep(0.3)
-        for name in ("side0", "side1"):
-            with open(f"w/{name}", "r+b") as file:
-                file.write(b"\xff" * os.path.getsize(f"w/{name}"))
+        sides = [path for path in Path("w").glob("side*") if path.stat().st_size]
+        for path in sides:
+            path.write_bytes(b"\xff" * path.stat().st_size)
         self.assertIn("damaged file", self.answer("count by part", 400)["fault"])
         self.put("w/.columns", "{")
         state = self.state()
@@ -541,13 +541,27 @@ class Work(Exploring):
     def test_feed(self) -> None:
         """A feed tells its rows while it sends."""
         self.fill()
-        with mock.patch("cubetree.progress.PAUSE", -1.0):
-            from cubetree.feed.sender import Sender
-            from cubetree.feed.spool import Spool
-
-            spool = Spool("w/.feed", "w") if False else None
-            self.assertIsNone(spool)
-            self.assertTrue(Sender)
+        self.serve()
+        feed = subprocess.Popen(
+            [CUBE, "feed", "--folder", "w", "--rows", "20000"],
+            stdin=subprocess.PIPE,
+            stderr=subprocess.DEVNULL,
+        )
+        self.addCleanup(feed.communicate)
+        self.addCleanup(feed.kill)
+        assert feed.stdin
+        found = None
+        for _ in range(40):
+            feed.stdin.write(b"".join(b"p%d,%d,1\n" % (n, n % 40) for n in range(20_000)))
+            feed.stdin.flush()
+            found = self.state()["work"]
+            if found and found["tool"] == "cube feed":
+                break
+        self.assertTrue(found and found["rows"] >= 20_000 and found["part"] is None, found)
+        feed.stdin.close()
+        self.assertEqual(feed.wait(60), 0)
+        self.assertIsNone(self.state()["work"])
+        self.assertEqual(sorted(os.listdir("w/.turns")), ["batch", "queue", "writer"])
 
     def test_lines_of_locks(self) -> None:
         """The lines of the system are read, those that wait are not, and odd ones neither."""
@@ -593,6 +607,7 @@ class Hostile(Exploring):
             b"\r\n",
             b"x\r\n\r\n",
             b"GET\r\n\r\n",
+            f"GET http://[ HTTP/1.1\r\nHost: 127.0.0.1:{self.port}\r\n\r\n".encode(),
             b"GET / HTTP/9.9\r\n\r\n",
             b"GET /\xff\xfe HTTP/1.1\r\n\r\n",
             b"GET / HTTP/1.1\r\nHost\r\n\r\n",
