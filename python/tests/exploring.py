@@ -12,9 +12,11 @@ from urllib.parse import quote
 import cubetree
 from tests.helpers import CUBE, Case
 
-SCHEMA = "attr part text\nattr year number\nmeasure qty\nview part,year\nview part\nview year\nview\n"
+SCHEMA = (
+    "attr part text\nattr year number\nmeasure qty\nview part,year\nview part\nview year\nview\n"
+)
 MARKUP = "<script>document.title='hit'</script><img src=x onerror=hit()>"
-QUOTES = "a \"b\", c'd\\"
+QUOTES = 'a "b", c\'d\\'
 HIDDEN = "x\0y\u202eback"
 BYTES = "\udcff\udcfe"
 ROWS: List[Tuple[Any, ...]] = [

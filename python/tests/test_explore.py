@@ -41,7 +41,14 @@ class Doors(Exploring):
         self.assertNotIn(self.word, reply.headers["Set-Cookie"])
         for path in ("/", "/state.json", "/answer.json?slice=count", "/answer.csv?slice=count"):
             self.get(path)
-            for cookie in ("", "x=1", f"{name}=", f"{name}=x", f"{name}={self.word}", f"{name}\xff"):
+            for cookie in (
+                "",
+                "x=1",
+                f"{name}=",
+                f"{name}=x",
+                f"{name}={self.word}",
+                f"{name}\xff",
+            ):
                 self.get(path, 403, Cookie=cookie)
             self.get(path, 421, Host="evil.example")
             self.get(path, 421, Host=f"evil.example:{self.port}")
@@ -118,7 +125,13 @@ class Doors(Exploring):
         self.assertNotRegex(page, r"<script>|style=|\son\w+=|javascript:")
         scripts = {path.name for path in server.PAGE.iterdir()}
         self.assertEqual(scripts, {name for name, _ in server.FILES.values()})
-        for path in ("/../server.py", "/page/index.html", "//etc/passwd", "/%2e%2e/server.py", "/x"):
+        for path in (
+            "/../server.py",
+            "/page/index.html",
+            "//etc/passwd",
+            "/%2e%2e/server.py",
+            "/x",
+        ):
             self.get(path, 404)
 
     def test_charts(self) -> None:
@@ -167,7 +180,14 @@ class Answers(Exploring):
     def test_values_of_conditions(self) -> None:
         """Any text can be asked for, as it is."""
         self.serve()
-        for text, count in ((MARKUP, 1), (QUOTES, 1), (HIDDEN, 1), (BYTES, 1), ("", 1), ("\xff", 0)):
+        for text, count in (
+            (MARKUP, 1),
+            (QUOTES, 1),
+            (HIDDEN, 1),
+            (BYTES, 1),
+            ("", 1),
+            ("\xff", 0),
+        ):
             condition = 'part="{}"'.format(text.replace('"', '""'))
             found = self.answer(f"count where {condition}")["rows"]
             self.assertEqual(found, [[str(count)]] if count else [], text)
@@ -175,7 +195,9 @@ class Answers(Exploring):
     def test_values(self) -> None:
         """The values to choose from are there as they are and as they are shown."""
         self.serve()
-        found = {each["value"]: each["shown"] for each in self.json("/values.json?name=part")["values"]}
+        found = {
+            each["value"]: each["shown"] for each in self.json("/values.json?name=part")["values"]
+        }
         self.assertEqual(set(found), {part for part, _, _ in ROWS})
         self.assertEqual((found[BYTES], found[HIDDEN]), ("\\udcff\\udcfe", "x\\x00y\\u202eback"))
         years = self.json("/values.json?name=year")["values"]
@@ -212,7 +234,15 @@ class Answers(Exploring):
     def test_command(self) -> None:
         """The command asks the same, as bash takes it."""
         self.serve()
-        for text in (MARKUP, QUOTES, BYTES, "", "\u05d0\u05d1", "$(touch hit)`touch hit`", "\u202e1"):
+        for text in (
+            MARKUP,
+            QUOTES,
+            BYTES,
+            "",
+            "\u05d0\u05d1",
+            "$(touch hit)`touch hit`",
+            "\u202e1",
+        ):
             condition = 'part="{}"'.format(text.replace('"', '""'))
             found = self.answer(f"count,sum(qty) where {condition}")
             line = found["command"].replace("cube ask", f"{CUBE} ask --csv")
@@ -274,11 +304,11 @@ class Answers(Exploring):
             [["2025-03", "12.55", "6.275000", "2"], ["2025-12", "-1.00", "-1.000000", "1"]],
         )
         self.assertEqual(self.answer("count by year(day)")["kinds"], ["year", "number"])
-        self.assertEqual(self.answer("count by day where day=2025-12")["rows"], [["2025-12-01", "1"]])
-        state = self.state()
         self.assertEqual(
-            state["attributes"], [{"name": "day", "title": "Day", "kind": "day"}]
+            self.answer("count by day where day=2025-12")["rows"], [["2025-12-01", "1"]]
         )
+        state = self.state()
+        self.assertEqual(state["attributes"], [{"name": "day", "title": "Day", "kind": "day"}])
         self.assertEqual(
             state["measures"], [{"name": "unit_fee", "title": "Unit fee", "kind": "decimal"}]
         )
@@ -392,7 +422,9 @@ class Folders(Exploring):
             for thread in threads:
                 thread.join()
             self.assertLess(time.monotonic() - began, 10)
-            self.assertIn("another run", self.answer("count where year=1991", 503)["busy"] + "another run")
+            self.assertIn(
+                "another run", self.answer("count where year=1991", 503)["busy"] + "another run"
+            )
             warehouse.finish()
         until(lambda: self.json("/answer.json?slice=count", 0)["rows"] == [["7"]])
         self.assertIsNone(self.state()["work"])
@@ -461,7 +493,15 @@ class Work(Exploring):
     def test_odd_files(self) -> None:
         """A file of anything else says nothing."""
         self.fill()
-        for text in ("", "{", "[]", "1", '{"tool": 1}', '{"tool":"x","pid":"y","rows":1}', "\xff" * 9000):
+        for text in (
+            "",
+            "{",
+            "[]",
+            "1",
+            '{"tool": 1}',
+            '{"tool":"x","pid":"y","rows":1}',
+            "\xff" * 9000,
+        ):
             self.put(f"w/{NAME}", text.encode("latin-1"))
             self.assertIsNone(progress_in("w", os.getpid()), text)
         content = {"tool": "x", "pid": 7, "rows": 1, "part": 7, "batches": 0}
@@ -515,9 +555,17 @@ class Work(Exploring):
         self.fill()
         self.serve()
         refresh = subprocess.Popen(
-            [CUBE, "refresh", "--folder", "w", "--step", "1", "--pause", "100", self.put(
-                "rows", "".join(f"p{n},{n % 999},1\n" for n in range(60_000))
-            )],
+            [
+                CUBE,
+                "refresh",
+                "--folder",
+                "w",
+                "--step",
+                "1",
+                "--pause",
+                "100",
+                self.put("rows", "".join(f"p{n},{n % 999},1\n" for n in range(60_000))),
+            ],
             stdin=subprocess.DEVNULL,
             stderr=subprocess.DEVNULL,
         )
@@ -626,7 +674,10 @@ class Hostile(Exploring):
         served = self.serve()
         for _ in range(3):
             with socket.create_connection(("127.0.0.1", self.port), 20) as connection:
-                head = f"GET /answer.csv?slice=count%20by%20part HTTP/1.1\r\nHost: 127.0.0.1:{self.port}"
+                head = (
+                    "GET /answer.csv?slice=count%20by%20part HTTP/1.1\r\nHost:"
+                    f" 127.0.0.1:{self.port}"
+                )
                 connection.sendall(f"{head}\r\nCookie: {self.cookie}\r\n\r\n".encode())
                 connection.recv(10)
                 connection.setsockopt(socket.SOL_SOCKET, socket.SO_LINGER, b"\1\0\0\0\0\0\0\0")
@@ -665,7 +716,7 @@ class Hostile(Exploring):
 
     def test_browser_is_opened(self) -> None:
         """The browser gets an address whose word works once, and is not waited for."""
-        script = "#!/bin/sh\necho \"$1\" > opened.new\nmv opened.new opened\nsleep 60\n"
+        script = '#!/bin/sh\necho "$1" > opened.new\nmv opened.new opened\nsleep 60\n'
         os.chmod(self.put("browser", script), 0o755)
         served = subprocess.Popen(
             [CUBE, "explore", "w"],
@@ -704,7 +755,8 @@ class Waiting(unittest.TestCase):
 
         found: List[int] = []
         threads = [
-            threading.Thread(target=lambda: found.append(asker.ask("x", work, 20))) for _ in range(5)
+            threading.Thread(target=lambda: found.append(asker.ask("x", work, 20)))
+            for _ in range(5)
         ]
         for thread in threads:
             thread.start()

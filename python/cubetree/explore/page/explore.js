@@ -9,7 +9,7 @@ import * as picture from "./picture.js";
 import * as question from "./question.js";
 import { drawTable, unsort } from "./table.js";
 
-const LOOK = 2000; // milliseconds between two looks at the folder
+const LOOK = 1000; // milliseconds between two looks at the folder
 const LOOK_BUSY = 500; // the same while a writer is at work
 const AGAIN = 200; // milliseconds until a busy folder is asked again
 const NO_CHART = "There is no chart, since Chart.js is missing:"
