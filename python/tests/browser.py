@@ -13,8 +13,8 @@ from pathlib import Path
 from typing import Any, Dict, List, Optional
 
 NAME = "chromium"
-WORDS = ("--headless", "--remote-debugging-pipe", "--no-first-run", "--disable-gpu")
-WORDS += ("--disable-extensions", "--hide-scrollbars", "--disable-dev-shm-usage")
+WORDS = ["--headless", "--remote-debugging-pipe", "--no-first-run", "--disable-gpu"]
+WORDS += ["--disable-extensions", "--hide-scrollbars", "--disable-dev-shm-usage"]
 LONGEST = 20.0  # seconds that something is waited for
 
 

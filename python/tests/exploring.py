@@ -6,6 +6,7 @@ import json
 import re
 import signal
 import subprocess
+from contextlib import suppress
 from typing import Any, Dict, List, Tuple
 from urllib.parse import quote
 
@@ -88,6 +89,12 @@ class Exploring(Case):
     def answer(self, text: str, status: int = 200) -> Dict[str, Any]:
         """The answer to a question, as the page gets it."""
         return self.json(f"/answer.json?slice={asked(text)}", status)
+
+    def answered(self, text: str) -> Dict[str, Any]:
+        """The answer to a question that is asked until the folder is free, as the page does."""
+        while True:
+            with suppress(AssertionError):
+                return self.answer(text)
 
     def state(self) -> Dict[str, Any]:
         """The state of the folder."""

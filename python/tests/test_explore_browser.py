@@ -12,7 +12,6 @@ import threading
 import unittest
 from collections import defaultdict
 from decimal import Decimal
-from pathlib import Path
 from typing import Any, Dict, List, Tuple
 from unittest import mock
 from urllib.parse import quote
@@ -21,7 +20,7 @@ import cubetree
 from cubetree.explore import server
 from cubetree.explore.asking import Explorer
 from tests import browser
-from tests.exploring import BYTES, HIDDEN, MARKUP, QUOTES, Exploring
+from tests.exploring import MARKUP, QUOTES, Exploring
 from tests.helpers import CUBE, load
 
 
@@ -409,8 +408,8 @@ class Page(Exploring):
         self.assertEqual(self.page.run(focused), "sort 2")
         sort = "document.querySelectorAll('#table th')[2].ariaSort"
         self.assertEqual(self.page.run(sort), "descending")
-        unnamed = """[...document.querySelectorAll("button, input, select, canvas")].filter((each) =>
-            !each.textContent.trim() && !each.getAttribute("aria-label") && !each.labels?.length)
+        unnamed = """[...document.querySelectorAll("button, input, select, canvas")]
+            .filter((each) => !each.textContent.trim() && !each.getAttribute("aria-label") && !each.labels?.length)
             .length"""
         self.assertEqual(self.page.run(unnamed), 0)
 

@@ -40,7 +40,8 @@ function filter({ name, title, kind }, changed) {
     return input;
   });
   const box = make("div", {}, ...fields, list);
-  const label = make("div", { className: "name", title }, name, make("small", {}, FORMS[kind] || ""));
+  const form = make("small", {}, FORMS[kind] || "");
+  const label = make("div", { className: "name", title }, name, form);
   const made = make("div", { className: "filter" }, label, box);
   made.dataset.name = name;
   return made;
