@@ -50,6 +50,11 @@ def grouped(keys: Any, values: Any, rows: List[Row] = ROWS) -> Dict[Any, Any]:
     return dict(found)
 
 
+def by_size(sums: Dict[str, Any]) -> List[str]:
+    """The keys of sums, the greatest one first."""
+    return sorted(sums, key=sums.__getitem__, reverse=True)
+
+
 def eye(number: Any) -> str:
     """A number as the table shows it."""
     return f"{number:,}".replace(",", THIN).replace("-", MINUS)
@@ -182,7 +187,7 @@ class Page(Exploring):
         weights: Dict[str, Decimal] = defaultdict(Decimal)
         for (_, depot), value in cells.items():
             weights[depot] += abs(value)
-        ranked = sorted(weights, key=lambda depot: -weights[depot])
+        ranked = by_size(weights)
         chart = self.chart()
         self.assertEqual((chart["type"], chart["stacked"]), ("bar", True))
         self.assertEqual(chart["names"], [*ranked[:7], f"{len(DEPOTS) - 7} others"])
@@ -217,7 +222,7 @@ class Page(Exploring):
         self.serve()
         self.open(columns=["sum(fee)", "count"], by=["depot"], most=5)
         sums = grouped(lambda row: row[1], lambda row: row[3])
-        ranked = sorted(sums, key=lambda depot: -sums[depot])
+        ranked = by_size(sums)
         chart = self.chart()
         self.assertEqual((chart["type"], chart["labels"]), ("bar", ranked[:5]))
         self.assertEqual(chart["series"]["sum(fee)"], [float(sums[depot]) for depot in ranked[:5]])
@@ -403,14 +408,14 @@ class Page(Exploring):
         self.page.run("document.querySelectorAll('#table th button')[2].focus()")
         self.page.press("Enter")
         sums = grouped(lambda row: row[1], lambda row: row[3])
-        ranked = sorted(sums, key=lambda depot: -sums[depot])
+        ranked = by_size(sums)
         self.assertEqual([row[0] for row in self.table()], ranked)
         self.assertEqual(self.page.run(focused), "sort 2")
         sort = "document.querySelectorAll('#table th')[2].ariaSort"
         self.assertEqual(self.page.run(sort), "descending")
         unnamed = """[...document.querySelectorAll("button, input, select, canvas")]
-            .filter((each) => !each.textContent.trim() && !each.getAttribute("aria-label") && !each.labels?.length)
-            .length"""
+            .filter((each) => !each.textContent.trim())
+            .filter((each) => !each.getAttribute("aria-label") && !each.labels?.length).length"""
         self.assertEqual(self.page.run(unnamed), 0)
 
     def test_csv(self) -> None:
@@ -548,7 +553,7 @@ class Page(Exploring):
                 self.address = served.address(served.word)
                 self.open(columns=["sum(fee)"], by=["depot"])
                 sums = grouped(lambda row: row[1], lambda row: row[3])
-                ranked = sorted(sums, key=lambda depot: -sums[depot])
+                ranked = by_size(sums)
                 self.assertEqual(self.chart()["labels"], ranked[:6])
                 self.assertEqual(self.table()[-1], ["7 more rows: csv has all"])
                 self.click("month(day)")
@@ -562,7 +567,8 @@ def contrast(one: str, other: str) -> float:
         """How light a colour is."""
         parts = [int(part) / 255 for part in colour[4:-1].split(",")]
         red, green, blue = (
-            part / 12.92 if part <= 0.03928 else ((part + 0.055) / 1.055) ** 2.4 for part in parts
+            part / 12.92 if part <= 0.03928 else float(((part + 0.055) / 1.055) ** 2.4)
+            for part in parts
         )
         return 0.2126 * red + 0.7152 * green + 0.0722 * blue
 
