@@ -150,7 +150,7 @@ class Hostile(Exploring):
         self.fill()
         served = self.serve()
         began = time.monotonic()
-        for size in (65_537, 200_000, 1_000_000):
+        for size in (65_537, 1_000_000, 6_000_000):
             self.get("/answer.json?slice=" + "x" * size, 414)
         self.get("/answer.json?" + "&".join(["a=b"] * 5000), 400)
         self.get("/state.json", 431, X="x" * 70_000)

@@ -89,6 +89,8 @@ class Folders(Exploring):
             file.write(b"\0" * 100)
         self.assertEqual(self.state()["phase"], "damaged")
         self.put("w/root", b"\xff" * 2050)
+        self.assertEqual(self.state()["phase"], "damaged")
+        self.put("w/root", b"\0" * 2050)
         self.assertEqual(self.state()["phase"], "empty")
         self.assertIn("fault", self.answer("count", 400))
 

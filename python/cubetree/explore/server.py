@@ -219,9 +219,7 @@ class Page(BaseHTTPRequestHandler):
         allowed = {"Allow": "GET, HEAD"} if code == 501 else {}
         code = 405 if code == 501 else code
         reply = said(code, message or "this is no request for a page")
-        with suppress(AttributeError):  # A request line that cannot be read has no command.
-            del self.command
-        self.command = "GET"
+        self.command = "GET"  # It has none if its first line cannot be read.
         self.send(reply._replace(more=allowed))
         self.drain()
 

@@ -6,7 +6,7 @@ from typing import Any, Dict, List, Optional
 
 from ..columns import Columns, kept_columns
 from ..errors import FILES, Fault, told
-from ..format.files import Body, live_body
+from ..format.files import GATES, Body, live_body
 from ..format.forest import PAGE, leaf_room
 from ..schema import Schema, kept_schema
 from ..ui import shown
@@ -39,10 +39,9 @@ def told_of(fault: Exception) -> str:
 
 def contents(folder: str) -> State:
     """What a folder has that has a warehouse."""
-    try:
-        body = live_body(folder)
-    except Fault:  # No slot is raised.
+    if not has_gates(folder):
         return {"phase": EMPTY}
+    body = live_body(folder)
     schema = kept_schema(folder)
     if len(schema.views) != len(body.points) or not schema.views:
         raise ValueError("the schema and the root do not agree")
@@ -60,6 +59,12 @@ def contents(folder: str) -> State:
         "sizes": sizes,
         "changed": os.path.getmtime(os.path.join(folder, FILES[0])),
     }
+
+
+def has_gates(folder: str) -> bool:
+    """Whether the gates of the root say something, be it that they are damaged."""
+    with open(os.path.join(folder, FILES[0]), "rb") as file:
+        return file.read()[GATES : GATES + 2].strip(b"\0") != b""
 
 
 def column(name: str, schema: Schema, columns: Columns) -> Dict[str, str]:

@@ -11,6 +11,7 @@ import { drawTable, unsort } from "./table.js";
 
 const LOOK = 1000; // milliseconds between two looks at the folder
 const LOOK_BUSY = 500; // the same while a writer is at work
+const LOOK_ENDED = 5000; // the same after the server has ended
 const AGAIN = 200; // milliseconds until a busy folder is asked again
 const NO_CHART = "There is no chart, since Chart.js is missing:"
   + " install libjs-chart.js (sudo apt install libjs-chart.js) and load the page again.";
@@ -19,6 +20,7 @@ let state = null;
 let answer = null;
 let asking = new AbortController();
 let drawings = 0;
+let waits = false; // whether the answer waits for another run
 
 // ---- the answer
 
@@ -32,8 +34,9 @@ async function ask() {
   const text = question.slice(state);
   const found = await get(`answer.json?slice=${encoded(text)}`, signal);
   if (signal.aborted) return;
+  waits = Boolean(found.busy);
+  working(state.work);
   if (found.busy) {
-    working(state.work || { tool: "another run" }, "the answer waits");
     setTimeout(() => { if (!signal.aborted) ask(); }, AGAIN);
     return;
   }
@@ -41,7 +44,10 @@ async function ask() {
   if (found.fault) return;
   answer = { ...found, text };
   show();
-  tell(await get(`pages.json?slice=${encoded(text)}`, signal));
+  const { pages, of } = await get(`pages.json?slice=${encoded(text)}`, signal);
+  if (signal.aborted) return;
+  Object.assign(answer, { pages, of });
+  tell();
 }
 
 /** Shows the answer. */
@@ -50,13 +56,13 @@ function show() {
   $("csv").href = `answer.csv?slice=${encoded(text)}`;
   $("command").textContent = answer.command ?? "no command line can have a null byte";
   $("copy").disabled = !answer.command;
-  tell({});
   drawTable(answer);
   const total = (name, at) => make("div", {},
     make("b", { textContent: rows.length ? numbers.shown(rows[0][at]) || "none" : "none" }),
     make("span", { textContent: name }));
   $("totals").replaceChildren(...(groups ? [] : answer.columns.map(total)));
   drawPicture();
+  tell();
   document.body.dataset.drawn = String(++drawings);
 }
 
@@ -89,7 +95,8 @@ function chartTold({ series, names, kind }) {
 }
 
 /** Says how many rows there are, which view answered, and how many pages it read. */
-function tell({ pages, of }) {
+function tell() {
+  const { pages, of } = answer;
   const view = answer.view.join(", ") || "of no attribute";
   const read = of === undefined ? ""
     : `: ${numbers.shown(String(pages))} of ${numbers.counted(of, "page")}`;
@@ -134,7 +141,7 @@ async function look() {
   if (found.folder) named(found);
   working(found.work);
   if (isReady) arrived(found);
-  setTimeout(look, found.work ? LOOK_BUSY : LOOK);
+  setTimeout(look, found.ended ? LOOK_ENDED : found.work ? LOOK_BUSY : LOOK);
 }
 
 /** What stands above all if there is nothing to ask. */
@@ -177,12 +184,13 @@ function named({ folder }) {
 }
 
 /** Says what a writer does, and how far it is. */
-function working(work, more = "") {
-  $("live").className = work ? "busy" : "";
+function working(work) {
+  $("live").className = work || waits ? "busy" : "";
   $("part").hidden = typeof work?.part !== "number";
   if (work?.part) $("part").value = work.part;
-  const what = work?.batch || more ? "a batch is being taken in" : "is loading";
-  const text = work ? `${work.tool}: ${what}${more ? `, ${more}` : ""}` : "no load under way";
+  const tool = work?.tool ?? "another run";
+  const doing = work?.batch ? `${tool}: a batch is being taken in` : `${tool} is at work here`;
+  const text = (work || waits ? doing : "no load under way") + (waits ? "; the answer waits" : "");
   if ($("work").textContent !== text) $("work").textContent = text;
   const parts = [];
   if (work?.rows) parts.push(numbers.counted(work.rows, "row"));

@@ -36,7 +36,7 @@ function filter({ name, title, kind }, changed) {
     input.setAttribute("aria-label", `${name}: ${hint}`);
     if (kind !== "text" && !isTime(kind)) input.inputMode = "numeric";
     input.addEventListener("change", () => { take(name, kind, fields, raw); changed(); });
-    input.addEventListener("focus", () => offer(name, kind, list, raw), { once: true });
+    input.addEventListener("focus", () => offer(name, kind, list, raw));
     return input;
   });
   const box = make("div", {}, ...fields, list);
@@ -55,9 +55,10 @@ function take(name, kind, fields, raw) {
   else wanted.where[name] = { from, to };
 }
 
-/** Offers the values that there are, once somebody looks for them. */
+/** Offers the values that there are, when somebody looks for them. */
 async function offer(name, kind, list, raw) {
-  const { values = [] } = await get(`values.json?name=${encoded(name)}`);
+  const { values } = await get(`values.json?name=${encoded(name)}`);
+  if (!values) return; // No view has the attribute, or the folder is busy.
   const byText = (a, b) => (a < b ? -1 : Number(a > b));
   const order = isTime(kind) ? byText : numbers.compare;
   if (kind !== "text") values.sort((a, b) => order(a.value, b.value));

@@ -108,10 +108,11 @@ function filled(keys, kind) {
 
 /** The year, the month or the day after one. */
 function next(key) {
-  const [year, month = 1, day = 1] = key.split("-").map(Number);
-  const steps = [[1, 0, 0], [0, 1, 0], [0, 0, 1]][key.split("-").length - 1];
-  const after = new Date(Date.UTC(2000, month - 1 + steps[1], day + steps[2]));
-  after.setUTCFullYear(year + steps[0] + after.getUTCFullYear() - 2000);
+  const parts = key.split("-").map(Number);
+  parts[parts.length - 1] += 1;
+  const [year, month = 1, day = 1] = parts;
+  const after = new Date(0);
+  after.setUTCFullYear(year, month - 1, day);
   return after.toISOString().slice(0, key.length);
 }
 

@@ -3,9 +3,20 @@
 "use strict";
 
 export const KINDS = ["", "bar", "line", "stack"];
-const FORM = { columns: ["count"], by: [], where: {}, kind: "", order: "value", most: 30 };
-export const wanted = structuredClone(FORM);
+export const wanted = {
+  columns: ["count"],
+  by: [],
+  where: named({}),
+  kind: "",
+  order: "value",
+  most: 30,
+};
 const PART = /^(?:month|year)\((.*)\)$/;
+
+/** An object that has these names alone: an attribute may be called `constructor`. */
+function named(values) {
+  return Object.assign(Object.create(null), values);
+}
 
 /** The attribute that a group is a part of. */
 export const attributeOf = (group) => (PART.exec(group) || [null, group])[1];
@@ -54,7 +65,7 @@ export function readAddress() {
     const isList = (each) => Array.isArray(each) && each.every((text) => typeof text === "string");
     if (isList(given.columns)) wanted.columns = given.columns;
     if (isList(given.by)) wanted.by = given.by;
-    if (given.where && typeof given.where === "object") wanted.where = { ...given.where };
+    if (given.where && typeof given.where === "object") wanted.where = named(given.where);
     if (KINDS.includes(given.kind)) wanted.kind = given.kind;
     if (["value", "group"].includes(given.order)) wanted.order = given.order;
     if (given.most >= 1) wanted.most = Math.min(Math.floor(given.most), 20_000);
@@ -78,8 +89,8 @@ export function fit(state) {
   wanted.columns = wanted.columns.filter((name) => columns.includes(name));
   if (!wanted.columns.length) wanted.columns = ["count"];
   wanted.by = [...new Set(wanted.by)].filter((name) => groups.includes(name));
-  wanted.where = Object.fromEntries(Object.entries(wanted.where)
-    .filter(([name, value]) => attributes.includes(name) && isValue(value)));
+  const isThere = ([name, value]) => attributes.includes(name) && isValue(value);
+  wanted.where = named(Object.fromEntries(Object.entries(wanted.where).filter(isThere)));
 }
 
 /** The question that a page begins with: the first measure by the first group that a view has. */
