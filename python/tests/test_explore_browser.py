@@ -459,7 +459,8 @@ class Page(Exploring):
         self.page.until("document.getElementById('far').textContent === '30\u2009000 rows'")
         self.page.until("!document.getElementById('part').hidden")
         self.page.run("document.querySelector('[data-key=\"sum(parcels)\"]').click()")
-        self.page.until("document.getElementById('work').textContent.includes('; the answer waits')")
+        waits = "document.getElementById('work').textContent.endsWith('; the answer waits')"
+        self.page.until(waits)
         self.assertEqual(self.chart()["names"], ["count"])
         self.page.until("Chart.getChart('chart').data.labels.includes('2025-05')")
         self.assertEqual(refresh.wait(30), 0)

@@ -218,7 +218,7 @@ class Page(BaseHTTPRequestHandler):
         self.close_connection = True
         allowed = {"Allow": "GET, HEAD"} if code == 501 else {}
         code = 405 if code == 501 else code
-        reply = said(code, message or "this is no request for a page")
+        reply = said(code, message or self.responses[code][0])
         self.command = "GET"  # It has none if its first line cannot be read.
         self.send(reply._replace(more=allowed))
         self.drain()

@@ -16,7 +16,8 @@ export function drawTable(answer) {
     at < answer.groups ? text || "(empty)" : numbers.shown(text))));
   fill($("table"), answer.columns.map((name, at) => head(answer, name, at)), rows, isRight);
   [...$("table").tHead.rows[0].cells].forEach((cell, at) => {
-    cell.ariaSort = sorted?.at === at ? (sorted.down ? "descending" : "ascending") : "none";
+    const way = sorted?.down ? "descending" : "ascending";
+    cell.setAttribute("aria-sort", sorted?.at === at ? way : "none");
   });
   const left = answer.count - rows.length;
   if (left > 0) {
