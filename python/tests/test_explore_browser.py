@@ -469,6 +469,25 @@ class Page(Exploring):
         self.page.until("document.getElementById('work').textContent === 'no load under way'")
         self.assertTrue(self.text("facts").startswith(f"{eye(30_052)} facts;"))
 
+    def test_locked_folder(self) -> None:
+        """A folder that another run held without a change to it is asked again."""
+        self.load()
+        self.serve()
+        self.open(columns=["count"], by=["depot"])
+        lock = subprocess.Popen(["flock", "w", "sh", "-c", "echo; read x"], stdin=-1, stdout=-1)
+        self.addCleanup(lock.communicate)
+        assert lock.stdout and lock.stdin
+        lock.stdout.readline()
+        before = self.page.run("Number(document.body.dataset.drawn)")
+        self.page.run("document.querySelector('[data-key=\"sum(parcels)\"]').click()")
+        work = "document.getElementById('work').textContent"
+        self.page.until(f"{work} === 'another run is at work here; the answer waits'")
+        self.assertEqual(self.chart()["names"], ["count"])
+        lock.communicate(b"\n")
+        self.drawn(before)
+        self.assertEqual(self.chart()["names"], ["count", "sum(parcels)"])
+        self.page.until(f"{work} === 'no load under way'")
+
     def test_two_pages(self) -> None:
         """Two pages at a time have an answer each."""
         self.load()
