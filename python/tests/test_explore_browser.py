@@ -12,7 +12,7 @@ import threading
 import unittest
 from collections import defaultdict
 from decimal import Decimal
-from typing import Any, Dict, List, Tuple
+from typing import Dict, List, Tuple
 from unittest import mock
 from urllib.parse import quote
 
@@ -20,134 +20,15 @@ import cubetree
 from cubetree.explore import server
 from cubetree.explore.asking import Explorer
 from tests import browser
-from tests.exploring import MARKUP, QUOTES, Exploring
-from tests.helpers import CUBE, load
-
-
-def amount(cents: int) -> Decimal:
-    """An amount of two decimals."""
-    return Decimal(cents).scaleb(-2)
-
-
-THIN, MINUS = "\u2009", "\u2212"
-DEPOTS = ["Hull", MARKUP, "Zürich", QUOTES, *(f"D{n:02}" for n in range(8)), "\u05d0\u05d1"]
-DAYS = ["2025-01-05", "2025-01-31", "2025-02-01", "2025-04-30"]  # None is in March.
-SCHEMA = "attr day number\nattr depot text\nattr kind text\nmeasure fee\nmeasure parcels\n"
-SCHEMA += "view day,depot\nview depot,kind\nview day\nview depot\nview\n"
-Row = Tuple[str, str, str, Decimal, int]
-ROWS: List[Row] = [
-    (day, depot, f"k{at % 2}", amount((at * 1237 + place * 7919) % 90_001 - 9_000), 1 + at % 5)
-    for at, depot in enumerate(DEPOTS)
-    for place, day in enumerate(DAYS)
-]
-
-
-def grouped(keys: Any, values: Any, rows: List[Row] = ROWS) -> Dict[Any, Any]:
-    """The sums of values of rows by keys of rows."""
-    found: Dict[Any, Any] = defaultdict(int)
-    for row in rows:
-        found[keys(row)] += values(row)
-    return dict(found)
-
-
-def by_size(sums: Dict[str, Any]) -> List[str]:
-    """The keys of sums, the greatest one first."""
-    return sorted(sums, key=sums.__getitem__, reverse=True)
-
-
-def eye(number: Any) -> str:
-    """A number as the table shows it."""
-    return f"{number:,}".replace(",", THIN).replace("-", MINUS)
+from tests.exploring import MARKUP, QUOTES
+from tests.helpers import CUBE
+from tests.pages import DEPOTS, ROWS, Paged, Row, amount, by_size, eye, grouped
 
 
 @unittest.skipUnless(browser.is_there(), "no chromium")
 @unittest.skipUnless(server.charts_there(), "no libjs-chart.js")
-class Page(Exploring):
+class Page(Paged):
     """The page over a folder of deliveries."""
-
-    page: browser.Browser
-
-    @classmethod
-    def setUpClass(cls) -> None:
-        cls.page = browser.Browser()
-
-    @classmethod
-    def tearDownClass(cls) -> None:
-        cls.page.end()
-
-    def setUp(self) -> None:
-        super().setUp()
-        self.page.open("about:blank")
-        self.page.until("true")
-        self.page.said.clear()
-        self.page.size(1280, 900)
-
-    def load(self, rows: List[Row] = ROWS) -> None:
-        """Loads rows into the folder `w`."""
-        self.put("schema", SCHEMA)
-        with open("rows.csv", "w", encoding="utf-8", newline="") as file:
-            csv.writer(file).writerows([("Day", "Depot", "Kind", "Fee", "Parcels"), *rows])
-        words = ("--schema", "schema", "--dates", "Day", "--cents", "Fee", "--yes")
-        load("--folder", "w", *words, "rows.csv")
-
-    def open(self, **wanted: Any) -> None:
-        """Opens the page, perhaps with a question, and waits for its answer."""
-        self.page.open(self.address + (f"#{quote(json.dumps(wanted))}" if wanted else ""))
-        self.drawn(0)
-
-    def drawn(self, before: int) -> int:
-        """Waits for a drawing after this one, and gives its number."""
-        found: int = self.page.until(
-            f"Number(document.body?.dataset.drawn) > {before} &&"
-            " Number(document.body.dataset.drawn)"
-        )
-        return found
-
-    def click(self, key: str) -> None:
-        """Clicks a chip, and waits for what it draws."""
-        before = self.page.run("Number(document.body.dataset.drawn)")
-        self.page.run(f"document.querySelector('[data-key={json.dumps(key)}]').click()")
-        self.drawn(before)
-
-    def fill_in(self, label: str, value: str, is_faulty: bool = False) -> None:
-        """Fills in a field, and waits for the answer, which a fault has none of."""
-        before = self.page.run("Number(document.body.dataset.drawn)")
-        self.page.run(
-            f"""(() => {{
-            const field = [...document.querySelectorAll("input")]
-                .find((each) => each.getAttribute("aria-label") === {json.dumps(label)});
-            field.value = {json.dumps(value)};
-            field.dispatchEvent(new Event("change"));
-        }})()"""
-        )
-        if not is_faulty:
-            self.drawn(before)
-
-    def text(self, name: str) -> str:
-        """The text of an element."""
-        found: str = self.page.run(f"document.getElementById({json.dumps(name)}).textContent")
-        return found
-
-    def table(self) -> List[List[str]]:
-        """The rows of the table."""
-        found: List[List[str]] = self.page.run(
-            "[...document.querySelectorAll('#table tbody tr')]"
-            ".map((row) => [...row.cells].map((cell) => cell.textContent))"
-        )
-        return found
-
-    def chart(self) -> Dict[str, Any]:
-        """What Chart.js draws: its kind, its labels, and its series by name."""
-        found: Dict[str, Any] = self.page.run(
-            """(() => {
-            const { type, data, options } = Chart.getChart("chart").config;
-            const series = data.datasets.map((each) => [each.label, each.data]);
-            return { type, labels: data.labels, series: Object.fromEntries(series),
-                names: series.map(([name]) => name), stacked: options.scales.y.stacked,
-                axes: data.datasets.map((each) => each.yAxisID) };
-        })()"""
-        )
-        return found
 
     # ---- what is shown
 
@@ -214,6 +95,10 @@ class Page(Exploring):
         shown = {(depot, month): text for depot, month, text in self.table()}
         for key, total in sums.items():
             self.assertEqual(shown[key], eye((total / counts[key]).quantize(Decimal("0.000001"))))
+        months = ["2025-01", "2025-02", "2025-04"]
+        for depot in chart["names"]:
+            own = [float(sums[depot, month] / counts[depot, month]) for month in months]
+            self.assertEqual(chart["series"][depot], [*own[:2], None, own[2]])
 
     def test_bars(self) -> None:
         """Bars of texts have the greatest first, or go by name; the first ones are drawn, and a
@@ -261,13 +146,6 @@ class Page(Exploring):
         self.assertEqual([row[0] for row in self.table()], ["b", "a", "c"])
         self.click_head("sum(qty)")
         self.assertEqual([row[0] for row in self.table()], ["c", "a", "b"])
-
-    def click_head(self, name: str) -> None:
-        """Clicks a head of the table."""
-        self.page.run(
-            "[...document.querySelectorAll('#table th button')]"
-            f".find((each) => each.textContent.startsWith({json.dumps(name)})).click()"
-        )
 
     def test_hostile_texts(self) -> None:
         """Texts with markup are texts, wherever they stand."""
@@ -469,6 +347,35 @@ class Page(Exploring):
         self.page.until("document.getElementById('work').textContent === 'no load under way'")
         self.assertTrue(self.text("facts").startswith(f"{eye(30_052)} facts;"))
 
+    def test_load_beside(self) -> None:
+        """A page that nobody touches has a new chart after a batch, and keeps its question."""
+        self.load()
+        self.serve()
+        self.open(columns=["sum(fee)"], by=["depot"])
+        more: List[Row] = [("2025-05-01", "Hull", "k0", amount(123), 1)]
+        before = self.page.run("Number(document.body.dataset.drawn)")
+        self.load(ROWS + more)
+        self.drawn(before)
+        hull = sum(row[3] for row in ROWS + more if row[1] == "Hull")
+        self.assertEqual(dict(self.table())["Hull"], eye(hull))
+        self.assertIn(float(hull), self.chart()["series"]["sum(fee)"])
+        self.assertTrue(self.text("facts").startswith("53 facts; the last numbered batch is 2;"))
+
+    def test_quick_clicks(self) -> None:
+        """Of several questions in a row the last one is answered."""
+        self.load()
+        self.serve()
+        self.open(columns=["count"], by=["depot"])
+        keys = ["month(day)", "sum(fee)", "count", "depot", "avg(parcels)", "max(parcels)"]
+        clicks = "".join(f"document.querySelector('[data-key=\"{key}\"]').click();" for key in keys)
+        self.page.run(clicks)
+        heads = "[...document.querySelectorAll('#table th')].map((each) => each.textContent).join()"
+        self.page.until(f"{heads} === 'month(day),sum(fee),avg(parcels),max(parcels)'")
+        self.page.until("document.getElementById('told').textContent.includes('page')")
+        sums = grouped(lambda row: row[0][:7], lambda row: row[3])
+        self.assertEqual([row[1] for row in self.table()], [eye(sums[key]) for key in sorted(sums)])
+        self.assertEqual(self.page.said, [])
+
     def test_locked_folder(self) -> None:
         """A folder that another run held without a change to it is asked again."""
         self.load()
@@ -578,6 +485,7 @@ class Page(Exploring):
                 self.assertEqual(self.table()[-1], ["7 more rows: csv has all"])
                 self.click("month(day)")
                 self.assertIn("39 rows are too many for a chart", self.text("nochart"))
+                self.assertTrue(self.page.run("document.getElementById('frame').hidden"))
 
 
 def contrast(one: str, other: str) -> float:
