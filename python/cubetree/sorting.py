@@ -101,16 +101,13 @@ def comparable(value: Optional[Value]) -> tuple[Union[int, float, Decimal], byte
 def places_of_numbers(answer: Answer, text: str) -> Sequence[int]:
     """The places of the counts, sums, minima and maxima among the columns.
 
-    A slice names them before its first space, and its answer has them after the groups. In a query
-    they are functions, or else the columns of numbers after the first column.
+    A slice names them before its first space, and its answer has them after the groups.
     """
+    if answer.keys is not None:
+        numbers = enumerate(answer.numeric)
+        return [place for place, is_number in numbers if is_number and place not in answer.keys]
     if is_query(text):
-        functions = [place for place, name in enumerate(answer.columns) if name.endswith(")")]
-        return functions or [
-            place
-            for place, is_number in enumerate(answer.numeric)
-            if is_number and (place > 0 or len(answer.columns) == 1)
-        ]
+        return [place for place, column in enumerate(answer.columns) if column.endswith(")")]
     count = len(text.partition(" ")[0].split(","))
     return range(len(answer.columns) - count, len(answer.columns))
 

@@ -17,6 +17,7 @@ from .syntax import (
     In,
     Inner,
     Item,
+    Literal,
     Made,
     Name,
     Node,
@@ -114,11 +115,9 @@ class Analysis:
         source.table, source.alias = core.name, alias
         for column in table.attributes if not table.is_facts else ():
             core.group(column.name)
-        measures = [column.name for column in table.values] if table.is_facts else []
-        outputs = [
-            Output(column.name, column.kind, column.name in measures) for column in table.columns()
-        ]
-        return Seen(alias, outputs, core)
+        own = [Output(column.name, column.kind, is_key=True) for column in table.attributes]
+        values = [Output(column.name, column.kind, table.is_facts) for column in table.values]
+        return Seen(alias, own + values, core)
 
     def take_joined(self, source: Source, scope: Scope) -> None:
         """Takes the columns of views by which a table is joined without naming its column."""
@@ -228,7 +227,15 @@ class Analysis:
             as_written = self.text[node.begin : node.end]
             item.alias = node.name if isinstance(node, Name) else as_written
         item.column = column_of(node, scope)
-        return Output(item.alias, kind_of(node, scope))
+        column = scope.find(node) if isinstance(node, Name) else None
+        is_key = column.output.is_key if column else self.is_grouped(item, scope.select)
+        return Output(item.alias, kind_of(node, scope), is_key=is_key)
+
+    def is_grouped(self, item: Item, select: Select) -> bool:
+        """Whether a SELECT groups by one of its items: by its text, its name or its number."""
+        number = str(select.items.index(item) + 1)
+        forms = (item.item, Name(None, item.alias or ""), Literal(number, "whole"))
+        return any(node in forms for node in select.groups)
 
     def rewrite(self, scope: Scope, order: list[Term]) -> None:
         """Lets the program make the tests that it can, and rewrites what is asked of facts."""

@@ -16,12 +16,13 @@ MOST_NAMED = 40  # names in a message
 
 
 class Output(NamedTuple):
-    """A column of a table or a query: its name, its kind, and whether it is a measure of `facts`,
-    which cannot be asked for by itself."""
+    """A column of a table or a query: its name, its kind, whether it is a measure of `facts`, which
+    cannot be asked for by itself, and whether rows are grouped by it."""
 
     name: str
     kind: Optional[Kind]
     is_measure: bool = False
+    is_key: bool = False
 
 
 class Seen:
