@@ -30,6 +30,7 @@ OPTIONS = {
         " --batch --number --from-row --go-on"
     ),
     "ask": f"--folder {FORMS} --cents --raw --level --explain --plot --picture --no-wait",
+    "explore": "--folder --port --no-browser",
     "feed": "--folder --rows --bytes --every --spool --refused --report --no-wait",
     "refresh": "--folder --step --pause --no-wait",
     "audit": "--folder --quiet --no-wait",
@@ -119,7 +120,7 @@ def test_width(width: int) -> None:
 @pytest.mark.parametrize(
     "words, said",
     [
-        (["nope"], "cube: error: no command `nope`; there are load, ask, feed, refresh, audit, "),
+        (["nope"], "cube: error: no command `nope`; there are load, ask, explore, feed, refresh, "),
         (["nope", "-h"], "cube: error: no command `nope`; "),
         (["Ask", "count"], "cube: error: no command `Ask`; "),
         (["--nope"], "cube: error: unrecognized arguments: --nope"),
@@ -202,6 +203,7 @@ def test_former_names() -> None:
     """Each stands for a command, and has its help."""
     assert FORMER["load-csv"] == "load" and FORMER["refresh-slowly"] == "refresh"
     assert set(FORMER.values()) == set(COMMANDS) - {"copy", "export"}
+    assert set(FORMER.values()) == set(COMMANDS) - {"copy", "explore"}
     for name, command in FORMER.items():
         assert former(name, "-h") == (helped(command), "")
         assert f"cube {command}: error: " in former(name, "--never", status=2)[1]

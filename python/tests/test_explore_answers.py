@@ -84,6 +84,8 @@ class Answers(Exploring):
         with cubetree.open("w") as warehouse:
             seen = warehouse.visits("count by year")
         self.assertEqual((pages["pages"], pages["of"]), (seen.pages, seen.of))
+        with mock.patch("cubetree.explore.asking.MOST_PAGES", 1):
+            self.assertEqual(Explorer("w").pages("count by year"), {})
 
     def test_csv(self) -> None:
         """A file has the bytes that the folder has, quoted where it is due."""

@@ -14,6 +14,8 @@ from typing import Any, Callable, Dict, List, Optional
 from ..cli.answering import Asked, refusal
 from ..codec import Answer
 from ..errors import FILES, Fault, Refused
+from ..format.files import live_body
+from ..format.forest import Forest
 from ..output import cell_of, csv_lines
 from ..questions import sent
 from ..sorting import sort_by
@@ -22,6 +24,7 @@ from ..warehouse import Warehouse
 from .waiting import PATIENCE, Asker
 
 MOST_ROWS = 20_000  # of an answer that the page gets; csv has all
+MOST_PAGES = 100_000  # of a folder in which those of an answer are counted
 MOST_VALUES = 500  # of an attribute, to choose from
 PATIENCE_OF_FILES = 60.0  # seconds that csv waits for another run
 PRINTABLE = re.compile(rb"[ -~]")
@@ -97,8 +100,17 @@ class Explorer:
         }
 
     def pages(self, text: str) -> Dict[str, int]:
-        """How many pages a question reads, and of how many."""
-        seen = self.asked("pages", text, self.warehouse.visits)
+        """How many pages a question reads, and of how many; nothing in a large folder, where the
+        search for them would keep writers waiting."""
+        found: Dict[str, int] = self.asked("pages", text, self.made_pages)
+        return found
+
+    def made_pages(self, text: str) -> Dict[str, int]:
+        """The pages, by the thread that asks."""
+        schema, body = self.warehouse.schema, live_body(self.folder)
+        if schema and Forest(schema).pages(body.points, body.width()) > MOST_PAGES:
+            return {}
+        seen = self.warehouse.visits(text)
         return {"pages": seen.pages, "of": seen.of}
 
     def csv(self, text: str) -> bytes:
