@@ -426,6 +426,21 @@ def test_writers_of_the_file(end: str) -> None:
     assert Path("w.db").read_bytes() == before
 
 
+def test_writer_that_begins_meanwhile(monkeypatch: pytest.MonkeyPatch) -> None:
+    """A log that is there at the end is refused as well, and so is another file."""
+    for name, content in (("w.db-wal", ""), ("w.db", "mine")):
+
+        def sync(path: str, name: str = name, content: str = content) -> None:
+            """What another program does meanwhile."""
+            Path(name).write_text(content)
+
+        monkeypatch.setattr("cubetree.export.sync", sync)
+        with cubetree.open("w") as warehouse, pytest.raises(Fault):
+            export(warehouse, "w.db")
+        assert sorted(os.listdir()) == ["w", name] and Path(name).read_text() == content
+        os.remove(name)
+
+
 @pytest.mark.parametrize(
     "words, said",
     [
