@@ -19,6 +19,7 @@ cube = cubetree.cli.main:main
 [sqlalchemy.dialects]
 cubetree = cubetree.sqlalchemy.dialect:CubetreeDialect
 """
+KINDS = (".py", ".html", ".css", ".js", ".svg")  # of files: modules, and what a page is made of
 EPOCH = (1980, 1, 1, 0, 0, 0)
 Settings = Optional[Mapping[str, object]]
 
@@ -63,7 +64,7 @@ def sum_of(content: bytes) -> str:
 def modules() -> dict[str, bytes]:
     """The files of the package, by their names in a wheel."""
     found = sorted((PYTHON / "cubetree").rglob("*"))
-    files = [path for path in found if path.suffix == ".py" or path.name == "py.typed"]
+    files = [path for path in found if path.suffix in KINDS or path.name == "py.typed"]
     return {path.relative_to(PYTHON).as_posix(): path.read_bytes() for path in files}
 
 

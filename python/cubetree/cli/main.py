@@ -13,6 +13,7 @@ from .command import Command, HelpFormatter, parser_of, version
 COMMANDS = {
     "load": "load csv files into a folder, each row once",
     "ask": "ask for sums, counts, means and extremes by group",
+    "explore": "look at a folder in a browser",
     "feed": "take rows as they come, for months",
     "refresh": "take a batch in by short steps, and answer questions meanwhile",
     "audit": "read all pages of a folder, and say whether they are sound",

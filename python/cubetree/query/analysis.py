@@ -32,6 +32,7 @@ from .tables import Table
 from .tokens import refuse
 
 Named = Mapping[str, list[Output]]
+MOST_TABLES = 64  # as SQLite has it for one FROM
 MEASURED = ("SUM", "MIN", "MAX")
 
 
@@ -45,10 +46,12 @@ class Analysis:
 
     def query(self, query: Query, parent: Optional[Scope] = None, named: Named = {}) -> None:
         """Analyses a query, whose columns stand in `outputs` then."""
-        known = dict(named)
-        for name, columns, inner in query.named:
-            self.query(inner, parent, known)
-            known[name.lower()] = renamed(inner.outputs, columns)
+        known = named
+        if query.named:
+            known = own = dict(named)
+            for name, columns, inner in query.named:
+                self.query(inner, parent, own)
+                own[name.lower()] = renamed(inner.outputs, columns)
         is_one = len(query.selects) == 1
         found = [
             self.select(select, query.order if is_one else [], parent, known)
@@ -73,6 +76,8 @@ class Analysis:
         if len(scope.seen) > 1 and any(is_facts(seen) for seen in scope.seen):
             hint = "facts cannot be joined: join tables of views, such as by_part"
             refuse("table", self.text, select.sources[1].place, hint)
+        for source in select.sources:
+            self.take_joined(source, scope)
         self.spread(scope)
         for term in order:
             if isinstance(term.item, Name) and scope.alias(term.item) is not None:
@@ -102,6 +107,8 @@ class Analysis:
             refuse(
                 "table", self.text, source.place, f"no table has the name {source.table}; {there}"
             )
+        if len(self.cores) == MOST_TABLES:
+            refuse("table", self.text, source.place, f"more than {MOST_TABLES} tables")
         core = Core(len(self.cores), table)
         self.cores.append(core)
         source.table, source.alias = core.name, alias
@@ -112,6 +119,15 @@ class Analysis:
             Output(column.name, column.kind, column.name in measures) for column in table.columns()
         ]
         return Seen(alias, outputs, core)
+
+    def take_joined(self, source: Source, scope: Scope) -> None:
+        """Takes the columns of views by which a table is joined without naming its column."""
+        is_natural = "NATURAL" in source.joined
+        names = {name.lower() for name in source.using}
+        for seen in scope.seen if names or is_natural else ():
+            for output in seen.outputs:
+                if seen.core and (is_natural or output.name.lower() in names):
+                    seen.core.take(output.name)
 
     def spread(self, scope: Scope) -> None:
         """Puts the columns in place of each `*` of SELECT."""
@@ -133,7 +149,8 @@ class Analysis:
         if not wanted:
             refuse("syntax", self.text, star.begin, "no table stands for this `*`")
         if is_facts(wanted[0][0]):
-            scope.refuse_single(star.begin, "this asks for a row of each fact")
+            hint = "name attributes and group by them, or ask for all columns of a view"
+            scope.refuse_single(star.begin, "this asks for a row of each fact", hint)
         found: list[Item] = []
         for seen, source in wanted:
             joined = {name.lower() for name in source.using} if star.table is None else set()

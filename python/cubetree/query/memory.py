@@ -108,6 +108,8 @@ class Memory:
             with closing(self.database.execute(text)) as cursor:
                 return cursor.fetchall()
         except (sqlite3.Error, sqlite3.Warning, ValueError, OverflowError) as error:
+            if str(error) == "interrupted":  # A signal came while SQLite was at work.
+                raise KeyboardInterrupt from error
             raise self.fault or fault_of(str(error)) from error
 
 

@@ -108,9 +108,10 @@ class Scope:
         has = f"; there are {', '.join(unique)}" if unique else ""
         refuse("name", self.text, node.begin, f"no column has the name {named}{node.name}{has}")
 
-    def refuse_single(self, place: int, what: str) -> None:
-        """Refuses what would need single facts."""
-        refuse("group", self.text, place, f"{what}, and single facts are not kept")
+    def refuse_single(self, place: int, what: str, hint: str = "") -> None:
+        """Refuses what would need single facts, perhaps with what helps."""
+        more = f": {hint}" if hint else ""
+        refuse("group", self.text, place, f"{what}, and single facts are not kept{more}")
 
 
 def missing_view(core: Core, schema: Schema) -> Refused:
