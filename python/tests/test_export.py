@@ -623,6 +623,16 @@ def test_room_that_was_taken_away(monkeypatch: pytest.MonkeyPatch) -> None:
     assert sorted(os.listdir()) == ["old", "w"]
 
 
+def test_room_that_is_a_link() -> None:
+    """A link in its name leads to no folder that would be emptied."""
+    os.mkdir("mine")
+    Path("mine/file").write_text("mine")
+    os.symlink("mine", ".w.db.cube-export")
+    said = run(*EXPORT, "w", "w.db", status=1)[1]
+    assert said.startswith(f"cube export: {os.getcwd()}/.w.db.cube-export: ")
+    assert os.listdir("mine") == ["file"] and os.path.islink(".w.db.cube-export")
+
+
 def test_synced_before_its_name(monkeypatch: pytest.MonkeyPatch) -> None:
     """What is written is on the device before it gets its name, and the name after."""
     done: List[str] = []
