@@ -426,6 +426,21 @@ def test_writers_of_the_file(end: str) -> None:
     assert Path("w.db").read_bytes() == before
 
 
+def test_writer_that_begins_meanwhile(monkeypatch: pytest.MonkeyPatch) -> None:
+    """A log that is there at the end is refused as well, and so is another file."""
+    for name, content in (("w.db-wal", ""), ("w.db", "mine")):
+
+        def sync(path: str, name: str = name, content: str = content) -> None:
+            """What another program does meanwhile."""
+            Path(name).write_text(content)
+
+        monkeypatch.setattr("cubetree.export.sync", sync)
+        with cubetree.open("w") as warehouse, pytest.raises(Fault):
+            export(warehouse, "w.db")
+        assert sorted(os.listdir()) == ["w", name] and Path(name).read_text() == content
+        os.remove(name)
+
+
 @pytest.mark.parametrize(
     "words, said",
     [
@@ -606,6 +621,16 @@ def test_room_that_was_taken_away(monkeypatch: pytest.MonkeyPatch) -> None:
             taken(os.path.abspath(".x.cube-export"))
         assert os.listdir("old") == [] and os.listdir(".x.cube-export") == ["x"]
     assert sorted(os.listdir()) == ["old", "w"]
+
+
+def test_room_that_is_a_link() -> None:
+    """A link in its name leads to no folder that would be emptied."""
+    os.mkdir("mine")
+    Path("mine/file").write_text("mine")
+    os.symlink("mine", ".w.db.cube-export")
+    said = run(*EXPORT, "w", "w.db", status=1)[1]
+    assert said.startswith(f"cube export: {os.getcwd()}/.w.db.cube-export: ")
+    assert os.listdir("mine") == ["file"] and os.path.islink(".w.db.cube-export")
 
 
 def test_synced_before_its_name(monkeypatch: pytest.MonkeyPatch) -> None:

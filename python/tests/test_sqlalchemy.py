@@ -257,6 +257,17 @@ def test_values(fees: Any) -> None:
     assert rows(fees, total) == [(Decimal("12.50"),)]
 
 
+def test_words_of_sqlite(fees: Any) -> None:
+    """What databases say in their own ways is said as SQLite does."""
+    view = table(fees, "by_part")
+    query = select(view.c.part).where(view.c.part.is_distinct_from("a"))
+    assert rows(fees, query) == [("b",)]
+    days = table(fees, "by_day")
+    month = sqlalchemy.extract("month", days.c.day)
+    query = select(month).where(days.c.day >= datetime.date(2025, 3, 15))
+    assert rows(fees, query) == [(3,)]
+
+
 def test_parameters(fees: Any) -> None:
     """They go as they are: a Decimal with all its digits, and a date."""
     sent: List[Any] = []
@@ -295,19 +306,19 @@ def test_great_sums() -> None:
 
 def test_hostile_names() -> None:
     """Names that are words of SQL, or have its signs in their values, are asked for too."""
-    schema = "attr select text\nattr isnull text\nmeasure group\nview select,isnull\nview isnull\n"
+    schema = "attr select text\nattr values text\nmeasure group\nview select,values\nview values\n"
     made("x", schema, [("it's", "100%", 3), ('"', ":a ?", 4)])
     engine = sqlalchemy.create_engine("cubetree:///x")
-    view = table(engine, "by_select_isnull")
+    view = table(engine, "by_select_values")
     query = select(view.c.select, view.c.sum_group).where(view.c.select == "it's")
     assert rows(engine, query) == [("it's", 3)]
-    named = select(view.c.isnull.label("notnull")).order_by("notnull")
+    named = select(view.c["values"].label("glob")).order_by("glob")
     assert rows(engine, named) == [("100%",), (":a ?",)]
     facts = table(engine, "facts")
-    query = select(facts.c.isnull, func.max(facts.c.group)).group_by(facts.c.isnull)
+    query = select(facts.c["values"], func.max(facts.c.group)).group_by(facts.c["values"])
     assert sorted(rows(engine, query)) == [("100%", 3), (":a ?", 4)]
-    assert rows(engine, query.where(facts.c.isnull == ":a ?")) == [(":a ?", 4)]
-    assert rows(engine, query.where(facts.c.isnull.like("100\\%", escape="\\"))) == [("100%", 3)]
+    assert rows(engine, query.where(facts.c["values"] == ":a ?")) == [(":a ?", 4)]
+    assert rows(engine, query.where(facts.c["values"].like("100\\%", escape="\\"))) == [("100%", 3)]
     engine.dispose()
 
 
