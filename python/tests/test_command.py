@@ -202,8 +202,7 @@ def former(name: str, *words: str, status: int = 0, given: bytes = b"") -> Tuple
 def test_former_names() -> None:
     """Each stands for a command, and has its help."""
     assert FORMER["load-csv"] == "load" and FORMER["refresh-slowly"] == "refresh"
-    assert set(FORMER.values()) == set(COMMANDS) - {"copy", "export"}
-    assert set(FORMER.values()) == set(COMMANDS) - {"copy", "explore"}
+    assert set(FORMER.values()) == set(COMMANDS) - {"copy", "explore", "export"}
     for name, command in FORMER.items():
         assert former(name, "-h") == (helped(command), "")
         assert f"cube {command}: error: " in former(name, "--never", status=2)[1]
