@@ -5,7 +5,9 @@ import http.client
 import json
 import re
 import signal
+import socket
 import subprocess
+import unittest
 from contextlib import suppress
 from typing import Any, Dict, List, Tuple
 from urllib.parse import quote
@@ -30,6 +32,19 @@ ROWS: List[Tuple[Any, ...]] = [
 ]
 
 
+def has_loopback() -> bool:
+    """Whether this machine reaches itself, which it does not where tools/try-package runs."""
+    with socket.socket() as own:
+        own.bind(("127.0.0.1", 0))
+        own.listen()
+        try:
+            socket.create_connection(own.getsockname(), 5).close()
+        except OSError:
+            return False
+    return True
+
+
+@unittest.skipUnless(has_loopback(), "no network on the loopback")
 class Exploring(Case):
     """A test of a page."""
 
