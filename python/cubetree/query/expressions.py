@@ -150,7 +150,7 @@ class Expressions:
             sign += " NOT" if self.take("NOT") else ""
             sign += " DISTINCT FROM" if self.take("DISTINCT", "FROM") else ""
         right = self.expression(level + 1)
-        if isinstance(left, Chain) and left.level == level and not left.is_closed:
+        if isinstance(left, Chain) and left.level == level:
             if level not in (OR, AND, JOINED):
                 self.expect_few(len(left.items), MOST_TERMS, "terms in a row")
             left.items.append(right)
@@ -225,8 +225,6 @@ class Expressions:
         else:
             inner = self.expression()
         self.expect(")")
-        if isinstance(inner, Chain):
-            inner.is_closed = True
         return self.ended(inner, begin)
 
     def column(self) -> Node:

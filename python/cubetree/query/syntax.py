@@ -66,7 +66,6 @@ class Chain(Node):
     level: int
     items: list[Node]
     signs: list[str]
-    is_closed: bool = field(default=False, compare=False)
 
 
 @dataclass
