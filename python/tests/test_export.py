@@ -353,6 +353,20 @@ def test_view_beside_a_pending_batch() -> None:
         assert sorted(warehouse.view("year")) == [*BY_YEAR, (1999, 1, 7, 7, 7)]
 
 
+@pytest.mark.parametrize(
+    "query",
+    ["SELECT nope FROM by_year", "SELECT", "SELECT COUNT(*) FROM nope", "SELECT part FROM facts"],
+)
+def test_refused_query_beside_a_pending_batch(query: str) -> None:
+    """A query that is refused drops no batch either."""
+    with cubetree.open("w") as warehouse:
+        warehouse.begin([("bolt", 1999, 7)])
+        with pytest.raises(Fault):
+            warehouse.sql(query)
+        assert list(warehouse.sql("SELECT COUNT(*) FROM facts")) == [(4,)]
+        assert warehouse.finish() == 5
+
+
 def test_export_from_a_writer() -> None:
     """A warehouse that has loaded a batch exports it too."""
     with cubetree.open("w") as warehouse:
