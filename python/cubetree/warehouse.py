@@ -15,7 +15,7 @@ from .columns import Columns, kept_columns
 from .dates import Sent, query_with_dates, slice_with_dates
 from .derived import derived, derived_answer, plain
 from .design.views import Choice, views_of
-from .errors import Damaged, Fault, Refused
+from .errors import Damaged, Fault, Refused, Stopped
 from .format.visits import Visits, visits
 from .levels import Level, Pairs, level_in_file, level_of
 from .locks import Reader, Writer
@@ -139,13 +139,24 @@ class Warehouse:
     def sql(self, text: str) -> Answer:
         """The answer to a query in SQL of the table `facts`, or of the tables of views. The columns
         are called as they are written. One query sees one moment."""
+        refused = Fault()
         with self._question() as session:
-            kinds = self._kinds_in(session)
-            if session.schema is None:
-                raise Refused("refused no schema")
-            return self._plain_sql(session, text, kinds) or answered(
-                text, session.schema, kinds, lambda core: records_of(session, core)
-            )
+            try:
+                return self._any_sql(session, text)
+            except Stopped:
+                raise
+            except Fault as fault:  # Its replies were read, so the run goes on.
+                refused = fault
+        raise refused
+
+    def _any_sql(self, session: Session, text: str) -> Answer:
+        """The answer to a query in a run."""
+        kinds = self._kinds_in(session)
+        if session.schema is None:
+            raise Refused("refused no schema")
+        return self._plain_sql(session, text, kinds) or answered(
+            text, session.schema, kinds, lambda core: records_of(session, core)
+        )
 
     def _plain_sql(
         self, session: Session, text: str, kinds: Mapping[str, Kind]
