@@ -6,7 +6,17 @@ import threading
 import time
 from contextlib import contextmanager, suppress
 from types import TracebackType
-from typing import Iterable, Iterator, Mapping, NamedTuple, Optional, Sequence, Union, overload
+from typing import (
+    Callable,
+    Iterable,
+    Iterator,
+    Mapping,
+    NamedTuple,
+    Optional,
+    Sequence,
+    Union,
+    overload,
+)
 
 from .audits import Audit, audit_of
 from .batches import PYTHON, Numbered
@@ -20,7 +30,7 @@ from .format.visits import Visits, visits
 from .levels import Level, Pairs, level_in_file, level_of
 from .locks import Reader, Writer
 from .query.core import Core
-from .query.front import answered
+from .query.front import asked
 from .query.names import missing_view
 from .query.tables import Table, tables_of
 from .query.views import Moment
@@ -139,24 +149,25 @@ class Warehouse:
     def sql(self, text: str) -> Answer:
         """The answer to a query in SQL of the table `facts`, or of the tables of views. The columns
         are called as they are written. One query sees one moment."""
-        refused = Fault()
         with self._question() as session:
             try:
-                return self._any_sql(session, text)
+                answer = self._asked_sql(session, text)
             except Stopped:
                 raise
             except Fault as fault:  # Its replies were read, so the run goes on.
-                refused = fault
-        raise refused
+                answer = raiser(fault)
+        return answer()
 
-    def _any_sql(self, session: Session, text: str) -> Answer:
-        """The answer to a query in a run."""
+    def _asked_sql(self, session: Session, text: str) -> Callable[[], Answer]:
+        """What makes the answer to a query, for which the program was asked."""
         kinds = self._kinds_in(session)
         if session.schema is None:
             raise Refused("refused no schema")
-        return self._plain_sql(session, text, kinds) or answered(
-            text, session.schema, kinds, lambda core: records_of(session, core)
-        )
+        plain = self._plain_sql(session, text, kinds)
+        if plain is not None:
+            found: Answer = plain
+            return lambda: found
+        return asked(text, session.schema, kinds, lambda core: records_of(session, core))
 
     def _plain_sql(
         self, session: Session, text: str, kinds: Mapping[str, Kind]
@@ -392,6 +403,16 @@ class Warehouse:
             with self._lock, suppress(Fault):  # All that was asked has been answered.
                 if not over.is_set() and time.monotonic() > self._asked + LONGEST_PAUSE:
                     self.pause()
+
+
+def raiser(fault: Fault) -> Callable[[], Answer]:
+    """What raises a fault."""
+
+    def answer() -> Answer:
+        """There is none."""
+        raise fault
+
+    return answer
 
 
 def records_of(session: Session, core: Core) -> list[list[str]]:

@@ -27,20 +27,30 @@ Records = Sequence[Sequence[str]]
 Ask = Callable[[Core], Records]  # asks the program
 
 
-def answered(text: str, schema: Schema, kinds: Mapping[str, Kind], ask: Ask) -> Answer:
-    """The answer to a query, whose parts are asked of the program one after another."""
-    query = parsed(text)
-    with closing(Memory()) as memory:
+def asked(text: str, schema: Schema, kinds: Mapping[str, Kind], ask: Ask) -> Callable[[], Answer]:
+    """Asks the program for the parts of a query, one after another. What makes the answer of them
+    is given, and does not need the program."""
+    query, memory = parsed(text), Memory()
+    try:
         analysis = Analysis(text, tables_of(schema, kinds), lambda node: constant(memory, node))
         analysis.query(query)
         direct = Direct.of(query, analysis)
-        if direct:
-            return direct.answer(ask(direct.core))
         records = [ask(core) for core in analysis.cores]
-        for core, found in zip(analysis.cores, records):
-            memory.fill(core, found)
-        memory.seal()
-        return answer_of(query, memory.rows(written_query(query)))
+    except BaseException:
+        memory.close()
+        raise
+
+    def answer() -> Answer:
+        """The answer, after which the database in memory is gone."""
+        with closing(memory):
+            if direct:
+                return direct.answer(records[0])
+            for core, found in zip(analysis.cores, records):
+                memory.fill(core, found)
+            memory.seal()
+            return answer_of(query, memory.rows(written_query(query)))
+
+    return answer
 
 
 def constant(memory: Memory, node: Node) -> Constant:
