@@ -122,7 +122,7 @@ class Queries(Windows):
         name = item.name or item.term.text
         if "OVER" in name or "\ue000" in name or "(" in name:
             return "1"
-        return self.pick([f"LENGTH({name})", f"{name} IS NULL", f"{name} || 'x'", f"-{name}"])
+        return self.pick([f"LENGTH({name})", f"{name} IS NULL", f"{name} || 'x'", f"-({name})"])
 
     def directed(self, term: str) -> str:
         """An order with a direction."""
