@@ -8,8 +8,8 @@
 pandas.read_sql takes such a connection. It only reads: a Warehouse loads the facts, and there is
 nothing to commit.
 
-You pass a str or an int for each question mark, in a list or a tuple; a mapping or a str is an
-error. Comments (`-- ..` to the end of the line, and `/* .. */`, which do not nest) and a semicolon
+You pass a str, a number, a date or None for each question mark, in a list or a tuple; a mapping or
+a str is an error. Comments (`-- ..` to the end of the line, and `/* .. */`, which do not nest) and a semicolon
 at the end are left out. A question mark in a comment or in quotes is no parameter.
 
 An error has in `query` the text that you executed, comments included. If the parameters fit, they
@@ -25,8 +25,8 @@ from operator import length_hint
 from types import TracebackType
 from typing import Iterator, Optional, Sequence, Union
 
-from .errors import Fault, Refused, told
-from .sql import Parameter, Query, Statement, statement_of, type_name
+from .errors import Fault, Inexact, Refused, told
+from .sql import Parameter, Statement, statement_of, type_name
 from .values import Kind, Value
 from .warehouse import Warehouse
 
@@ -255,9 +255,6 @@ def bound(operation: str, parameters: Optional[Sequence[Parameter]]) -> Statemen
     except Fault as fault:
         refused = fault if isinstance(fault, Refused) else None
         raise ProgrammingError(str(fault), operation, refused) from fault
-    if "\n" in Query(statement.sent).text:
-        hint = "a line feed in quotes is not supported, since a query is sent as one line"
-        raise NotSupportedError(hint, statement.shown)
     return statement
 
 
@@ -283,6 +280,8 @@ def type_of(is_number: bool, kind: Optional[Kind]) -> type:
 
 def error_of(fault: Union[Fault, OSError], query: str) -> DatabaseError:
     """The error to raise for a fault."""
+    if isinstance(fault, Inexact):
+        return DataError(str(fault), query)
     if isinstance(fault, Refused):
         kind = DataError if fault.reply.startswith("refused sql value") else ProgrammingError
         return kind(str(fault), query, fault)

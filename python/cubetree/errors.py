@@ -35,14 +35,14 @@ class Refused(Fault):
     """What was refused, by its reply in the words of the program, and the place that it names,
     which counts from 1.
 
-    Two replies are of this package and not of the program: `refused row R end`, for a text with a
-    line that is `end`, which would end the block, and `refused sql syntax B` for a query that is
-    not one statement with its parameters.
+    Some replies are of this package and not of the program: `refused row R end`, for a text with a
+    line that is `end`, which would end the block, and `refused sql ..` for queries that the program
+    does not answer by itself. These have a meaning in words.
     """
 
     def __init__(self, reply: str, meaning: str = "") -> None:
         super().__init__(f"{reply}: {meaning}" if meaning else reply)
-        self.reply = reply
+        self.reply, self.meaning = reply, meaning
         place = PLACE.fullmatch(reply)
         named = place.groupdict() if place else {}
         numbers = {
@@ -54,6 +54,10 @@ class Refused(Fault):
         self.byte: Optional[int] = numbers.get("byte")
         self.due: Optional[int] = numbers.get("due")
         self.name: Optional[str] = named.get("name")
+
+
+class Inexact(Fault):
+    """A number of a query is greater than what SQLite holds without rounding."""
 
 
 class Changed(Stopped):

@@ -20,6 +20,11 @@ OF_DATE = re.compile(r"(?:month|year)\([^()]+\)")
 LONGEST_SLICE = 65_000  # bytes
 
 
+def is_line(text: str) -> bool:
+    """Whether a question can be sent."""
+    return "\n" not in text and len(text.encode("utf-8", "surrogateescape")) <= LONGEST_SLICE
+
+
 def sent(text: str) -> bytes:
     """The bytes of a slice or a query, as they are sent."""
     line = text.encode("utf-8", "surrogateescape")

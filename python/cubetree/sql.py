@@ -6,6 +6,9 @@ from __future__ import annotations
 
 import operator
 import re
+from datetime import date, datetime
+from decimal import Decimal
+from math import isfinite
 from typing import Mapping, NamedTuple, Sequence, SupportsIndex, Union
 
 from .codec import Answer, kind_of_column
@@ -35,7 +38,7 @@ FAULTS = {
     "touched": "put spaces around this `?`: it touches a letter, digit, quote or other `?`",
     "end": "text follows this `;`: execute one statement at a time",
 }
-Parameter = Union[str, SupportsIndex]
+Parameter = Union[str, SupportsIndex, float, Decimal, date, None]
 
 
 class Item(NamedTuple):
@@ -97,7 +100,7 @@ def items_of(text: str) -> list[Item]:
 
 def is_query(text: str) -> bool:
     """Whether a question is in SQL."""
-    return re.match("select" + END_OF_WORD, text, re.IGNORECASE) is not None
+    return re.match("(?:select|with)" + END_OF_WORD, text, re.IGNORECASE) is not None
 
 
 class Statement(NamedTuple):
@@ -125,7 +128,14 @@ def statement_of(text: str, parameters: Sequence[Parameter]) -> Statement:
         counts = f"{marks} in the query, {len(literals)} passed"
         raise Fault(f"pass one parameter for each `?`: {counts}")
     left = iter(literals)
-    shown = [next(left) if piece.lastgroup == "mark" else piece[0] for piece in pieces]
+    shown: list[str] = []
+    for piece in pieces:
+        part = next(left) if piece.lastgroup == "mark" else piece[0]
+        # A sign and a negative number would begin a comment.
+        is_comment = (
+            part[:1] == "-" and piece.lastgroup == "mark" and "".join(shown[-1:])[-1:] == "-"
+        )
+        shown.append(" " + part if is_comment else part)
     sent = [
         " " * length(part) if piece.lastgroup in ("comment", "end") else part
         for piece, part in zip(pieces, shown)
@@ -168,14 +178,19 @@ def length(text: str) -> int:
 
 def literal(value: Parameter, number: int) -> str:
     """A parameter as a literal. Faults name it by its number, which counts from 1."""
-    if isinstance(value, str):
-        check_characters(value, f"parameter {number}")
-        return "'" + value.replace("'", "''") + "'"
+    if isinstance(value, (str, date)) and not isinstance(value, datetime):
+        text = value if isinstance(value, str) else value.isoformat()
+        check_characters(text, f"parameter {number}")
+        return "'" + text.replace("'", "''") + "'"
+    if value is None:
+        return "NULL"
+    if isinstance(value, (float, Decimal)) and isfinite(value):
+        return repr(float(value)) if isinstance(value, float) else format(value, "f")
     try:
-        return str(operator.index(value))
+        return str(operator.index(value))  # type: ignore[arg-type]
     except TypeError as error:
-        kind = type_name(value)
-        raise Fault(f"parameter {number} is of the type {kind}: pass a str or an int") from error
+        hint = "pass a str, a number, a date or None"
+        raise Fault(f"parameter {number} is of the type {type_name(value)}: {hint}") from error
     except ValueError as error:  # Python writes no int of more than 4,300 digits.
         hint = "pass an int of a magnitude below 2^127"
         raise Fault(f"parameter {number} is out of range: {hint}") from error

@@ -19,7 +19,10 @@ from .errors import Damaged, Fault, Refused
 from .format.visits import Visits, visits
 from .levels import Level, Pairs, level_in_file, level_of
 from .locks import Reader, Writer
-from .questions import question_of, sent
+from .query.core import Core
+from .query.front import answered
+from .query.names import missing_view
+from .questions import is_line, question_of, sent
 from .schema import Schema, declared_lines
 from .session import Asking, Loading, Session
 from .sql import Query
@@ -132,16 +135,29 @@ class Warehouse:
         return self._answer(b"slice ", text)
 
     def sql(self, text: str) -> Answer:
-        """The answer to a query in SQL of the table `facts`. The columns are called as they are
-        written."""
+        """The answer to a query in SQL of the table `facts`, or of the tables of views. The columns
+        are called as they are written. One query sees one moment."""
         with self._question() as session:
             kinds = self._kinds_in(session)
-            made = query_with_dates(text, kinds)
-            query = Query(made.text)
-            records, last = session.answer(b"sql " + sent(query.sent()))
-        if session.schema is None or last.startswith("refused "):
-            raise made.refused(query.refused(last))
-        return query.answer(session.schema, records, kinds)
+            if session.schema is None:
+                raise Refused("refused no schema")
+            return self._plain_sql(session, text, kinds) or answered(
+                text, session.schema, kinds, lambda core: records_of(session, core)
+            )
+
+    def _plain_sql(
+        self, session: Session, text: str, kinds: Mapping[str, Kind]
+    ) -> Optional[Answer]:
+        """The answer to a query that the program takes as it stands; None if it does not, or has
+        no rows."""
+        made = query_with_dates(text, kinds)
+        query = Query(made.text)
+        if not query.items or not is_line(query.sent()):
+            return None
+        assert session.schema
+        records, last = session.answer(b"sql " + sent(query.sent()))
+        has_rows = records and not last.startswith("refused ")
+        return query.answer(session.schema, records, kinds) if has_rows else None
 
     def level(self, name: str, attribute: str, pairs: Pairs) -> int:
         """Gives values of an attribute a parent each, by a mapping or pairs of both, and gives
@@ -338,6 +354,17 @@ class Warehouse:
             with self._lock, suppress(Fault):  # All that was asked has been answered.
                 if not over.is_set() and time.monotonic() > self._asked + LONGEST_PAUSE:
                     self.pause()
+
+
+def records_of(session: Session, core: Core) -> list[list[str]]:
+    """The rows of the part of a query that the program answers."""
+    records, last = session.answer(sent(core.command()))
+    if last == "refused notcovered":
+        assert session.schema
+        raise missing_view(core, session.schema)
+    if last.startswith("refused "):
+        raise Refused(last)
+    return records
 
 
 def _choice(reply: str, schema: Optional[Schema], made: Sent) -> Choice:

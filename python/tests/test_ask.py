@@ -175,7 +175,7 @@ class Ask(Case):
             (["--in", "w", "count where year=1997 or 1998"], "NAME=VALUE and ..\n"),
             (
                 ["--in", "w", "select count(*) from facts where year='x'"],
-                "refused sql value 39: no such value can be: a text stands in '..'",
+                "refused sql value 39: year has numbers",
             ),
             (["--in", "w", "--explain", "select count(*) from facts"], "NAME=VALUE and ..\n"),
             (["--in", "w", "status"], "refused syntax 1"),
@@ -204,7 +204,7 @@ class Ask(Case):
             1
         ]
         self.assertIn(
-            "the views are of part; none; load into a new folder with a view that has them all\n",
+            "the views are of part; none; load into a new folder with a view of part,year\n",
             said,
         )
 

@@ -42,7 +42,6 @@ PASSED_OVER = {
     "test_sql_writes_ddl": "a connection only reads; Warehouse.declare declares the table",
     "test_sql_writes_None": "a connection only reads, and an attribute has no NULL",
     "test_non_idempotent_close": "you may close a connection again, as you may close a file again",
-    "test_no_rows_aggregate": "without facts there is no row, as docs/SCRIPT.md (`sql`) says",
 }
 
 
@@ -220,14 +219,16 @@ def test_execute_list_parameters(cursor: driver.Cursor) -> None:
 
 
 def test_parameter_None(cursor: driver.Cursor) -> None:
-    error = error_of(cursor, BY_NAME, (None,))
-    assert str(error) == "parameter 1 is of the type NoneType: pass a str or an int"
+    """None is NULL, which no name is."""
+    assert cursor.execute(BY_NAME, (None,)).fetchall() == []
 
 
 def test_parameter_float_bytes(cursor: driver.Cursor) -> None:
-    """A float is no number of an attribute, not even one that is whole."""
-    for value, kind in ((1.5, "float"), (2003.0, "float"), (b"x", "bytes")):
-        assert f"parameter 1 is of the type {kind}:" in str(error_of(cursor, BY_YEAR, (value,)))
+    """A float is compared as a number."""
+    assert cursor.execute(BY_YEAR, (2003.5,)).fetchall() == []
+    assert cursor.execute(BY_YEAR, (2003.0,)).fetchall() == [("Redback",)]
+    error = error_of(cursor, BY_YEAR, (b"x",))
+    assert str(error) == "parameter 1 is of the type bytes: pass a str, a number, a date or None"
 
 
 def test_parameter_mapping(cursor: driver.Cursor) -> None:
@@ -263,9 +264,9 @@ def test_comment(cursor: driver.Cursor) -> None:
 
 
 def test_no_rows_aggregate(cursor: driver.Cursor) -> None:
-    for item in ("count(*)", "sum(qty)"):
+    for item, value in (("count(*)", 0), ("sum(qty)", None)):
         cursor.execute(f"select {item} from facts where year > 9999")
-        assert (cursor.rowcount, cursor.fetchall()) == (0, [])
+        assert (cursor.rowcount, cursor.fetchall()) == (1, [(value,)])
         assert first_of(cursor.description or []) == [item]
 
 
@@ -468,9 +469,9 @@ def test_numpy_and_pandas(cursor: driver.Cursor) -> None:
     assert cursor.execute(BETWEEN, numpy.array([2001, 2002])).fetchall() == years
     assert cursor.execute(BETWEEN, pandas.Index([2001, 2002])).fetchall() == years
     assert cursor.execute(BETWEEN, [numpy.int64(2001), numpy.uint16(2002)]).fetchall() == years
+    assert cursor.execute(BETWEEN, numpy.array([2001, 2002.0])).fetchall() == years
     assert cursor.execute(BY_NAME, numpy.array(["XXXX"])).fetchall() == [("XXXX",)]
     for parameters, kind in (
-        (numpy.array([2001, 2002.0]), "parameter 1 is of the type numpy.float64:"),
         ([2001, numpy.datetime64("2002-01-01")], "parameter 2 is of the type numpy.datetime64:"),
         (numpy.array([[2001, 2002]] * 2), "parameter 1 is of the type numpy.ndarray:"),
         (numpy.array(2001), "the parameters are of the type numpy.ndarray:"),
@@ -506,12 +507,10 @@ def test_no_sequences(cursor: driver.Cursor, parameters: Any, kind: str) -> None
 @pytest.mark.parametrize(
     "value, kind",
     [
-        (datetime.date(2001, 1, 1), "datetime.date"),
         (datetime.time(1), "datetime.time"),
         (datetime.datetime(2001, 1, 1), "datetime.datetime"),
-        (Decimal(2001), "decimal.Decimal"),
-        (2001.0, "float"),
-        (None, "NoneType"),
+        (float("inf"), "float"),
+        (Decimal("NaN"), "decimal.Decimal"),
         (b"2001", "bytes"),
         ([2001], "list"),
     ],
@@ -520,8 +519,16 @@ def test_values_of_other_types(cursor: driver.Cursor, value: Any, kind: str) -> 
     """The message has the place of the parameter, from 1, and its type."""
     for place, parameters in ((1, [value, 2002]), (2, [2001, value])):
         error = error_of(cursor, BETWEEN, parameters)
-        expected = f"parameter {place} is of the type {kind}: pass a str or an int"
+        expected = f"parameter {place} is of the type {kind}: pass a str, a number, a date or None"
         assert (str(error), error.query, error.byte) == (expected, BETWEEN, None)
+
+
+def test_numbers_dates_and_None(cursor: driver.Cursor) -> None:
+    """A number is compared as a number, and nothing is NULL. A year is no date."""
+    assert cursor.execute(BETWEEN, [Decimal(2001), 2001.5]).fetchall() == [(2001,)]
+    assert cursor.execute(BETWEEN, [None, 2002]).fetchall() == []
+    with pytest.raises(driver.DataError, match="year has numbers"):
+        cursor.execute(BETWEEN, [datetime.date(2001, 1, 1), 2002])
 
 
 def test_bool_is_an_int(cursor: driver.Cursor) -> None:

@@ -21,12 +21,12 @@ REFUSED = [
     ("select count(*) from parts", "refused sql table 22"),
     ("select sum(cost) from facts", "refused sql name 12"),
     ("select count(*) from facts where year = 'x'", "refused sql value 41"),
-    ("select part from facts group by part, part", "refused sql group 39"),
-    ("select part from facts group by part having", "refused sql syntax 38"),
-    ("select part", "refused sql syntax 12"),
+    ("select part, year from facts group by part", "refused sql group 14"),
+    ("select part from facts group by part having", "refused sql syntax 44"),
+    ("select part", "refused sql name 8"),
     ("select part ,", "refused sql syntax 14"),
     ("select part from facts where part = 'x", "refused sql syntax 37"),
-    ("select min(qty) from facts where part < 'x'", "refused sql value 41"),
+    ("select count(*) from facts where part = 5", "refused sql value 41"),
     ("", "refused sql syntax 1"),
 ]
 
@@ -67,7 +67,7 @@ class Queries(Case):
                 ),
                 ("select year from facts group by year", ("year",), [(1997,), (1998,)]),
                 ("select part from facts group by part", ("part",), [("bolt",), ("nut",)]),
-                ("select sum(qty) from facts where part = 'it''s'", ("sum(qty)",), []),
+                ("select sum(qty) from facts where part = 'it''s'", ("sum(qty)",), [(None,)]),
             ]:
                 with self.subTest(text):
                     answer = warehouse.sql(text)
@@ -103,8 +103,6 @@ class Queries(Case):
                 self.assertEqual(
                     (caught.exception.reply, caught.exception.byte), (reply, int(reply.split()[-1]))
                 )
-            with self.assertRaisesRegex(cubetree.Fault, "a slice is one line"):
-                warehouse.sql("select count(*) from facts where part = 'a\nb'")
 
     def test_items(self) -> None:
         for text, items in [
@@ -137,13 +135,9 @@ class Queries(Case):
         self.assertEqual(
             said,
             (
-                "cube ask: refused sql name 8: no attribute or measure that can stand here has this"
-                " name; there are part, year, qty\n  select colour from facts\n         ^\n"
+                "cube ask: refused sql name 8: no column has the name colour; there are part, year,"
+                " qty\n  select colour from facts\n         ^\n"
             ),
-        )
-        self.assertIn(
-            "GROUP BY NAMES; no ORDER BY, LIMIT, AS or `;`\n",
-            ask("--in", "w", "select count(*) from facts limit 3", status=1)[1],
         )
 
 
@@ -185,7 +179,7 @@ class Databases(Case):
                 len(cursor.execute("SELECT year FROM facts GROUP BY year").fetchmany()), 2
             )
             self.assertEqual(
-                list(cursor.execute("SELECT COUNT(*) FROM facts WHERE year > 2000")), []
+                list(cursor.execute("SELECT COUNT(*) FROM facts WHERE year > 2000")), [(0,)]
             )
             self.assertEqual(
                 list(connection.cursor().execute("SELECT COUNT(*) FROM facts")), [(3,)]
@@ -206,9 +200,8 @@ class Databases(Case):
             for parameters, kind in [
                 ((), cubetree.ProgrammingError),
                 ((1, 2, 3), cubetree.ProgrammingError),
-                (("a", "b", 1.5, 2), cubetree.ProgrammingError),
+                (("a", "b", b"1", 2), cubetree.ProgrammingError),
                 (("a", 7, 1997, 1998), cubetree.DataError),
-                (("a", "a\nb", 1997, 1998), cubetree.NotSupportedError),
             ]:
                 with self.subTest(parameters), self.assertRaises(kind):
                     cursor.execute(query, parameters)  # type: ignore[arg-type]
@@ -373,9 +366,8 @@ def test_quotes_keep_all_characters(cursor: cubetree.Cursor) -> None:
     ],
 )
 def test_line_feed_in_quotes(cursor: cubetree.Cursor, query: str, parameters: List[str]) -> None:
-    """A query is one line for the program, so it cannot have a line feed in quotes."""
-    with pytest.raises(cubetree.NotSupportedError, match="line feed"):
-        cursor.execute(query, parameters)
+    """The program takes no line feed within a query, so that SQLite makes the test."""
+    assert cursor.execute(query, parameters).fetchall() == [(0,)]
 
 
 @pytest.mark.parametrize(
@@ -447,7 +439,7 @@ def test_sign_before_a_question_mark(cursor: cubetree.Cursor) -> None:
     """`-` and a negative parameter make no comment of the rest."""
     query = "select count(*) from facts where year > -? and\npart = 'bolt'"
     assert cursor.execute(query, [5]).fetchall() == [(2,)]
-    assert rest_of(error_of(cursor, query, [-5])) == b"--5 and\npart = 'bolt'"
+    assert cursor.execute(query, [-1997]).fetchall() == [(1,)]
 
 
 @pytest.mark.parametrize(
@@ -476,9 +468,9 @@ def test_sign_before_a_question_mark(cursor: cubetree.Cursor) -> None:
             "value",
             "'x' -- x",
         ),
-        ('select "a--;?" from facts', [], None, "syntax", '"a--;?" from facts'),
-        ("select part -- é", [], None, "syntax", " -- é"),
-        ("select part;", [], None, "syntax", ";"),
+        ('select "a--;?" from facts', [], None, "name", '"a--;?" from facts'),
+        ("select part, -- é", [], None, "syntax", " -- é"),
+        ("select part,;", [], None, "syntax", ";"),
     ],
 )
 def test_places(
@@ -494,7 +486,8 @@ def test_places(
         cursor.execute(query, parameters)
     error = caught.value
     assert (error.query, rest_of(error)) == (shown or query, rest.encode())
-    assert str(error) == error.reply == f"refused sql {word} {error.byte}"
+    assert error.reply == f"refused sql {word} {error.byte}"
+    assert str(error).startswith(f"{error.reply}: ")
 
 
 def test_types_of_days_and_amounts(tmp_path: Path) -> None:

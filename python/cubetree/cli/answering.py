@@ -42,10 +42,6 @@ MEANINGS = {
     "long": "a text has at most 255 bytes",
     "block": "a level has at most 67,108,864 bytes",
     "rows": "a level has at most 262,144 rows",
-    "sql syntax": (
-        "something else is due here: a query is SELECT ITEMS FROM facts WHERE TESTS GROUP BY NAMES;"
-        " no ORDER BY, LIMIT, AS or `;`"
-    ),
     "sql table": "there is one table, facts",
     "sql name": "no attribute or measure that can stand here has this name; there are",
     "sql group": "an attribute that is asked for stands in GROUP BY, and stands there once",
@@ -81,8 +77,8 @@ def refusal(tool: str, asked: Asked, text: str, refused: Refused) -> str:
     """A refusal in words, below it the slice with a mark at the byte."""
     schema, levels = asked.schema(), asked.levels()
     said = meaning(schema, levels, refused)
-    if refused.reply == "refused notcovered" and schema:
-        return said + view_hint([] if is_query(text) else attributes_in(text), schema)
+    if refused.reply == "refused notcovered" and schema and not is_query(text):
+        return said + view_hint(attributes_in(text), schema)
     if not refused.byte:
         return said
     line = text.encode("utf-8", "surrogateescape")
@@ -150,6 +146,8 @@ def syntax_hint(front: str, rest: str) -> str:
 
 def meaning(schema: Optional[Schema], levels: list[str], refused: Refused) -> str:
     """A refusal, with what it says, and the names that there are."""
+    if refused.meaning:
+        return str(refused)
     words = refused.reply.split()[1:]
     word = (
         " ".join(words[:2])

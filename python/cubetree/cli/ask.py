@@ -48,9 +48,15 @@ The columns have the names that you ask for. The names of a question may be attr
 that --level gives for this call. Each value of an attribute that a level has no row for gets the
 empty text as its parent.
 
-A question that begins with SELECT, in upper or lower case, is a query in SQL of the table `facts`:
-ask "SELECT part, SUM(qty) FROM facts WHERE year = 1998 GROUP BY part". It may have attributes,
-COUNT(*), SUM, MIN and MAX, and tests by =, <, <=, >, >=, BETWEEN and IN, with AND between them.
+A question that begins with SELECT or WITH, in upper or lower case, is a query in SQL, in the
+language of SQLite:
+
+  cube ask "SELECT part, AVG(qty) AS mean FROM facts GROUP BY part ORDER BY mean DESC LIMIT 3"
+
+Its tables are `facts` and one for each view: the view part,year is the table by_part_year with the
+columns part, year, count, sum_qty, min_qty and max_qty. Single facts are not kept, so a query of
+`facts` has functions of groups, GROUP BY or DISTINCT. Dates are texts such as 2025-03-14, and
+strftime, YEAR, MONTH and DAY take parts of them. A number that SQLite would round is refused.
 Levels do not work in SQL.
 
 If a question is refused, cube prints the reason and the place on standard error, and goes on with

@@ -19,7 +19,7 @@ WORDS = ("count", "by", "where", "and", "help", "quit", "SELECT", "FROM", "facts
 FORMS = """
 A question:  sum(qty),count by part where year=1997..1998 and kind=a
 Columns:     count, sum(m), min(m), max(m), avg(m), and ratios such as sum(m)/count
-In SQL:      SELECT part, SUM(qty) FROM facts WHERE year = 1998 GROUP BY part
+In SQL:      SELECT part, AVG(qty) AS mean FROM facts GROUP BY part ORDER BY mean DESC
 Dates:       by month(day) or year(day), where day=2025-03 or day=2025-03-01..2025-03-14
 `quit` ends; the tab key completes names."""
 Kinds = Callable[[], "dict[str, Kind]"]

@@ -1,14 +1,14 @@
 """What SQLite holds of the values of a warehouse, and back.
 
 Whole numbers are integers, amounts are floating-point numbers, days and months are texts such as
-2025-03-14 and 2025-03. A value that SQLite would round is a Fault.
+2025-03-14 and 2025-03. A value that SQLite would round is an Inexact.
 """
 from __future__ import annotations
 
 from datetime import date
 from typing import Callable, Optional, Union
 
-from ..errors import Fault
+from ..errors import Inexact
 from ..values import Kind, Value
 
 Stored = Union[str, int, float, None]
@@ -46,7 +46,7 @@ def stored_whole(cell: str) -> int:
     number = int(cell)
     if -MOST_WHOLE <= number < MOST_WHOLE:
         return number
-    raise Fault(f"{cell} has more than the 63 bits of a whole number of SQLite")
+    raise Inexact(f"{cell} has more than the 63 bits of a whole number of SQLite")
 
 
 def stored_amount(cell: str, scale: int) -> float:
@@ -54,7 +54,7 @@ def stored_amount(cell: str, scale: int) -> float:
     number = int(cell)
     if abs(number) < MOST_AMOUNT:
         return number / scale
-    raise Fault(f"an amount of {cell} units has more than the 53 bits of a number of SQLite")
+    raise Inexact(f"an amount of {cell} units has more than the 53 bits of a number of SQLite")
 
 
 def value_of(stored: Stored, kind: Optional[Kind]) -> Union[Value, float, None]:
