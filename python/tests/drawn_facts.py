@@ -9,9 +9,8 @@ import csv
 import datetime
 import random
 import sqlite3
-from decimal import Decimal
 from pathlib import Path
-from typing import Any, Callable, Dict, List, NamedTuple, Optional, Sequence, Tuple
+from typing import Any, Callable, Dict, List, NamedTuple, Sequence, Tuple
 
 import cubetree
 from tests.helpers import load
@@ -206,59 +205,3 @@ def converted_pair(folder: Path, seed: int, count: int = 300) -> Pair:
     words += ["--dates", "day,period", "--cents", "fee"]
     load(*words, str(folder / "facts.csv"))
     return Pair(CONVERTED, cubetree.connect(folder / "converted"), base_of(CONVERTED, rows))
-
-
-# ---- answers
-
-
-def plain_value(value: Any) -> Any:
-    """A value as sqlite3 has it."""
-    if isinstance(value, Decimal):
-        return float(value)
-    return value.isoformat() if isinstance(value, datetime.date) else value
-
-
-def plain_values(values: Sequence[Any]) -> List[Any]:
-    """Values as sqlite3 has them."""
-    return [plain_value(value) for value in values]
-
-
-def rounded(value: Any) -> Any:
-    """A value, which counts to nine digits where it is a floating-point number."""
-    value = plain_value(value)
-    return float(f"{value:.9g}") + 0.0 if isinstance(value, float) else value
-
-
-def are_same(one: Any, other: Any) -> bool:
-    """Whether two values are the same, and of one type, to nine digits."""
-    one, other = plain_value(one), plain_value(other)
-    if isinstance(one, float) and isinstance(other, float):
-        return abs(one - other) <= 1e-9 * max(abs(one), abs(other), 1e-3)
-    return type(one) is type(other) and bool(one == other)
-
-
-def same_rows(got: Sequence[Row], wanted: Sequence[Row], is_ordered: bool) -> bool:
-    """Whether two answers have the same rows, in the same order where it is determined."""
-    if len(got) != len(wanted):
-        return False
-    if not is_ordered:
-        got, wanted = in_order(got), in_order(wanted)
-    return all(
-        len(one) == len(other) and all(map(are_same, one, other)) for one, other in zip(got, wanted)
-    )
-
-
-def in_order(rows: Sequence[Row]) -> List[Row]:
-    """The rows in an order of their own."""
-    return sorted(rows, key=lambda row: [repr(rounded(value)) for value in row])
-
-
-def wrong_type(kinds: Sequence[Optional[str]], rows: Sequence[Row]) -> Optional[str]:
-    """What is wrong with the type of a column that is a bare column of amounts or days."""
-    wanted = {"amount": Decimal, "day": datetime.date}
-    for place, kind in enumerate(kinds):
-        due = wanted.get(kind or "")
-        found = {type(row[place]) for row in rows if row[place] is not None}
-        if due and not found <= {due}:
-            return f"column {place + 1} has {found}, and not {due}"
-    return None

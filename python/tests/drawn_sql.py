@@ -9,7 +9,7 @@ import re
 from typing import Any, List, NamedTuple, Optional, Sequence, Tuple
 
 from tests.drawn_facts import Shape
-from tests.drawn_terms import Column, Source, Term, with_parameters
+from tests.drawn_terms import Column, Source, Term, in_brackets, with_parameters
 from tests.drawn_windows import Windows
 
 QUOTED = re.compile(r"('(?:[^']|'')*'|\"[^\"]*\"| )")
@@ -122,12 +122,15 @@ class Queries(Windows):
         name = item.name or item.term.text
         if "OVER" in name or "\ue000" in name or "(" in name:
             return "1"
-        return self.pick([f"LENGTH({name})", f"{name} IS NULL", f"{name} || 'x'", f"-({name})"])
+        name = in_brackets(name)
+        more = [f"-({name})", f"{name} % 3"] if item.term.kind in ("whole", "amount") else []
+        return self.pick([f"LENGTH({name})", f"{name} IS NULL", f"{name} || 'x'", *more])
 
     def directed(self, term: str) -> str:
         """An order with a direction."""
         nulls = self.pick([" NULLS FIRST", " NULLS LAST"]) if self.chance(0.1) else ""
-        return term + self.pick(["", "", " ASC", " DESC", " DESC", " COLLATE BINARY"]) + nulls
+        collation = " COLLATE BINARY" if self.chance(0.1) and in_brackets(term) == term else ""
+        return term + collation + self.pick(["", "", " ASC", " DESC"]) + nulls
 
     # ---- SELECTs
 
@@ -275,7 +278,7 @@ class Queries(Windows):
         """Rows of a source."""
         if self.chance(0.15) and not has_names and not source.columns[0].is_qualified:
             items = [
-                Item(Term(each.name, each.kind, True), each.name, each.values)
+                Item(Term(each.name, each.kind, each.is_own), each.name, each.values)
                 for each in source.columns
             ]
             return Select(f"SELECT * FROM {source.text}{self.where(source, depth)}", items)
@@ -301,17 +304,18 @@ class Queries(Windows):
 
     def one_aggregate(self, source: Source, depth: int) -> Term:
         """An aggregate, or a term of some."""
-        make = self.aggregate if self.chance(0.75) else self.of_aggregates
-        return make(source, min(depth, 2))
+        if self.chance(0.75):
+            return self.aggregate(source, min(depth, 2))
+        return self.of_aggregates(source, min(depth, 2))
 
     def grouped(self, source: Source, depth: int, has_names: bool) -> Select:
         """Groups of a source."""
         keys = self.keys(source)
-        bare = [each for each in source.columns if each.name in {key[1] for key in keys}]
+        bare = [column for _, column in keys if column]
         groups = Source("", bare)
         items = [
-            self.item(term, has_names, values_of(bare, name))
-            for term, name in keys
+            self.item(term, has_names, column.values if column else ())
+            for term, column in keys
             if self.chance(0.85)
         ]
         terms = [self.one_aggregate(source, depth) for _ in range(self.draw.randrange(0, 4))]
@@ -331,13 +335,13 @@ class Queries(Windows):
         text = f"SELECT {word}{listed(items)} FROM {source.text}{where} GROUP BY {group}{having}"
         return Select(text, items)
 
-    def keys(self, source: Source) -> List[Tuple[Term, Optional[str]]]:
-        """What is grouped by, each with the name of the column that it is."""
+    def keys(self, source: Source) -> List[Tuple[Term, Optional[Column]]]:
+        """What is grouped by, each with the column that it is, if it is one."""
         self.has_marks = False
         attributes = [each for each in source.columns if each.kind != "amount"] or source.columns
         bare = self.some(attributes, 1, 3)
-        keys: List[Tuple[Term, Optional[str]]] = [
-            (Term(self.named(column), column.kind, True), column.name) for column in bare
+        keys: List[Tuple[Term, Optional[Column]]] = [
+            (Term(self.named(column), column.kind, column.is_own), column) for column in bare
         ]
         if self.chance(0.35):
             narrow = Source("", [*bare])
@@ -494,14 +498,9 @@ def listed(items: Sequence[Item]) -> str:
 def columns_of(select: Select, names: Sequence[str], table: str) -> List[Column]:
     """The columns of a subquery as a SELECT around it may name them."""
     return [
-        Column(name, item.term.kind, table, False, item.values)
+        Column(name, item.term.kind, table, False, item.values, False)
         for name, item in zip(names, select.items)
     ]
-
-
-def values_of(columns: Sequence[Column], name: Optional[str]) -> Sequence[Any]:
-    """The values of the column of this name."""
-    return next((each.values for each in columns if each.name == name), ())
 
 
 def drawn_query(shape: Shape, draw: random.Random) -> Query:

@@ -171,13 +171,14 @@ LINEAR: Sequence[str] = (
 
 class Column(NamedTuple):
     """A column that may be named: its name, its kind, the name of its table, whether that has to
-    stand before it, and values that it has."""
+    stand before it, values that it has, and whether it is one of the warehouse itself."""
 
     name: str
     kind: str
     table: str
     is_qualified: bool = False
     values: Sequence[Any] = ()
+    is_own: bool = True
 
 
 class Source(NamedTuple):
@@ -314,14 +315,15 @@ class Terms:
         columns = self.columns_of(source, kind)
         possible = [each for each in TERMS.get(kind, ()) if self.can_fill(each, source)]
         if columns and (depth <= 0 or not possible or self.chance(0.6)):
-            return Term(self.named(self.pick(columns)), kind, True)
+            column = self.pick(columns)
+            return Term(self.named(column), kind, column.is_own)
         return Term(self.fill(self.pick(possible), source, min(depth, 2)), kind)
 
     def any_term(self, source: Source, depth: int) -> Term:
         """A term of some kind: mostly a column."""
         column = self.pick(source.columns)
         if self.chance(0.65) or depth <= 0:
-            return Term(self.named(column), column.kind, True)
+            return Term(self.named(column), column.kind, column.is_own)
         kinds = [
             kind
             for kind, templates in TERMS.items()
@@ -379,7 +381,7 @@ class Terms:
         is_bare = bool(re.fullmatch(r"(SUM|MIN|MAX)\(\{amount_measure\}\)", template))
         text = self.fill(template, source, depth)
         if source.columns and not template.startswith(("date", "strf")) and self.chance(0.1):
-            return Term(f"{text} FILTER (WHERE {self.test(source, 1)})", kind)
+            return Term(f"{text} FILTER (WHERE {self.test(source, 0)})", kind)
         return Term(text, kind, is_bare and source.is_facts)
 
     def of_aggregates(self, source: Source, depth: int) -> Term:
