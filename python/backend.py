@@ -13,6 +13,13 @@ from typing import Mapping, Optional
 
 PYTHON = Path(__file__).resolve().parent
 TOP = PYTHON.parent
+ENTRIES = """[console_scripts]
+cube = cubetree.cli.main:main
+
+[sqlalchemy.dialects]
+cubetree = cubetree.sqlalchemy.dialect:CubetreeDialect
+"""
+KINDS = (".py", ".html", ".css", ".js", ".svg")  # of files: modules, and what a page is made of
 EPOCH = (1980, 1, 1, 0, 0, 0)
 Settings = Optional[Mapping[str, object]]
 
@@ -39,6 +46,8 @@ Provides-Extra: pandas
 Requires-Dist: pandas; extra == 'pandas'
 Provides-Extra: shards
 Requires-Dist: distributed; extra == 'shards'
+Provides-Extra: sqlalchemy
+Requires-Dist: sqlalchemy (>=1.4); extra == 'sqlalchemy'
 Provides-Extra: test
 Requires-Dist: pytest; extra == 'test'
 Description-Content-Type: text/markdown
@@ -55,7 +64,7 @@ def sum_of(content: bytes) -> str:
 def modules() -> dict[str, bytes]:
     """The files of the package, by their names in a wheel."""
     found = sorted((PYTHON / "cubetree").rglob("*"))
-    files = [path for path in found if path.suffix == ".py" or path.name == "py.typed"]
+    files = [path for path in found if path.suffix in KINDS or path.name == "py.typed"]
     return {path.relative_to(PYTHON).as_posix(): path.read_bytes() for path in files}
 
 
@@ -67,7 +76,7 @@ def write_wheel(folder: str, files: Mapping[str, bytes]) -> str:
     entries = dict(files)
     entries[f"{info}/METADATA"] = metadata().encode()
     entries[f"{info}/WHEEL"] = wheel.encode()
-    entries[f"{info}/entry_points.txt"] = b"[console_scripts]\ncube = cubetree.cli.main:main\n"
+    entries[f"{info}/entry_points.txt"] = ENTRIES.encode()
     for license in ("LICENSE-APACHE", "LICENSE-MIT"):
         entries[f"{info}/{license}"] = (TOP / license).read_bytes()
     lines = [f"{path},{sum_of(content)},{len(content)}" for path, content in entries.items()]
@@ -81,6 +90,16 @@ def write_wheel(folder: str, files: Mapping[str, bytes]) -> str:
             entry.compress_type = zipfile.ZIP_DEFLATED
             archive.writestr(entry, content)
     return file
+
+
+def write_info(folder: str) -> None:
+    """Writes what a package manager of a system keeps beside the package, by which Python finds its
+    version and entries."""
+    info = Path(folder) / f"cubetree-{version()}.dist-info"
+    info.mkdir()
+    (info / "METADATA").write_text(metadata(), encoding="utf-8")
+    (info / "entry_points.txt").write_text(ENTRIES, encoding="utf-8")
+    (info / "INSTALLER").write_text("dpkg\n", encoding="utf-8")
 
 
 def build_wheel(folder: str, settings: Settings = None, metadata_folder: str | None = None) -> str:

@@ -18,8 +18,10 @@ have a Decimal for an amount, a date for a day and a text such as "2025-03" for 
 have them too, and slices name days, months and years: "sum(fee) by day where day=2025-03". With
 cubetree.open("folder", raw=True) there are whole numbers alone.
 
-A query in SQL gives the same rows: warehouse.sql("SELECT part, SUM(qty) FROM facts GROUP BY part"),
-or cubetree.connect("folder"), which is the interface of databases to Python (PEP 249).
+Queries are in SQL as SQLite has it: warehouse.sql("SELECT part, AVG(qty) AS mean FROM facts GROUP
+BY part ORDER BY mean"), or cubetree.connect("folder"), which is the interface of databases to
+Python (PEP 249). SQLAlchemy has the address cubetree:///folder. All rows of a view come from
+warehouse.view("part,year").
 
 A level gives values of an attribute a parent each, as long as the warehouse is open. After
 warehouse.level("kind", "part", {"bolt": "steel"}) you may ask warehouse.rollup("count by kind").

@@ -116,8 +116,11 @@ class Answer(list[tuple[Value, ...]]):
     """The rows of an answer as tuples, the names of their columns, and whether each has numbers.
 
     A value is a str or an int; in a column of amounts a Decimal, of days a date, and of months a
-    text as 2025-03. The kinds of columns are those of `Kind`, None for a column without one.
+    text as 2025-03. The kinds of columns are those of `Kind`, None for a column without one. Of a
+    query that SQLite has answered, `keys` has the places of the columns that it groups by.
     """
+
+    keys: Optional[frozenset[int]] = None
 
     def __init__(
         self,

@@ -5,12 +5,13 @@
         cursor.execute("SELECT part, SUM(qty) FROM facts WHERE year = ? GROUP BY part", [1997])
         print(cursor.fetchall())
 
-pandas.read_sql takes such a connection. It only reads: a Warehouse loads the facts, and there is
-nothing to commit.
+pandas.read_sql takes such a connection, and SQLAlchemy has an address, `cubetree:///folder`. It
+only reads: a Warehouse loads the facts, and there is nothing to commit. Queries are in SQL as
+SQLite has it, over the tables of cubetree.query.tables.
 
 You pass a str, a number, a date or None for each question mark, in a list or a tuple; a mapping or
-a str is an error. Comments (`-- ..` to the end of the line, and `/* .. */`, which do not nest) and a semicolon
-at the end are left out. A question mark in a comment or in quotes is no parameter.
+a str is an error. Comments (`-- ..` to the end of the line, and `/* .. */`, which do not nest) and
+a semicolon at the end are left out. A question mark in a comment or in quotes is no parameter.
 
 An error has in `query` the text that you executed, comments included. If the parameters fit, they
 stand in it as literals. If the query was refused, `reply` is the refusal in the words of the

@@ -30,6 +30,9 @@ Q   The turnstile before B lets readers in between two batches, and lets no stre
     holds Q, so the writer cannot have Q again before each of them has B. While a writer waits for B
     it holds Q, so no new reader gets in.
 
+The file `progress` beside them is no lock: python/cubetree/progress.py says what a writer tells
+there.
+
 A feed also holds the folder of its spool exclusively for its whole life, before all of these: what
 it has sent is known by the number of the batch, so a folder has one feed.
 
@@ -118,8 +121,8 @@ class Turns:
             timer.cancel()
 
     def say(self) -> None:
-        """Says that the tool waits, once."""
-        if not self.said:
+        """Says that the tool waits, once; a tool without a name says nothing."""
+        if not self.said and self.tool:
             self.said = True
             clear = "\r\x1b[K" if sys.stderr.isatty() else ""
             print(

@@ -3,7 +3,7 @@ from __future__ import annotations
 
 import json
 from decimal import Decimal
-from typing import Callable
+from typing import Callable, Optional
 
 from .codec import Answer, line_writer
 from .sorting import Top
@@ -11,8 +11,10 @@ from .ui import counted, shown
 from .values import Value
 
 
-def cell_of(value: Value) -> str:
-    """A value as it is shown; an amount has all its decimals."""
+def cell_of(value: Optional[Value]) -> str:
+    """A value as it is shown; an amount has all its decimals, and NULL is empty."""
+    if value is None:
+        return ""
     return format(value, "f") if isinstance(value, Decimal) else str(value)
 
 

@@ -11,6 +11,7 @@ import shutil
 import subprocess
 import tempfile
 from decimal import Decimal
+from math import isfinite
 from typing import List, NamedTuple, Sequence, Tuple, Union
 
 from .codec import Answer
@@ -59,7 +60,7 @@ def chart_of(answer: Answer, places: Sequence[int], is_sorted: bool) -> Chart:
     )
     found = []
     for place in places:
-        rows = [row for row in answer if isinstance(row[place], (int, Decimal))]
+        rows = [row for row in answer if is_number(row[place])]
         if not is_ordered and not is_sorted:
             rows.sort(key=lambda row: number(row[place]), reverse=True)
         keys = [" ".join(shown(cell_of(row[each])) or "(empty)" for each in groups) for row in rows]
@@ -73,8 +74,15 @@ def is_ascending(keys: Sequence[Value]) -> bool:
     return sizes == sorted(sizes)
 
 
+def is_number(value: object) -> bool:
+    """Whether a value can be shown."""
+    return isinstance(value, (int, Decimal)) or isinstance(value, float) and isfinite(value)
+
+
 def number(value: object) -> Number:
-    """A value that is a number."""
+    """A value that is a number; a mean of a query is a float."""
+    if isinstance(value, float):
+        return Decimal(repr(value))
     assert isinstance(value, (int, Decimal))
     return value
 

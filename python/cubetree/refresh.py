@@ -13,6 +13,7 @@ from .errors import Fault
 from .format.files import live_body
 from .format.forest import WIDE, Forest
 from .locks import Writer
+from .progress import ProgressFile
 from .schema import Schema
 from .session import Loading
 from .ui import Progress, counted
@@ -61,6 +62,7 @@ class Refresh:
     def __init__(self, turns: Writer, seconds: float) -> None:
         self.folder, self.seconds = turns.folder, seconds
         self.loading = Loading(turns)
+        self.progress = ProgressFile(turns.folder, "cube refresh")
         self.asked, self.steps, self.longest, self.size = 0, 0, 0.0, FIRST_STEP
         self.finishing = False
 
@@ -162,6 +164,7 @@ class Questions:
 
 def show(progress: Progress, refresh: Refresh, questions: Questions) -> None:
     """Shows how far the refresh is."""
+    refresh.progress.tell(refresh.rows, refresh.asked / max(refresh.most, 1))
     if progress.is_due():
         part = (
             f"{refresh.asked:,} moves, {refresh.asked / max(refresh.most, 1):.0%} of at most"

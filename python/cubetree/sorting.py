@@ -4,6 +4,7 @@ from __future__ import annotations
 import re
 from datetime import date
 from decimal import Decimal
+from math import inf
 from typing import NamedTuple, Optional, Sequence, Union
 
 from .codec import Answer
@@ -85,9 +86,11 @@ def sort_by(answer: Answer, place: int, descends: bool) -> None:
     answer.sort(key=lambda row: comparable(row[place]), reverse=descends)
 
 
-def comparable(value: Value) -> tuple[Union[int, Decimal], bytes]:
+def comparable(value: Optional[Value]) -> tuple[Union[int, float, Decimal], bytes]:
     """What a value is compared by: a number or an amount by its size, a date by its number as the
-    program keeps it, such as 20250314, and a text by its bytes."""
+    program keeps it, such as 20250314, and a text by its bytes. NULL comes first."""
+    if value is None:
+        return -inf, b""
     if isinstance(value, str):
         return 0, value.encode("utf-8", "surrogateescape")
     if isinstance(value, date):
@@ -100,6 +103,9 @@ def places_of_numbers(answer: Answer, text: str) -> Sequence[int]:
 
     A slice names them before its first space, and its answer has them after the groups.
     """
+    if answer.keys is not None:
+        numbers = enumerate(answer.numeric)
+        return [place for place, is_number in numbers if is_number and place not in answer.keys]
     if is_query(text):
         return [place for place, column in enumerate(answer.columns) if column.endswith(")")]
     count = len(text.partition(" ")[0].split(","))

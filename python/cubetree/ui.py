@@ -2,6 +2,9 @@
 import io
 import sys
 import time
+from typing import Optional
+
+from .progress import ProgressFile
 
 
 def counted(number: int, word: str, words: str = "") -> str:
@@ -27,10 +30,13 @@ def say_bytes(errors: str) -> None:
 
 
 class Progress:
-    """A line on standard error, where that is a terminal."""
+    """A line on standard error, where that is a terminal; and where a folder is loaded, the file in
+    which others see it, with the batches that were sent."""
 
     def __init__(self) -> None:
         self.began, self.shown, self.last = time.monotonic(), sys.stderr.isatty(), 0.0
+        self.file: Optional[ProgressFile] = None
+        self.batches = 0
 
     def spent(self) -> float:
         """The seconds since the beginning, never 0."""

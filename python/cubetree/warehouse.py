@@ -22,6 +22,8 @@ from .locks import Reader, Writer
 from .query.core import Core
 from .query.front import answered
 from .query.names import missing_view
+from .query.tables import Table, tables_of
+from .query.views import Moment
 from .questions import is_line, question_of, sent
 from .schema import Schema, declared_lines
 from .session import Asking, Loading, Session
@@ -159,6 +161,24 @@ class Warehouse:
         has_rows = records and not last.startswith("refused ")
         return query.answer(session.schema, records, kinds) if has_rows else None
 
+    def view(self, name: str) -> Answer:
+        """All rows of a view, which is called as `part,year`, or `total` where it has no attribute.
+        The columns are the attributes, then `count`, and `sum_qty`, `min_qty` and `max_qty` for
+        each measure `qty`."""
+        with self.moment() as moment:
+            table = moment.views.find(name)
+            answer = moment.answer(table) if table else None
+        if answer is None:
+            raise moment.views.missing(name)
+        return answer
+
+    @contextmanager
+    def moment(self) -> Iterator[Moment]:
+        """The views at one moment between two batches. Writers wait until its end; an exception
+        from within ends the run, and drops a batch that is pending in it."""
+        with self._question() as session:
+            yield Moment(session, self._kinds_in(session))
+
     def level(self, name: str, attribute: str, pairs: Pairs) -> int:
         """Gives values of an attribute a parent each, by a mapping or pairs of both, and gives
         how many. No folder keeps a level: it is there for `rollup` as long as this object is."""
@@ -233,6 +253,13 @@ class Warehouse:
         those that were given to this object."""
         with self._question() as session:
             return self._kinds_in(session)
+
+    @property
+    def tables(self) -> dict[str, Table]:
+        """The tables that SQL finds here by their names; none where no schema is declared."""
+        with self._question() as session:
+            kinds = self._kinds_in(session)
+            return tables_of(session.schema, kinds) if session.schema else {}
 
     def _kinds_in(self, session: Session) -> dict[str, Kind]:
         """The kinds of columns, as a run of the program has them."""

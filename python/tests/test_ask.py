@@ -177,7 +177,10 @@ class Ask(Case):
                 ["--in", "w", "select count(*) from facts where year='x'"],
                 "refused sql value 39: year has numbers",
             ),
-            (["--in", "w", "--explain", "select count(*) from facts"], "NAME=VALUE and ..\n"),
+            (
+                ["--in", "w", "--explain", "select count(*) from facts"],
+                "--explain is for questions, and not for queries in SQL\n",
+            ),
             (["--in", "w", "status"], "refused syntax 1"),
             (["--in", "empty", "count"], "refused no schema: no schema is declared in the folder"),
             (["--in", "nowhere", "count"], "no such folder: nowhere"),

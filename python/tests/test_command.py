@@ -30,15 +30,23 @@ OPTIONS = {
         " --batch --number --from-row --go-on"
     ),
     "ask": f"--folder {FORMS} --cents --raw --level --explain --plot --picture --no-wait",
+    "explore": "--folder --port --no-browser",
     "feed": "--folder --rows --bytes --every --spool --refused --report --no-wait",
     "refresh": "--folder --step --pause --no-wait",
     "audit": "--folder --quiet --no-wait",
     "undo": "--folder --yes --dry-run --no-wait",
     "copy": "--no-wait",
+    "export": "--csv --no-wait",
     "shards": f"--shards --local --count --number --batch --delimiter {FORMS} --patience --no-wait",
     "tour": "",
 }
-NEEDED = {"load": ["f"], "refresh": ["f"], "copy": ["w", "new"], "shards": ["ask", "--local", "w"]}
+NEEDED = {
+    "load": ["f"],
+    "refresh": ["f"],
+    "copy": ["w", "new"],
+    "export": ["w", "w.db"],
+    "shards": ["ask", "--local", "w"],
+}
 
 
 @pytest.fixture(name="room", autouse=True)
@@ -112,7 +120,7 @@ def test_width(width: int) -> None:
 @pytest.mark.parametrize(
     "words, said",
     [
-        (["nope"], "cube: error: no command `nope`; there are load, ask, feed, refresh, audit, "),
+        (["nope"], "cube: error: no command `nope`; there are load, ask, explore, feed, refresh, "),
         (["nope", "-h"], "cube: error: no command `nope`; "),
         (["Ask", "count"], "cube: error: no command `Ask`; "),
         (["--nope"], "cube: error: unrecognized arguments: --nope"),
@@ -194,7 +202,7 @@ def former(name: str, *words: str, status: int = 0, given: bytes = b"") -> Tuple
 def test_former_names() -> None:
     """Each stands for a command, and has its help."""
     assert FORMER["load-csv"] == "load" and FORMER["refresh-slowly"] == "refresh"
-    assert set(FORMER.values()) == set(COMMANDS) - {"copy"}
+    assert set(FORMER.values()) == set(COMMANDS) - {"copy", "explore", "export"}
     for name, command in FORMER.items():
         assert former(name, "-h") == (helped(command), "")
         assert f"cube {command}: error: " in former(name, "--never", status=2)[1]

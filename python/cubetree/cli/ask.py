@@ -158,9 +158,9 @@ def lines_of(
     """What makes the lines of the answer to a question."""
     written = FORMS[options.form]
     if options.explain and options.form == "table":
-        return lambda text: plan(warehouse.visits(text))
+        return lambda text: plan(visits_of(warehouse, text))
     if options.explain:
-        return lambda text: written(plan_row(warehouse.visits(text)))
+        return lambda text: written(plan_row(visits_of(warehouse, text)))
     rows = warehouse.rollup if warehouse.levels else warehouse.slice
 
     def rows_of(text: str) -> list[str]:
@@ -174,6 +174,13 @@ def lines_of(
         return chart_lines(chart) if options.plot else []
 
     return rows_of
+
+
+def visits_of(warehouse: Warehouse, text: str) -> Visits:
+    """What a question reads."""
+    if is_query(text):
+        raise Fault("--explain is for questions, and not for queries in SQL")
+    return warehouse.visits(text)
 
 
 def expect_measures(warehouse: Warehouse, names: list[str]) -> None:

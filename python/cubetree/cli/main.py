@@ -13,11 +13,13 @@ from .command import Command, HelpFormatter, parser_of, version
 COMMANDS = {
     "load": "load csv files into a folder, each row once",
     "ask": "ask for sums, counts, means and extremes by group",
+    "explore": "look at a folder in a browser",
     "feed": "take rows as they come, for months",
     "refresh": "take a batch in by short steps, and answer questions meanwhile",
     "audit": "read all pages of a folder, and say whether they are sound",
     "undo": "take the last batch back",
     "copy": "copy a folder, also while it is loaded",
+    "export": "write views as tables of an SQLite file, or as csv",
     "shards": "spread facts over folders and machines, and ask them as one",
     "tour": "run the commands of the tour, and show where the output differs",
 }

@@ -89,6 +89,9 @@ def run(options: argparse.Namespace) -> int:
         left = refresh.left_behind() if refresh else "nothing was done"
         print(f"cube refresh: stopped; {left}", file=sys.stderr)
         return Status.FAILED
+    finally:
+        if refresh:
+            refresh.progress.end()
     return Status.DONE
 
 

@@ -13,6 +13,7 @@ from ..columns import Columns, in_words, is_possible, kept_columns
 from ..design.proposals import Asked, Proposal, Told, proposal, questions_in
 from ..errors import Changed, Doubtful, Fault
 from ..locks import Writer
+from ..progress import ProgressFile
 from ..questions import ranges_of_texts
 from ..schema import Schema
 from ..ui import Progress, counted
@@ -190,7 +191,7 @@ def load_files(
 ) -> None:
     """Loads files into a folder, one after the other, and says how many rows of each."""
     load = Load(Writer("cube load", folder, waits))
-    number = options.number
+    number, progress.file = options.number, ProgressFile(folder, "cube load")
     try:
         for path in paths:
             done = load_file(load, path, number, options, progress)
@@ -207,6 +208,7 @@ def load_files(
         name = f"{path}: " if len(paths) > 1 else ""
         raise kind(name + load.ended_by(fault)) from fault
     finally:
+        progress.file.end()
         load.close()
 
 
@@ -257,6 +259,7 @@ def load_file(
     source = noted_source(record, start, source)
     for batch in batches(rows, options.batch or usual_batch(path, table, rows)):
         load.send(batch, record, source, batch.first == start.first)
+        progress.batches += 1
     load.take_reply()
     say_missing(table)
     last = start.expected[-1].number if start.expected else 0
@@ -327,6 +330,8 @@ def shown(
     """Pieces of a table, as the progress of the load is shown. One with bytes that are not UTF-8
     is a fault, unless the user is sure."""
     for piece in found:
+        if progress.file:
+            progress.file.tell(table.row, table.part() or None, progress.batches)
         if progress.is_due():
             part, spent = table.part(), progress.spent()
             left = f", {part:.0%}, {spent / part - spent:,.0f} s left" if part else ""

@@ -11,6 +11,7 @@ from ..columns import kept_columns
 from ..conversions import Conversion
 from ..errors import Fault, Full, Refused
 from ..locks import Writer
+from ..progress import ProgressFile
 from ..session import Loading
 from ..ui import counted
 from .limits import rows_over
@@ -30,6 +31,7 @@ class Sender:
         self.folder, self.spool, self.refused, self.waits = folder, spool, refused, waits
         self.loading: Optional[Loading] = None
         self.sent, self.batches, self.put_aside, self.facts, self.used = 0, 0, 0, 0, 0.0
+        self.progress = ProgressFile(folder, "cube feed")
         self.begin()
 
     # ---- runs
@@ -57,12 +59,14 @@ class Sender:
             or self.loading.age() > LONGEST_RUN
         ):
             loading, self.loading = self.loading, None
+            self.progress.end()
             loading.end()
             time.sleep(0 if is_over else GAP)
 
     def drop(self) -> None:
         """Ends a run that need not end well."""
         if self.loading:
+            self.progress.end()
             self.loading.drop()
 
     # ---- batches
@@ -70,6 +74,7 @@ class Sender:
     def send(self, batch: Batch) -> None:
         """Sends a batch until it is acknowledged."""
         loading = self.begin()
+        self.progress.tell(self.sent + len(batch.rows), None, self.batches)
         if self.owner != self.spool.owner:
             raise Fault(f"the folder {self.folder} was begun anew since the feed began")
         self.set_number(batch)

@@ -17,6 +17,7 @@ from .syntax import (
     In,
     Inner,
     Item,
+    Literal,
     Made,
     Name,
     Node,
@@ -32,6 +33,7 @@ from .tables import Table
 from .tokens import refuse
 
 Named = Mapping[str, list[Output]]
+MOST_TABLES = 64  # as SQLite has it for one FROM
 MEASURED = ("SUM", "MIN", "MAX")
 
 
@@ -45,10 +47,12 @@ class Analysis:
 
     def query(self, query: Query, parent: Optional[Scope] = None, named: Named = {}) -> None:
         """Analyses a query, whose columns stand in `outputs` then."""
-        known = dict(named)
-        for name, columns, inner in query.named:
-            self.query(inner, parent, known)
-            known[name.lower()] = renamed(inner.outputs, columns)
+        known = named
+        if query.named:
+            known = own = dict(named)
+            for name, columns, inner in query.named:
+                self.query(inner, parent, own)
+                own[name.lower()] = renamed(inner.outputs, columns)
         is_one = len(query.selects) == 1
         found = [
             self.select(select, query.order if is_one else [], parent, known)
@@ -73,6 +77,8 @@ class Analysis:
         if len(scope.seen) > 1 and any(is_facts(seen) for seen in scope.seen):
             hint = "facts cannot be joined: join tables of views, such as by_part"
             refuse("table", self.text, select.sources[1].place, hint)
+        for source in select.sources:
+            self.take_joined(source, scope)
         self.spread(scope)
         for term in order:
             if isinstance(term.item, Name) and scope.alias(term.item) is not None:
@@ -102,16 +108,25 @@ class Analysis:
             refuse(
                 "table", self.text, source.place, f"no table has the name {source.table}; {there}"
             )
+        if len(self.cores) == MOST_TABLES:
+            refuse("table", self.text, source.place, f"more than {MOST_TABLES} tables")
         core = Core(len(self.cores), table)
         self.cores.append(core)
         source.table, source.alias = core.name, alias
         for column in table.attributes if not table.is_facts else ():
             core.group(column.name)
-        measures = [column.name for column in table.values] if table.is_facts else []
-        outputs = [
-            Output(column.name, column.kind, column.name in measures) for column in table.columns()
-        ]
-        return Seen(alias, outputs, core)
+        own = [Output(column.name, column.kind, is_key=True) for column in table.attributes]
+        values = [Output(column.name, column.kind, table.is_facts) for column in table.values]
+        return Seen(alias, own + values, core)
+
+    def take_joined(self, source: Source, scope: Scope) -> None:
+        """Takes the columns of views by which a table is joined without naming its column."""
+        is_natural = "NATURAL" in source.joined
+        names = {name.lower() for name in source.using}
+        for seen in scope.seen if names or is_natural else ():
+            for output in seen.outputs:
+                if seen.core and (is_natural or output.name.lower() in names):
+                    seen.core.take(output.name)
 
     def spread(self, scope: Scope) -> None:
         """Puts the columns in place of each `*` of SELECT."""
@@ -133,7 +148,8 @@ class Analysis:
         if not wanted:
             refuse("syntax", self.text, star.begin, "no table stands for this `*`")
         if is_facts(wanted[0][0]):
-            scope.refuse_single(star.begin, "this asks for a row of each fact")
+            hint = "name attributes and group by them, or ask for all columns of a view"
+            scope.refuse_single(star.begin, "this asks for a row of each fact", hint)
         found: list[Item] = []
         for seen, source in wanted:
             joined = {name.lower() for name in source.using} if star.table is None else set()
@@ -211,7 +227,15 @@ class Analysis:
             as_written = self.text[node.begin : node.end]
             item.alias = node.name if isinstance(node, Name) else as_written
         item.column = column_of(node, scope)
-        return Output(item.alias, kind_of(node, scope))
+        column = scope.find(node) if isinstance(node, Name) else None
+        is_key = column.output.is_key if column else self.is_grouped(item, scope.select)
+        return Output(item.alias, kind_of(node, scope), is_key=is_key)
+
+    def is_grouped(self, item: Item, select: Select) -> bool:
+        """Whether a SELECT groups by one of its items: by its text, its name or its number."""
+        number = str(select.items.index(item) + 1)
+        forms = (item.item, Name(None, item.alias or ""), Literal(number, "whole"))
+        return any(node in forms for node in select.groups)
 
     def rewrite(self, scope: Scope, order: list[Term]) -> None:
         """Lets the program make the tests that it can, and rewrites what is asked of facts."""

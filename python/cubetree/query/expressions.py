@@ -39,6 +39,8 @@ NOT = AND + 0.5  # NOT binds less than a comparison.
 TESTS = ("BETWEEN", "IN", "LIKE", "GLOB", "ISNULL", "NOTNULL", "NOT")
 CONSTANTS = ("NULL", "TRUE", "FALSE", "CURRENT_DATE", "CURRENT_TIME", "CURRENT_TIMESTAMP")
 MOST_NESTED = 60
+MOST_ITEMS = 2_000  # columns of a SELECT, and terms of its order, as SQLite has it
+MOST_TERMS = 500  # of one expression; SQLite nests them, and has a limit of 1,000
 RESERVED = set(
     "SELECT FROM WHERE GROUP HAVING ORDER LIMIT OFFSET UNION EXCEPT INTERSECT AS ON USING JOIN"
     " INNER LEFT RIGHT FULL OUTER CROSS NATURAL AND OR NOT IN IS LIKE GLOB BETWEEN CASE WHEN THEN"
@@ -105,9 +107,12 @@ class Expressions:
     def nest(self) -> None:
         """Counts a level of nesting; the query is refused if there are too many."""
         self.nested += 1
-        if self.nested > MOST_NESTED:
-            place, most = self.token.begin, f"more than {MOST_NESTED} levels of nesting"
-            refuse("syntax", self.text, place, most)
+        self.expect_few(self.nested, MOST_NESTED, "levels of nesting")
+
+    def expect_few(self, count: int, most: int, what: str) -> None:
+        """Refuses the query if there are more than so many."""
+        if count > most:
+            refuse("syntax", self.text, self.token.begin, f"more than {most:,} {what}")
 
     def ended(self, node: Node, begin: int) -> Node:
         """A part of the query that begins at this place and ends here."""
@@ -120,8 +125,10 @@ class Expressions:
         """An expression whose signs have at least this level."""
         self.nest()
         begin = self.token.begin
-        left = self.operand()
+        left, tests = self.operand(), 0
         while (level := self.level_here()) is not None and level >= least:
+            tests += self.token.word in TESTS
+            self.expect_few(tests, MOST_NESTED, "tests in a row")
             left = self.ended(self.continued(left, level), begin)
         self.nested -= 1
         return left
@@ -144,6 +151,8 @@ class Expressions:
             sign += " DISTINCT FROM" if self.take("DISTINCT", "FROM") else ""
         right = self.expression(level + 1)
         if isinstance(left, Chain) and left.level == level and not left.is_closed:
+            if level not in (OR, AND, JOINED):
+                self.expect_few(len(left.items), MOST_TERMS, "terms in a row")
             left.items.append(right)
             left.signs.append(sign)
             return left
@@ -187,8 +196,8 @@ class Expressions:
             self.at += 1
             return self.ended(Prefix(word, self.expression(JOINED + 1)), begin)
         item = self.value()
-        while self.take("COLLATE"):
-            item = self.ended(Cast(item, "COLLATE", self.name()), begin)
+        if self.take("COLLATE"):
+            return self.ended(Cast(item, "COLLATE", self.name()), begin)
         return item
 
     def value(self) -> Node:
@@ -306,7 +315,9 @@ class Expressions:
 
     def order(self) -> list[Term]:
         """The terms behind ORDER BY."""
-        return list(self.terms())
+        found = list(self.terms())
+        self.expect_few(len(found), MOST_ITEMS, "terms of ORDER BY")
+        return found
 
     def terms(self) -> Iterator[Term]:
         """Each term of ORDER BY."""

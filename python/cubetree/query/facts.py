@@ -29,6 +29,7 @@ from .syntax import (
     Term,
     walk,
 )
+from .tokens import refuse
 
 AGGREGATES = ("COUNT", "SUM", "TOTAL", "AVG", "MIN", "MAX")
 OF_SINGLE = ("GROUP_CONCAT", "STRING_AGG", "JSON_GROUP_ARRAY", "JSON_GROUP_OBJECT")
@@ -73,7 +74,8 @@ class Facts:
         """Refuses a SELECT that would have a row for each fact."""
         windows = any(isinstance(each, Call) and each.over for node in outer for each in walk(node))
         if not select.is_distinct or windows:
-            self.scope.refuse_single(outer[0].begin, "this asks for a row of each fact")
+            hint = "group by attributes, or ask for SUM and the like"
+            self.scope.refuse_single(outer[0].begin, "this asks for a row of each fact", hint)
 
     def keys(self, select: Select) -> Iterator[Node]:
         """What a SELECT groups by, where a number or a name stands for one of its items."""
@@ -93,7 +95,7 @@ class Facts:
             return
         output = self.scope.own(node)
         if output and not output.is_measure:
-            self.scope.refuse_single(node.begin, f"{output.name} is not in GROUP BY")
+            refuse("group", self.scope.text, node.begin, f"{output.name} is not in GROUP BY")
         for part in node.parts():
             self.expect_grouped(part, keys)
 
@@ -105,8 +107,8 @@ class Facts:
             return self.aggregated(node)
         output = self.scope.own(node)
         if output and output.is_measure:
-            asked = f"ask for SUM({output.name}), MIN, MAX, AVG or COUNT(*)"
-            self.scope.refuse_single(node.begin, f"{output.name} is a measure: {asked}")
+            hint = f"ask for SUM({output.name}), MIN, MAX, AVG or COUNT(*)"
+            self.scope.refuse_single(node.begin, f"{output.name} is a measure", hint)
         if output:
             self.core.group(output.name)
         return node.replace(self.rewrite)

@@ -62,10 +62,16 @@ def answer_of(query: Query, rows: list[tuple[Any, ...]]) -> Answer:
     names = [output.name for output in query.outputs]
     numeric = [is_numeric([row[place] for row in rows]) for place in range(len(names))]
     answer = Answer(names, numeric, (), kinds)
+    answer.keys = keys_of(query)
     if any(kinds):
         rows = [tuple(value_of(cell, kind) for cell, kind in zip(row, kinds)) for row in rows]
     answer.extend(rows)
     return answer
+
+
+def keys_of(query: Query) -> frozenset[int]:
+    """The places of the columns that rows are grouped by."""
+    return frozenset(place for place, output in enumerate(query.outputs) if output.is_key)
 
 
 def is_numeric(cells: list[Any]) -> bool:
@@ -112,6 +118,7 @@ class Direct:
             (),
             [each.kind for each in own],
         )
+        answer.keys = keys_of(self.query)
         chosen = [places[item.column or ""] for item in self.items]
         reads = [reader_of(each.is_number, each.kind) for each in own]
         rows = self.cut(self.sorted(records, chosen))

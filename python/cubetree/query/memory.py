@@ -5,10 +5,10 @@ import datetime
 import re
 import sqlite3
 from contextlib import closing
-from typing import Any, Iterable, Optional, Sequence, Union
+from typing import Any, Iterable, Iterator, Optional, Sequence, Union
 
 from ..errors import Fault, Inexact, Refused
-from .core import Core
+from .core import Asked, Core
 from .expressions import MOST_NESTED
 from .printer import EXACT, quoted
 from .stored import MOST_AMOUNT, MOST_WHOLE, Stored, storer, type_of_column
@@ -19,6 +19,7 @@ STEPS = 200_000  # of SQLite between two looks at whether the query was stopped
 MONTH = re.compile(r"\d{4}-\d{2}", re.ASCII)
 DAY = re.compile(r"\d{4}-\d{2}-\d{2}", re.ASCII)
 MOST_PLACES = 18
+SHORT = 18  # characters of a whole number that surely has at most 63 bits
 
 
 class Memory:
@@ -75,7 +76,7 @@ class Memory:
 
         return Sum
 
-    def fill(self, core: Core, records: Iterable[Sequence[str]]) -> None:
+    def fill(self, core: Core, records: Sequence[Sequence[str]]) -> None:
         """Makes the table of what the program has answered."""
         columns = core.columns()
         types = [
@@ -83,8 +84,7 @@ class Memory:
             for name, each in columns.items()
         ]
         self.database.execute(f"CREATE TABLE {core.name} ({', '.join(types)})")
-        stores = [storer(each.is_number, each.kind) for each in columns.values()]
-        rows = [[store(cell) for store, cell in zip(stores, record)] for record in records]
+        rows = list(stored_rows(list(columns.values()), records))
         marks = ", ".join("?" * len(columns))
         self.database.execute("BEGIN")
         try:
@@ -108,7 +108,26 @@ class Memory:
             with closing(self.database.execute(text)) as cursor:
                 return cursor.fetchall()
         except (sqlite3.Error, sqlite3.Warning, ValueError, OverflowError) as error:
+            if str(error) == "interrupted":  # A signal came while SQLite was at work.
+                raise KeyboardInterrupt from error
             raise self.fault or fault_of(str(error)) from error
+
+
+def stored_rows(
+    columns: Sequence[Asked], records: Sequence[Sequence[str]]
+) -> Iterator[tuple[Stored, ...]]:
+    """Rows of the program as SQLite holds them. A column is taken at once."""
+    cells = zip(*records)
+    return zip(*(stored_column(column, own) for column, own in zip(columns, cells)))
+
+
+def stored_column(column: Asked, cells: Sequence[str]) -> Iterable[Stored]:
+    """The cells of a column as SQLite holds them."""
+    if not column.is_number:
+        return cells
+    if column.kind is None and max(map(len, cells)) <= SHORT:
+        return map(int, cells)
+    return map(storer(True, column.kind), cells)
 
 
 def fault_of(said: str) -> Fault:

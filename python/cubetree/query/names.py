@@ -16,12 +16,13 @@ MOST_NAMED = 40  # names in a message
 
 
 class Output(NamedTuple):
-    """A column of a table or a query: its name, its kind, and whether it is a measure of `facts`,
-    which cannot be asked for by itself."""
+    """A column of a table or a query: its name, its kind, whether it is a measure of `facts`, which
+    cannot be asked for by itself, and whether rows are grouped by it."""
 
     name: str
     kind: Optional[Kind]
     is_measure: bool = False
+    is_key: bool = False
 
 
 class Seen:
@@ -108,9 +109,10 @@ class Scope:
         has = f"; there are {', '.join(unique)}" if unique else ""
         refuse("name", self.text, node.begin, f"no column has the name {named}{node.name}{has}")
 
-    def refuse_single(self, place: int, what: str) -> None:
-        """Refuses what would need single facts."""
-        refuse("group", self.text, place, f"{what}, and single facts are not kept")
+    def refuse_single(self, place: int, what: str, hint: str = "") -> None:
+        """Refuses what would need single facts, perhaps with what helps."""
+        more = f": {hint}" if hint else ""
+        refuse("group", self.text, place, f"{what}, and single facts are not kept{more}")
 
 
 def missing_view(core: Core, schema: Schema) -> Refused:

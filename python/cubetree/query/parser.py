@@ -3,11 +3,12 @@ from __future__ import annotations
 
 from typing import Optional
 
-from .expressions import RESERVED, Expressions
+from .expressions import MOST_ITEMS, RESERVED, Expressions
 from .syntax import Item, Node, Query, Select, Source
 from .tokens import name_of, refuse
 
 UNIONS = ("UNION", "EXCEPT", "INTERSECT")
+MOST_NAMED = 500  # queries of WITH
 JOINS = ("NATURAL", "LEFT", "RIGHT", "FULL", "OUTER", "INNER", "CROSS")
 
 
@@ -44,6 +45,7 @@ class Parser(Expressions):
         found = [self.one_named()]
         while self.take(","):
             found.append(self.one_named())
+            self.expect_few(len(found), MOST_NAMED, "queries behind WITH")
         return found
 
     def one_named(self) -> tuple[str, list[str], Query]:
@@ -86,12 +88,14 @@ class Parser(Expressions):
         found.items = [self.item()]
         while self.take(","):
             found.items.append(self.item())
+            self.expect_few(len(found.items), MOST_ITEMS, "columns")
         if self.take("FROM"):
             found.sources = self.sources()
         if self.take("WHERE"):
             found.where = self.expression()
         if self.take("GROUP", "BY"):
             found.groups = self.list_of(self.expression)
+            self.expect_few(len(found.groups), MOST_ITEMS, "terms of GROUP BY")
         if self.take("HAVING"):
             found.having = self.expression()
         return found

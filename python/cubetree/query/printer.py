@@ -5,7 +5,7 @@ from functools import singledispatch
 from typing import Optional
 
 from ..errors import Inexact
-from .expressions import PRODUCT, SUM
+from .expressions import AND, JOINED, LEVELS, OR, PRODUCT, SUM
 from .stored import MOST_WHOLE
 from .syntax import (
     Call,
@@ -80,6 +80,8 @@ def _(node: Prefix) -> str:
 
 @written.register
 def _(node: Chain) -> str:
+    if node.level in (OR, AND, JOINED):
+        return balanced(list(map(written, node.items)), f" {LEVELS[node.level][0]} ")
     if node.level not in (SUM, PRODUCT):
         parts = [written(node.items[0])]
         for sign, item in zip(node.signs, node.items[1:]):
@@ -91,6 +93,14 @@ def _(node: Chain) -> str:
         if sign in "+-*" and not (isinstance(item, Literal) and item.kind == "real"):
             text = EXACT + text
     return text
+
+
+def balanced(parts: list[str], sign: str) -> str:
+    """Parts with an associative sign between them, of which many do not nest deeply."""
+    while len(parts) > 1:
+        pairs = [f"({one}{sign}{other})" for one, other in zip(parts[::2], parts[1::2])]
+        parts = pairs + parts[2 * len(pairs) :]
+    return parts[0]
 
 
 @written.register

@@ -13,7 +13,7 @@ from ..values import Kind, Value
 
 Stored = Union[str, int, float, None]
 MOST_WHOLE = 1 << 63  # in magnitude
-MOST_AMOUNT = 1 << 53  # In units of the last decimal: a double has 53 bits.
+MOST_AMOUNT = 10**15  # In units of the last decimal: a double tells decimals of 15 digits apart.
 
 
 def type_of_column(is_number: bool, kind: Optional[Kind]) -> str:
@@ -54,7 +54,7 @@ def stored_amount(cell: str, scale: int) -> float:
     number = int(cell)
     if abs(number) < MOST_AMOUNT:
         return number / scale
-    raise Inexact(f"an amount of {cell} units has more than the 53 bits of a number of SQLite")
+    raise Inexact(f"an amount of {cell} units has more than the 15 digits of a number of SQLite")
 
 
 def value_of(stored: Stored, kind: Optional[Kind]) -> Union[Value, float, None]:

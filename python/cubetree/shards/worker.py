@@ -22,6 +22,7 @@ from ..batches import SHARD, Noted, Record, sum_of, sync_folder
 from ..codec import MARK
 from ..errors import Busy, Damaged, Ended, Fault, Refused, told
 from ..locks import Reader, Writer
+from ..progress import ProgressFile
 from ..questions import sent
 from ..schema import Schema, declared_lines, kept_lines
 from ..session import GREATEST, Asking, Loading
@@ -241,7 +242,7 @@ def take_in(
     trouble = trouble_of(folder, place, count)
     if trouble:
         return trouble
-    loading = Loading(Writer(TOOL, folder, waits))
+    loading, progress = Loading(Writer(TOOL, folder, waits)), ProgressFile(folder, TOOL)
     try:
         facts, due = int(loading.status.split()[1]), loading.due()
         if number > due:
@@ -255,6 +256,7 @@ def take_in(
                 else Trouble(CHANGED, f"batch {number} was loaded with other rows")
             )
         record.note(Noted(number, facts, amount, found, 0, SHARD))
+        progress.tell(amount)
         # A byte order mark at the front of a block would be dropped, but for an empty line before
         # it, which is no row.
         reply = loading.exchange(
@@ -265,6 +267,7 @@ def take_in(
         loading.run.end()
         return Taken(False, False, int(reply.split()[1]))
     finally:
+        progress.end()
         loading.drop()
 
 

@@ -1,0 +1,1 @@
+"""The suite of tests that SQLAlchemy has for dialects."""
