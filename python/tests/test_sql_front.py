@@ -3,7 +3,6 @@ does with the rows, what is exact, and what is refused. The answers are worked o
 from __future__ import annotations
 
 import datetime
-import os
 import signal
 import subprocess
 import sys
@@ -11,13 +10,17 @@ import time
 from decimal import Decimal
 from pathlib import Path
 from typing import Any, Iterator, List
+from unittest import mock
 
 import pytest
 
 import cubetree
 from cubetree.columns import Columns
+from cubetree.query.core import Core
 from cubetree.query.memory import Memory
+from cubetree.session import Session
 from cubetree.values import Kind
+from cubetree.warehouse import records_of
 from tests.helpers import CUBE
 
 SCHEMA = """attr part text
@@ -70,6 +73,7 @@ def refused(warehouse: cubetree.Warehouse, text: str) -> cubetree.Refused:
     [
         # The constant may stand first, and a name in upper case.
         ("select count(*) from facts where 1998 > year", [(2,)]),
+        ("select count(*) from facts where 1997 < year", [(1,)]),
         ("select PART, SUM(QTY) from FACTS group by Part order by 2", [("nut", -2), ("bolt", 9)]),
         ("select sum(qty) as S from facts group by part order by s desc", [(9,), (-2,)]),
         (
@@ -127,6 +131,10 @@ def refused(warehouse: cubetree.Warehouse, text: str) -> cubetree.Refused:
             [("nut", 1), ("bolt", 2)],
         ),
         (
+            "select 5 between 0 < 1 and 9, sum(sum_fee) = 0.58 from by_part_year where year = 1997",
+            [(1, 1)],
+        ),
+        (
             "select not 1 = 2, 5 between 0 and 9 < 3, -2 - -3, 7 - 4 - 2, 2 || 3 * 2",
             [(1, 0, 1, 1, 46)],
         ),
@@ -156,6 +164,53 @@ def test_amounts(warehouse: cubetree.Warehouse) -> None:
     found = warehouse.sql("select sum(case when part = 'nut' then 0 else fee end) from facts")
     assert found == [(Decimal("0.86"),)]
     assert str(warehouse.sql("select sum(sum_fee) from by_part")[0][0]) == "0.87"
+
+
+@pytest.mark.parametrize(
+    "text, commands",
+    [
+        (
+            "select year from by_part_year where 'nut' = part and year in (1997, 1998)",
+            [
+                "sql SELECT part, year, COUNT(*) FROM facts WHERE part = 'nut' AND year IN (1997,"
+                " 1998) GROUP BY part,year"
+            ],
+        ),
+        (
+            "select avg(qty) from facts where day between '2025-03-01' and date('2025-03-31')",
+            ["sql SELECT SUM(qty), COUNT(*) FROM facts WHERE day BETWEEN 20250301 AND 20250331"],
+        ),
+        (
+            "select part from by_part where count > (select min(count) from by_year)",
+            ["slice count by part", "slice count by year"],
+        ),
+        (
+            (
+                "select count(*) from by_year a where"
+                " (select count(*) from by_part_year b where a.year = 1997) = 3"
+            ),
+            ["slice count by year", "slice count by part,year"],
+        ),
+        (
+            "select sum(fee) from facts where part <> 'nut' or year = 1",
+            ["slice sum(fee) by part,year"],
+        ),
+    ],
+)
+def test_what_the_program_is_asked(
+    warehouse: cubetree.Warehouse, text: str, commands: List[str]
+) -> None:
+    """It is asked for groups and tests, and for no more columns than the query needs."""
+    asked: List[str] = []
+
+    def noted(session: Session, core: Core) -> List[List[str]]:
+        """Notes what is asked."""
+        asked.append(core.command())
+        return records_of(session, core)
+
+    with mock.patch("cubetree.warehouse.records_of", noted):
+        warehouse.sql(text)
+    assert asked == commands
 
 
 def test_keys(warehouse: cubetree.Warehouse) -> None:

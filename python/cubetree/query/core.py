@@ -1,7 +1,9 @@
 """What the program is asked for a table of a query: its rows by group, that meet some tests."""
 from __future__ import annotations
 
+import re
 from dataclasses import dataclass, field
+from functools import cached_property
 from typing import NamedTuple, Optional
 
 from ..values import Kind
@@ -38,6 +40,12 @@ class Core:
         """The name of its rows in SQLite."""
         return f"core{self.number}"
 
+    @cached_property
+    def takes_tests(self) -> bool:
+        """Whether no name is a word of SQL, so that the program takes a query with tests."""
+        asked = " ".join(column.asked for column in self.table.columns())
+        return WORDS.isdisjoint(re.findall(r"\w+(?!\w*\()", asked.upper()))
+
     def group(self, name: str) -> None:
         """Groups by an attribute."""
         for column in self.table.attributes:
@@ -64,8 +72,7 @@ class Core:
     def test(self, attribute: str, text: str) -> bool:
         """Adds a test of an attribute, and tells whether there was room for it."""
         size = len(text.encode("utf-8", "surrogateescape")) + len(" AND ")
-        names = (column.name.upper() for column in self.table.columns())
-        if self.used + size > MOST_OF_TESTS or not WORDS.isdisjoint(names):
+        if self.used + size > MOST_OF_TESTS or not self.takes_tests:
             return False
         self.used += size
         self.tests.append(text)

@@ -9,7 +9,6 @@ from typing import Any, Iterable, Iterator, Optional, Sequence, Union
 
 from ..errors import Fault, Inexact, Refused
 from .core import Asked, Core
-from .expressions import MOST_NESTED
 from .printer import EXACT, quoted
 from .stored import MOST_AMOUNT, MOST_WHOLE, Stored, storer, type_of_column
 

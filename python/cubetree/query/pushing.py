@@ -10,7 +10,7 @@ from .core import Core
 from .expressions import COMPARED, EQUAL
 from .names import Scope
 from .stored import is_date
-from .syntax import Call, Chain, In, Inner, Literal, Name, Node, Prefix, Query, Star, Test, walk
+from .syntax import Call, Chain, In, Inner, Name, Node, Query, Star, Test, walk
 from .tables import Column
 from .tokens import refuse
 
