@@ -35,7 +35,7 @@ view year
 view
 """
 FACTS = [
-    ("bolt", 1997, 20250314, 5, 57),
+    ("bolt", 1997, 20250314, 5, 14),
     ("nut", 1997, 20250314, -2, 1),
     ("bolt", 1998, 20250401, 4, 29),
 ]
@@ -131,7 +131,7 @@ def refused(warehouse: cubetree.Warehouse, text: str) -> cubetree.Refused:
             [("nut", 1), ("bolt", 2)],
         ),
         (
-            "select 5 between 0 < 1 and 9, sum(sum_fee) = 0.58 from by_part_year where year = 1997",
+            "select 5 between 0 < 1 and 9, sum(sum_fee) = 0.15 from by_part_year where year = 1997",
             [(1, 1)],
         ),
         (
@@ -145,7 +145,7 @@ def refused(warehouse: cubetree.Warehouse, text: str) -> cubetree.Refused:
             [("2025-04-01",)],
         ),
         ("select max(day) from facts union all select 'x'", [("2025-04-01",), ("x",)]),
-        ("select * from total", [(3, 7, -2, 5, Decimal("0.87"), Decimal("0.01"), Decimal("0.57"))]),
+        ("select * from total", [(3, 7, -2, 5, Decimal("0.44"), Decimal("0.01"), Decimal("0.29"))]),
     ],
 )
 def test_answers(warehouse: cubetree.Warehouse, text: str, rows: List[Any]) -> None:
@@ -153,17 +153,17 @@ def test_answers(warehouse: cubetree.Warehouse, text: str, rows: List[Any]) -> N
 
 
 def test_amounts(warehouse: cubetree.Warehouse) -> None:
-    """Amounts are Decimals, and sums of them are exact: 0.57 + 0.01 is 0.58, and 0.29 is 29 cents,
-    which no sum of floating-point numbers is."""
-    answer = warehouse.sql("select day, sum(fee) s from facts group by day having s = 0.58")
-    assert answer == [(datetime.date(2025, 3, 14), Decimal("0.58"))]
+    """Amounts are Decimals, and sums of them are exact: 0.14 + 0.01 is 0.15, and 0.29 is 29 cents,
+    which 100 times these floating-point numbers is not."""
+    answer = warehouse.sql("select day, sum(fee) s from facts group by day having s = 0.15")
+    assert answer == [(datetime.date(2025, 3, 14), Decimal("0.15"))]
     assert answer.columns == ("day", "s")
     assert warehouse.sql("select m from (select min(fee) m from facts where year = 1998)") == [
         (Decimal("0.29"),)
     ]
     found = warehouse.sql("select sum(case when part = 'nut' then 0 else fee end) from facts")
-    assert found == [(Decimal("0.86"),)]
-    assert str(warehouse.sql("select sum(sum_fee) from by_part")[0][0]) == "0.87"
+    assert found == [(Decimal("0.43"),)]
+    assert str(warehouse.sql("select sum(sum_fee) from by_part")[0][0]) == "0.44"
 
 
 @pytest.mark.parametrize(
