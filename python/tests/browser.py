@@ -43,7 +43,7 @@ class Browser:
             os.dup2(higher, 4)
 
         words = [NAME, *WORDS, f"--user-data-dir={self.home}"]
-        words += ["--no-sandbox"] if os.getuid() == 0 else []
+        words.append("--no-sandbox")  # Only pages of our own are shown, perhaps to root.
         quiet = subprocess.DEVNULL
         self.process = subprocess.Popen(
             [*words, "about:blank"], close_fds=False, preexec_fn=wire, stdout=quiet, stderr=quiet

@@ -1,5 +1,6 @@
 """Options of the tests: how often a feed and the workers of shards are killed."""
 import os
+import signal
 import sys
 
 import pytest
@@ -10,6 +11,8 @@ from tests import helpers
 
 # Tools run under the Python that runs the tests.
 os.environ["PATH"] = os.path.dirname(sys.executable) + os.pathsep + os.environ["PATH"]
+# A shell that runs the tests in the background ignores it, and so would what they run.
+signal.signal(signal.SIGINT, signal.default_int_handler)
 
 
 def pytest_addoption(parser: pytest.Parser) -> None:

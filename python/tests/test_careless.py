@@ -243,7 +243,6 @@ def test_interrupt(room: Path) -> None:
         stderr=subprocess.PIPE,
         start_new_session=True,
         # A shell that runs the tests in the background has the signal ignored.
-        preexec_fn=lambda: signal.signal(signal.SIGINT, signal.SIG_DFL),
     )
     until(lambda: os.path.exists("w/.batches"))
     os.killpg(begun.pid, signal.SIGINT)

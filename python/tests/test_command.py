@@ -307,7 +307,6 @@ def test_interrupt() -> None:
         stdout=pipe,
         stderr=pipe,
         # A shell that runs the tests in the background has the signal ignored.
-        preexec_fn=lambda: signal.signal(signal.SIGINT, signal.SIG_DFL),
     )
     assert begun.stdin and begun.stdout
     begun.stdin.write(b"count\n")

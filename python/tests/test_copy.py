@@ -472,7 +472,6 @@ def test_interrupt() -> None:
             [*COPY, "w", "new"],
             stderr=subprocess.PIPE,
             # A shell that runs the tests in the background has the signal ignored.
-            preexec_fn=lambda: signal.signal(signal.SIGINT, signal.SIG_DFL),
         )
         assert begun.stderr and begun.stderr.readline().endswith(b"waits for another run in w\n")
         begun.send_signal(signal.SIGINT)

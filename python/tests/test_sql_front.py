@@ -382,7 +382,6 @@ def test_interrupt(folder: Path) -> None:
         [sys.executable, *words],
         stderr=subprocess.PIPE,
         text=True,
-        preexec_fn=lambda: signal.signal(signal.SIGINT, signal.default_int_handler),
     )
     time.sleep(2)
     process.send_signal(signal.SIGINT)

@@ -285,6 +285,7 @@ def test_suite(room: Path) -> None:
     assert found and int(found[1]) >= 60, printed
 
 
+@pytest.mark.skipif(not (TOP / "python" / "backend.py").exists(), reason="no checkout")
 def test_entry_point(room: Path) -> None:
     """An installed package registers the dialect by itself, be it a wheel or that of a system."""
     sys.path.insert(0, str(TOP / "python"))

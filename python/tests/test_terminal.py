@@ -52,7 +52,6 @@ class Terminal:
             stderr=its,
             env={**kept, **clean, **variables},
             # A shell that runs the tests in the background has the signal ignored.
-            preexec_fn=lambda: signal.signal(signal.SIGINT, signal.SIG_DFL),
         )
         self.begun.append(self.process)
         os.close(its)
