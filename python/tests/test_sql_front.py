@@ -342,36 +342,28 @@ def test_memory_only_reads() -> None:
 
 
 @pytest.mark.parametrize(
-    "text, wanted",
+    "text, words",
     [
-        (f"select count(*) from facts where {' and '.join(['year > 1'] * (MILLION // 13))}", 3),
-        (f"select count(*) from facts where {' or '.join(['year > 1'] * (MILLION // 12))}", 3),
-        (f"select count(*) from facts where year in ({','.join(map(str, range(140_000)))})", 3),
-        (f"select count(*) from facts where part = '{'x' * MILLION}'", 0),
-        (f"select{' ' * MILLION}count(*) from facts", 3),
-        ("select " + "(" * MILLION, "levels of nesting"),
-        ("select " + "not " * (MILLION // 4) + "1", "levels of nesting"),
-        ("select " + "1+" * (MILLION // 2) + "1", "terms in a row"),
         ("select 1" + " isnull" * (MILLION // 7), "tests in a row"),
-        ("select " + "1," * (MILLION // 2) + "1", "more than 2,000 columns"),
+        ("select 1" + " < 1" * (MILLION // 4), "terms in a row"),
         ("select 1 from total" + ",total" * (MILLION // 6), "more than 64 tables"),
         (
             "with " + ",".join(f"a{n} as (select 1)" for n in range(50_000)) + " select 1",
             "more than 500 queries",
         ),
-        ("select '" + "''" * (MILLION // 2), "a quote begins here"),
-        ("select 1" + " union select 1" * (MILLION // 15), "too many terms"),
     ],
-    ids=lambda value: str(value)[:24],
+    ids=("tests", "comparisons", "tables", "queries"),
 )
-def test_a_million_bytes(warehouse: cubetree.Warehouse, text: str, wanted: Any) -> None:
-    """A query of a million bytes is answered, or refused by name, and soon."""
-    began = time.process_time()
-    if isinstance(wanted, int):
-        assert warehouse.sql(text) == [(wanted,)]
-    else:
-        assert wanted in str(refused(warehouse, text))
-    assert time.process_time() - began < 30
+def test_a_million_bytes(warehouse: cubetree.Warehouse, text: str, words: str) -> None:
+    """What SQLite would take long for, or not take, is refused by name. More such queries are in
+    test_sql_refused.py."""
+    assert words in str(refused(warehouse, text))
+
+
+def test_long_lists(warehouse: cubetree.Warehouse) -> None:
+    """What is too long for a line of the program is a test of SQLite."""
+    numbers = ",".join(map(str, range(20_000)))
+    assert warehouse.sql(f"select count(*) from facts where year in ({numbers})") == [(3,)]
 
 
 def test_interrupt(folder: Path) -> None:

@@ -11,6 +11,7 @@ from contextlib import closing
 from typing import Any, Callable, Mapping, Optional, Sequence
 
 from ..codec import Answer, reader_of
+from ..errors import Inexact
 from ..schema import Schema
 from ..values import Kind
 from .analysis import Analysis, alias_node
@@ -23,6 +24,7 @@ from .stored import value_of
 from .syntax import Item, Literal, Node, Prefix, Query, Term
 from .tables import tables_of
 
+MOST_DIGITS = 60  # of a number in a query
 Records = Sequence[Sequence[str]]
 Ask = Callable[[Core], Records]  # asks the program
 
@@ -56,7 +58,7 @@ def asked(text: str, schema: Schema, kinds: Mapping[str, Kind], ask: Ask) -> Cal
 def constant(memory: Memory, node: Node) -> Constant:
     """The value of an expression without columns."""
     if isinstance(node, Literal) and node.kind == "whole":
-        return int(node.text)
+        return whole_number(node)
     if isinstance(node, Literal) and node.kind == "text":
         return node.text[1:-1].replace("''", "'")
     if isinstance(node, Prefix) and node.sign == "-" and isinstance(node.item, Literal):
@@ -64,6 +66,13 @@ def constant(memory: Memory, node: Node) -> Constant:
         return -value if isinstance(value, (int, float)) else None
     value = memory.rows(f"SELECT {written(node)}")[0][0]
     return None if isinstance(value, bytes) else value
+
+
+def whole_number(node: Literal) -> int:
+    """The number of a literal, which has at most the digits of a number of the program."""
+    if len(node.text) > MOST_DIGITS:
+        raise Inexact(f"a number of {len(node.text):,} digits: the program has 127 bits")
+    return int(node.text)
 
 
 def answer_of(query: Query, rows: list[tuple[Any, ...]]) -> Answer:
@@ -163,7 +172,7 @@ def number_of(node: Optional[Node]) -> Optional[int]:
     """The number of LIMIT or OFFSET; -1 where none is given, None where it is no plain number."""
     if node is None:
         return -1
-    return int(node.text) if isinstance(node, Literal) and node.kind == "whole" else None
+    return whole_number(node) if isinstance(node, Literal) and node.kind == "whole" else None
 
 
 def key_of(term: Term, items: list[Item]) -> Optional[tuple[int, bool]]:

@@ -1,7 +1,7 @@
 """The parts of a query, as they are parsed. Places count characters of its text."""
 from __future__ import annotations
 
-from dataclasses import dataclass, field, fields
+from dataclasses import dataclass, field
 from typing import Any, Callable, Iterator, Optional, Union
 
 
@@ -11,15 +11,19 @@ class Node:
 
     begin, end = 0, 0
 
-    def parts(self) -> Iterator[Node]:
+    def parts(self) -> list[Node]:
         """The expressions directly within it, but for those of queries within it."""
-        for each in fields(self):
-            yield from nodes_in(getattr(self, each.name))
+        found: list[Node] = []
+        for name in self.__dataclass_fields__:  # type: ignore[attr-defined]
+            gather(getattr(self, name), found)
+        return found
 
     def replace(self, change: Callable[[Node], Node]) -> Node:
         """Puts what `change` makes of each such expression in its place."""
-        for each in fields(self):
-            setattr(self, each.name, replaced(getattr(self, each.name), change))
+        for name in self.__dataclass_fields__:  # type: ignore[attr-defined]
+            value = getattr(self, name)
+            if not isinstance(value, str):
+                setattr(self, name, replaced(value, change))
         return self
 
     def at(self, other: Node) -> Node:
@@ -200,15 +204,15 @@ class Query:
     )  # its columns, once they are known
 
 
-def nodes_in(value: Any) -> Iterator[Node]:
-    """The expressions in a field of a part."""
+def gather(value: Any, found: list[Node]) -> None:
+    """Adds the expressions in a field of a part."""
     if isinstance(value, Node):
-        yield value
+        found.append(value)
     elif isinstance(value, Term):
-        yield value.item
+        found.append(value.item)
     elif isinstance(value, (list, tuple)):
         for each in value:
-            yield from nodes_in(each)
+            gather(each, found)
 
 
 def replaced(value: Any, change: Callable[[Node], Node]) -> Any:
@@ -222,18 +226,19 @@ def replaced(value: Any, change: Callable[[Node], Node]) -> Any:
     return value
 
 
-def queries_in(node: Node) -> Iterator[Query]:
-    """The queries directly within an expression."""
-    if isinstance(node, Inner):
-        yield node.query
-    if isinstance(node, In) and isinstance(node.among, Query):
-        yield node.among
-    for part in node.parts():
-        yield from queries_in(part)
-
-
 def walk(node: Node) -> Iterator[Node]:
     """An expression and all that is within it, but for queries."""
-    yield node
-    for part in node.parts():
-        yield from walk(part)
+    left = [node]
+    while left:
+        found = left.pop()
+        yield found
+        left.extend(reversed(found.parts()))
+
+
+def queries_in(node: Node) -> Iterator[Query]:
+    """The queries within an expression, but for those within them."""
+    for each in walk(node):
+        if isinstance(each, Inner):
+            yield each.query
+        elif isinstance(each, In) and isinstance(each.among, Query):
+            yield each.among
