@@ -4,7 +4,6 @@ from __future__ import annotations
 
 import datetime
 from decimal import Decimal as D
-from pathlib import Path
 from typing import Any, Iterator, List, Tuple
 
 import pytest
