@@ -1,4 +1,4 @@
-"""What queries in SQL refuse, by name: what no view has, what writes, and numbers beyond 63 bits."""
+"""What queries in SQL refuse: what no view has, what writes, and numbers beyond 63 bits."""
 from __future__ import annotations
 
 import time

@@ -15,6 +15,7 @@ import pytest
 
 import cubetree
 from cubetree.export import export
+from cubetree.process import program
 from cubetree.version import __version__
 from tests.alchemy.engines import (  # noqa: F401
     SCHEMA,
@@ -304,7 +305,7 @@ def test_entry_point(room: Path) -> None:
         "print(importlib.metadata.version('cubetree'))\n"
     )
     for folder in ("wheel", "system"):
-        own = dict(os.environ, PYTHONPATH=folder)
+        own = dict(os.environ, PYTHONPATH=folder, CUBETREE=program())
         printed = run(sys.executable, "-c", asks, env=own)[0]
         assert printed == f"['facts', 'by_part_year', 'by_year', 'total'] {__version__}\n"
 
