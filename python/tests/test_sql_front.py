@@ -295,6 +295,8 @@ def test_texts_that_are_not_utf8(wide: cubetree.Warehouse) -> None:
         ("select * from facts", "group 8", "ask for all columns of a view"),
         ("select qty from facts group by qty", "group 8", "ask for SUM(qty), MIN, MAX, AVG"),
         ("select year, sum(qty) from facts", "group 8", "year is not in GROUP BY"),
+        ("select 2 * year from facts group by year * 2", "group 12", "year is not in GROUP BY"),
+        ("select year * 3 % 2 from facts group by year * 2", "group 8", "year is not in GROUP BY"),
         (
             (
                 "select part, (select max(v.count) from by_year v where v.year = f.year) from facts"

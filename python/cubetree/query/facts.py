@@ -46,6 +46,18 @@ def is_aggregate(node: Node) -> bool:
     return word in AGGREGATES[:4] or is_of_rows or word in OF_SINGLE
 
 
+def grouped_items(chain: Chain, keys: list[Node]) -> int:
+    """How many items at the front of a chain are one that is grouped by. Signs of one level are
+    taken from the left, so `year * 2` is a part of `year * 2 % 3`."""
+    fronts = [key for key in keys if isinstance(key, Chain) and key.level == chain.level]
+    sizes = [
+        len(key.items)
+        for key in fronts
+        if key.items == chain.items[: len(key.items)] and key.signs == chain.signs[: len(key.signs)]
+    ]
+    return max(sizes, default=0)
+
+
 class Facts:
     """The SELECT of a scope, whose table is `facts`."""
 
@@ -96,7 +108,10 @@ class Facts:
         output = self.scope.own(node)
         if output and not output.is_measure:
             refuse("group", self.scope.text, node.begin, f"{output.name} is not in GROUP BY")
-        for part in node.parts():
+        parts = node.parts()
+        if isinstance(node, Chain):
+            parts = node.items[grouped_items(node, keys) :]
+        for part in parts:
             self.expect_grouped(part, keys)
 
     # ---- expressions
