@@ -8,9 +8,9 @@ use Rattle.fact_model.specs.declared.fact.Value.{Value}
 use Rattle.fact_model.specs.declared.fact.Value.TheVariants.{Word, Number}
 use Rattle.cube_schema.specs.declared.Kind.{Kind}
 use Rattle.cube_schema.specs.declared.Kind.TheVariants as kind
-use Rattle.view_points.specs.Codes.{Text, value_in}
+use Rattle.spec_points.specs.Codes.{Text, value_in}
 use Rattle.fact_model.specs.Limits.{IsWithin, number_limit}
-use Rattle.view_points.proofs.Codes.{value-of-code}
+use Rattle.spec_points.proofs.Codes.{value-of-code}
 use Rattle.attr_dict.specs.Book.{code_for, value_for}
 use Rattle.attr_dict.proofs.Columns.{place-of}
 

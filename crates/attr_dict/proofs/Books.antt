@@ -14,8 +14,8 @@ use Rattle.cube_schema.specs.Kinds.{max_of, no_attr}
 use Rattle.cube_schema.specs.Words.{is_in_range}
 use Rattle.cube_schema.specs.Lawful.{IsSchema}
 use Rattle.cube_schema.proofs.Tests.{all-at}
-use Rattle.view_points.specs.Codes.{Text}
-use Rattle.view_points.specs.Agree.{name_limit}
+use Rattle.spec_points.specs.Codes.{Text}
+use Rattle.spec_points.specs.Agree.{name_limit}
 use Rattle.attr_dict.specs.Book.{IsBook, IsShort, none_yet, no_names}
 use Rattle.attr_dict.proofs.Columns.{distinct-none}
 

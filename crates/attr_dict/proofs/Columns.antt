@@ -14,8 +14,8 @@ use Rattle.fact_model.specs.Fact.{value_at}
 use Rattle.cube_schema.specs.declared.Kind.{Kind}
 use Rattle.cube_schema.specs.declared.Kind.TheVariants as kind
 use Rattle.cube_schema.specs.Agreeing.{IsOfKind}
-use Rattle.view_points.specs.Codes.{Text, admitted, place, text_in, texts_at, names, for_attr}
-use Rattle.view_points.proofs.Names.{names-for}
+use Rattle.spec_points.specs.Codes.{Text, admitted, place, text_in, texts_at, names, for_attr}
+use Rattle.spec_points.proofs.Names.{names-for}
 use Rattle.attr_dict.specs.Admitting.{Agrees}
 use Rattle.attr_dict.specs.Book.{IsShort}
 

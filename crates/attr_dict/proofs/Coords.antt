@@ -6,13 +6,13 @@ use Rattle.std.proofs.lemmas.List.FromFn.{get_or-map-range_with_len}
 use Rattle.std.proofs.lemmas.List.Elements.{All-nil, All-cons, All-get_or, All-map}
 use Rattle.fact_model.specs.declared.fact.Fact.{Fact}
 use Rattle.fact_model.specs.Fact.{value_at}
-use Rattle.view_points.specs.Points.{View, Names, coord}
-use Rattle.view_points.specs.Deltas.{CodedBy}
-use Rattle.view_points.specs.Codes.{Text, admitted, texts_at}
-use Rattle.view_points.specs.Agree.{HasCode, IsCoded}
-use Rattle.view_points.proofs.Codes.{coded-from}
-use Rattle.view_points.proofs.Arities.{coord-positive}
-use Rattle.view_points.proofs.Members.{All-from_every}
+use Rattle.spec_points.specs.Points.{View, Names, coord}
+use Rattle.spec_points.specs.Deltas.{CodedBy}
+use Rattle.spec_points.specs.Codes.{Text, admitted, texts_at}
+use Rattle.spec_points.specs.Agree.{HasCode, IsCoded}
+use Rattle.spec_points.proofs.Codes.{coded-from}
+use Rattle.spec_points.proofs.Arities.{coord-positive}
+use Rattle.spec_points.proofs.Members.{All-from_every}
 use Rattle.attr_dict.specs.Book.{Book, names_at}
 use Rattle.attr_dict.specs.Admitting.{Agrees, codes_of}
 

@@ -1,7 +1,7 @@
 -- Reading is one: bytes are damaged at one place at most, and not where they are read whole.
 use Rattle.std.proofs.Common.{◌≡◌, ℕ, true, List, [], ◌∷◌, ◌++◌, length, sym, ap, subst, ◌∙◌, arith, append_assoc, append-nil}
 use Rattle.std.proofs.lemmas.Bool.{and_parts, true≢false}
-use Rattle.view_points.specs.Codes.{Text}
+use Rattle.spec_points.specs.Codes.{Text}
 use Rattle.attr_dict.specs.Book.{Book}
 use Rattle.attr_dict.specs.Admitting.{entry_text, entries_text}
 use Rattle.attr_dict.specs.Entering.{can_enter, entered, all_enter, after_entries, HasRead, IsFaulty, IsDamagedAt}

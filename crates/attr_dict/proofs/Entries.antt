@@ -7,10 +7,10 @@ use Rattle.std.proofs.Math.ListN.{set}
 use Rattle.std.proofs.lemmas.Bool.{cases_eq, eq-eqb, ne_eqb}
 use Rattle.std.proofs.lemmas.List.{get_or-set_same, get_or-set_other, length-take, take_all, take-append-drop, take-append-le}
 use Rattle.fact_model.specs.declared.fact.Value.TheVariants.{Word}
-use Rattle.view_points.specs.Codes.{Text, admitted, place, same_entry, for_attr}
-use Rattle.view_points.specs.Points.{coord}
-use Rattle.view_points.proofs.Codes.{code-kept}
-use Rattle.view_points.proofs.Names.{admitted-for}
+use Rattle.spec_points.specs.Codes.{Text, admitted, place, same_entry, for_attr}
+use Rattle.spec_points.specs.Points.{coord}
+use Rattle.spec_points.proofs.Codes.{code-kept}
+use Rattle.spec_points.proofs.Names.{admitted-for}
 use Rattle.attr_dict.specs.Admitting.{Grew, fresh, entry_text, entries_text}
 use Rattle.attr_dict.specs.Coding.{AreNamesOf}
 

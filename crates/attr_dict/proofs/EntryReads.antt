@@ -4,7 +4,7 @@ use Rattle.std.specs.Prelude.{OnOk, IfErr}
 use Rattle.std.specs.List.{All}
 use Rattle.std.proofs.lemmas.Bool.{and_parts, true≢false}
 use Rattle.cube_schema.specs.declared.Kind.{Kind}
-use Rattle.view_points.specs.Codes.{Text}
+use Rattle.spec_points.specs.Codes.{Text}
 use Rattle.attr_dict.specs.Book.{Book, IsBook}
 use Rattle.attr_dict.specs.Admitting.{entry_text, entries_text}
 use Rattle.attr_dict.specs.Entering.{can_enter, entered, all_enter, after_entries, HasRead, IsFaulty}

@@ -2,7 +2,7 @@
 use Rattle.std.proofs.Common.{◌≡◌, ℕ, true, false, List, [], ◌∷◌, ◌++◌, length, get_or, take, drop, refl, sym, ap, subst, ◌∙◌, append_assoc, append-nil}
 use Rattle.std.proofs.lemmas.Bool.{and_parts, and_from}
 use Rattle.std.proofs.lemmas.List.{take_at, drop_at}
-use Rattle.view_points.specs.Codes.{Text}
+use Rattle.spec_points.specs.Codes.{Text}
 use Rattle.attr_dict.specs.Book.{Book}
 use Rattle.attr_dict.specs.Admitting.{entry_text, entries_text}
 use Rattle.attr_dict.specs.Entering.{can_enter, entered, all_enter, after_entries, HasRead, EntersFront, IsFaulty}

@@ -20,12 +20,12 @@ use Rattle.cube_schema.specs.declared.Schema.{Schema}
 use Rattle.cube_schema.specs.Kinds.{max_of}
 use Rattle.cube_schema.specs.Agreeing.{IsOfKind, Agrees as AgreesWith}
 use Rattle.cube_schema.specs.Lawful.{IsSchema}
-use Rattle.view_points.specs.Codes.{Text, admitted, text_in, texts_at, names_of, same_entry, named, names, for_attr}
-use Rattle.view_points.specs.Agree.{name_limit}
-use Rattle.view_points.proofs.Codes.{admitted-more, names-append}
-use Rattle.view_points.proofs.Names.{distinct-admitted, names-more, names-for, names-distinct}
-use Rattle.view_points.proofs.Members.{every-right}
-use Rattle.view_points.proofs.Ranges.{place-below}
+use Rattle.spec_points.specs.Codes.{Text, admitted, text_in, texts_at, names_of, same_entry, named, names, for_attr}
+use Rattle.spec_points.specs.Agree.{name_limit}
+use Rattle.spec_points.proofs.Codes.{admitted-more, names-append}
+use Rattle.spec_points.proofs.Names.{distinct-admitted, names-more, names-for, names-distinct}
+use Rattle.spec_points.proofs.Members.{every-right}
+use Rattle.spec_points.proofs.Ranges.{place-below}
 use Rattle.attr_dict.specs.Book.{Book, IsBook, IsShort, kind_at, names_at, none_yet, no_names}
 use Rattle.attr_dict.specs.Admitting.{Agrees, HasSmallCode, HasSmallCodes, names_with, first_full, entries_text, fresh, Lists}
 use Rattle.attr_dict.specs.Entering.{can_enter, entered, all_enter, after_entries}

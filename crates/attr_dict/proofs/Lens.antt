@@ -12,11 +12,11 @@ use Rattle.cube_schema.specs.declared.Kind.{Kind}
 use Rattle.cube_schema.specs.declared.Kind.TheVariants as kind
 use Rattle.cube_schema.specs.declared.Schema.{Schema}
 use Rattle.cube_schema.specs.Kinds.{max_of}
-use Rattle.view_points.specs.Agree.{name_limit}
-use Rattle.view_points.specs.Codes.{Text, admitted, texts_at, same_entry, named, for_attr}
-use Rattle.view_points.specs.Points.{Names}
-use Rattle.view_points.proofs.Codes.{admitted-more}
-use Rattle.view_points.proofs.Names.{admitted-for, named-for}
+use Rattle.spec_points.specs.Agree.{name_limit}
+use Rattle.spec_points.specs.Codes.{Text, admitted, texts_at, same_entry, named, for_attr}
+use Rattle.spec_points.specs.Points.{Names}
+use Rattle.spec_points.proofs.Codes.{admitted-more}
+use Rattle.spec_points.proofs.Names.{admitted-for, named-for}
 use Rattle.attr_dict.specs.Book.{Book, IsBook, kind_at, names_at, shown_names, no_names}
 use Rattle.attr_dict.specs.Admitting.{names_with, entry_text, entries_text, fresh, Lists}
 use Rattle.attr_dict.specs.Entering.{can_enter, entered, all_enter, after_entries, HasRead}

@@ -3,7 +3,7 @@ use Rattle.std.proofs.Common.{◌≡◌, ℕ, zero, suc, ◌+◌, ◌<◌, ◌==
 use Rattle.std.specs.List.{cons_option}
 use Rattle.std.proofs.lemmas.Bool.{eq-eqb, ne_eqb}
 use Rattle.std.proofs.lemmas.List.Elements.{filter_map-append}
-use Rattle.view_points.specs.Codes.{Text, for_attr}
+use Rattle.spec_points.specs.Codes.{Text, for_attr}
 use Rattle.attr_dict.specs.Coding.{AreNamesOf}
 
 abbrev Entry : Type 0

@@ -2,8 +2,8 @@
 use Rattle.std.proofs.Common.{◌≡◌, ℕ, true, false, cond, List, [], ◌∷◌, ◌++◌, refl, sym, ap, subst, ◌∙◌, append_assoc, append-nil}
 use Rattle.std.specs.List.{list_any}
 use Rattle.std.proofs.lemmas.List.Concat.{flat_map-append}
-use Rattle.view_points.specs.Codes.{Text, admitted, same_entry}
-use Rattle.view_points.proofs.Codes.{admitted-append}
+use Rattle.spec_points.specs.Codes.{Text, admitted, same_entry}
+use Rattle.spec_points.proofs.Codes.{admitted-append}
 use Rattle.attr_dict.specs.Admitting.{fresh, entry_text, entries_text}
 use Rattle.attr_dict.specs.Coding.{AreNamesOf}
 

@@ -5,7 +5,7 @@ use Rattle.std.specs.List.{list_any, position_or_len}
 use Rattle.std.specs.Str.{bytes_eq}
 use Rattle.std.specs.Cmp.Lexicographic.{bytes_decides}
 use Rattle.std.proofs.lemmas.Bool.{true≢false, cond-false, lt-ltb, le-ltb, cases_lt}
-use Rattle.view_points.specs.Codes.{Text, place}
+use Rattle.spec_points.specs.Codes.{Text, place}
 
 known-some : (o : Option ℕ) → is_some (option_map suc o) ≡ is_some o
 known-some None = refl

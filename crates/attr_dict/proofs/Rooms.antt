@@ -7,8 +7,8 @@ use Rattle.std.proofs.lemmas.Bool.{and_parts, ltb-true, cases_eq, cases_lt}
 use Rattle.std.proofs.lemmas.List.{length-set, get_or-set_same, get_or-set_other, set_past, length_push}
 use Rattle.std.proofs.lemmas.List.Elements.{All-push, All-tail}
 use Rattle.cube_schema.specs.Kinds.{max_of}
-use Rattle.view_points.specs.Codes.{Text}
-use Rattle.view_points.proofs.Names.{distinct-push}
+use Rattle.spec_points.specs.Codes.{Text}
+use Rattle.spec_points.proofs.Names.{distinct-push}
 use Rattle.attr_dict.specs.Admitting.{entry_text, entries_text}
 use Rattle.attr_dict.specs.Book.{Book, IsBook, IsShort, kind_at, names_at}
 use Rattle.attr_dict.specs.Entering.{can_enter, entered, all_enter, after_entries}

@@ -14,8 +14,8 @@ use Rattle.fact_model.specs.Fact.{value_at}
 use Rattle.fact_batch.specs.Batch.{values_in}
 use Rattle.fact_batch.specs.Rows.{rows_of}
 use Rattle.fact_batch.proofs.Flats.{rows-back}
-use Rattle.view_points.specs.Codes.{Text, texts_from, named}
-use Rattle.view_points.specs.Points.{coord}
+use Rattle.spec_points.specs.Codes.{Text, texts_from, named}
+use Rattle.spec_points.specs.Points.{coord}
 use Rattle.attr_dict.specs.Admitting.{codes_of}
 use Rattle.attr_dict.specs.Coding.{entry_in}
 use Rattle.attr_dict.specs.Sizes.{IsSmall}

@@ -1,7 +1,7 @@
 -- What is taken in, and taken back.
 use Rattle.std.proofs.Common.{◌≡◌, ℕ, List, [], length, get_or, take, ap, ◌∙◌, arith}
 use Rattle.std.proofs.lemmas.List.{ext_get_or}
-use Rattle.view_points.specs.Codes.{Text}
+use Rattle.spec_points.specs.Codes.{Text}
 use Rattle.attr_dict.specs.Admitting.{Grew}
 
 -- names that are cut down to what they were

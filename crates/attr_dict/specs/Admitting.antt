@@ -11,9 +11,9 @@ use Rattle.cube_schema.specs.declared.Kind.{Kind}
 use Rattle.cube_schema.specs.declared.Kind.TheVariants as kind
 use Rattle.cube_schema.specs.Kinds.{max_of}
 use Rattle.cube_schema.specs.Agreeing.{IsOfKind}
-use Rattle.view_points.specs.Codes.{Text, admitted, texts_at, for_attr}
-use Rattle.view_points.specs.Agree.{name_limit}
-use Rattle.view_points.specs.Points.{Names, coord}
+use Rattle.spec_points.specs.Codes.{Text, admitted, texts_at, for_attr}
+use Rattle.spec_points.specs.Agree.{name_limit}
+use Rattle.spec_points.specs.Points.{Names, coord}
 use Rattle.attr_dict.specs.Book.{Book, kind_at, names_at}
 
 -- a fact has one value of the right kind for each attribute

@@ -10,8 +10,8 @@ use Rattle.cube_schema.specs.declared.Kind.{Kind}
 use Rattle.cube_schema.specs.declared.Kind.TheVariants as kind
 use Rattle.cube_schema.specs.declared.Schema.{Schema}
 use Rattle.cube_schema.specs.Kinds.{max_of}
-use Rattle.view_points.specs.Codes.{Text, place, value_in, names_of}
-use Rattle.view_points.specs.Agree.{name_limit}
+use Rattle.spec_points.specs.Codes.{Text, place, value_in, names_of}
+use Rattle.spec_points.specs.Agree.{name_limit}
 use Rattle.fact_model.specs.Limits.{number_limit}
 
 -- the kind and the names of each attribute; a number attribute has no names

@@ -2,7 +2,7 @@
 use Rattle.std.specs.Prelude.{◌≡◌, ℕ, List, [], ◌∷◌, get_or}
 use Rattle.fact_model.specs.declared.fact.Value.{Value}
 use Rattle.fact_model.specs.declared.fact.Value.TheVariants.{Word, Number}
-use Rattle.view_points.specs.Codes.{Text, for_attr}
+use Rattle.spec_points.specs.Codes.{Text, for_attr}
 
 -- the entry of a value, if it is a text
 abbrev pub entry_in : ℕ → Value → List (ℕ × Text)

@@ -3,7 +3,7 @@ use Rattle.std.specs.Prelude.{◌≡◌, ℕ, ◌+◌, ◌<◌, Bool, true, fals
 use Rattle.std.specs.List.{list_any}
 use Rattle.std.specs.Str.{bytes_eq}
 use Rattle.cube_schema.specs.Kinds.{max_of}
-use Rattle.view_points.specs.Codes.{Text}
+use Rattle.spec_points.specs.Codes.{Text}
 use Rattle.attr_dict.specs.Book.{Book, kind_at, names_at}
 use Rattle.attr_dict.specs.Admitting.{entry_text, entries_text}
 

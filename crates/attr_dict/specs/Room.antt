@@ -1,8 +1,8 @@
 -- How many bytes of a names file the entries of names have.
 use Rattle.std.specs.Prelude.{ℕ, zero, suc, ◌+◌, ◌*◌, List, length, sum_by}
-use Rattle.view_points.specs.Codes.{Text}
-use Rattle.view_points.specs.Points.{Names}
-use Rattle.view_points.specs.Agree.{name_limit}
+use Rattle.spec_points.specs.Codes.{Text}
+use Rattle.spec_points.specs.Points.{Names}
+use Rattle.spec_points.specs.Agree.{name_limit}
 use Rattle.attr_dict.specs.Book.{Book, names_at, shown_names}
 
 -- an entry has two bytes and the bytes of its text

@@ -3,11 +3,11 @@ ghost use Rattle.std.specs.Prelude.{◌≡◌, ◌<◌, ◌≤◌, ◌+◌, ℕ,
 ghost use Rattle.cube_schema.specs.declared.Attr.{Attr};
 ghost use Rattle.cube_schema.specs.Lawful.{IsSchema};
 ghost use Rattle.std.specs.List.{zip};
-ghost use Rattle.view_points.specs.Deltas.{CodedBy};
-ghost use Rattle.view_points.specs.Points.{View};
+ghost use Rattle.spec_points.specs.Deltas.{CodedBy};
+ghost use Rattle.spec_points.specs.Points.{View};
 ghost use Rattle.fact_model.specs.Limits.{IsWithin, number_limit};
-ghost use Rattle.view_points.specs.Agree.{IsCoded};
-ghost use Rattle.view_points.specs.Codes.{Text, same_entry, named};
+ghost use Rattle.spec_points.specs.Agree.{IsCoded};
+ghost use Rattle.spec_points.specs.Codes.{Text, same_entry, named};
 ghost use Rattle.attr_dict.specs.Admitting.{Agrees, HasSmallCodes, names_with, first_full, codes_of, entries_text, fresh, Lists};
 ghost use Rattle.attr_dict.specs.Full.{IsFull};
 ghost use Rattle.attr_dict.specs.Entering.{HasRead, all_enter, after_entries};
@@ -25,9 +25,9 @@ use crate::take::take_in;
 use cube_schema::{Attr, Kind, Schema};
 use fact_batch::Batch;
 use fact_model::{GREATEST_NUMBER, Memory, Value};
-use hash_seed::Seed;
 use std::alloc::Global;
 use std::marker::Model;
+use text_hash::Seed;
 
 /// A value that is lent.
 #[derive(Clone, Copy, Debug, PartialEq, Eq)]

@@ -2,14 +2,14 @@
 ghost use Rattle.std.specs.Prelude.{◌≡◌, ◌<◌, ◌-◌, [], ◌∷◌, ◌++◌, false, suc, IfOk, OnOk, OnErr, Some, None, not, length, take, option_map, option_copied, slice_get};
 ghost use Rattle.std.specs.List.{list_any};
 ghost use Rattle.std.specs.Str.{bytes_eq};
-ghost use Rattle.view_points.specs.Codes.{admitted, place};
+ghost use Rattle.spec_points.specs.Codes.{admitted, place};
 
 use crate::name::{Name, NameRef};
 use fact_model::Memory;
-use hash_seed::Seed;
 use indexmap::IndexSet;
 use std::alloc::Global;
 use std::marker::Model;
+use text_hash::Seed;
 
 /// Distinct texts in order of first appearance. Codes count from 1.
 pub(crate) struct Names {

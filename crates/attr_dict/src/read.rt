@@ -1,6 +1,6 @@
 //! Reading the entries of a names file.
 ghost use Rattle.std.specs.Prelude.{◌≡◌, ◌≢◌, ◌<◌, ◌-◌, ℕ, List, [], ◌++◌, OnOk, OnErr, IfOk, IfErr, MatchOption, length, if◌then◌else◌};
-ghost use Rattle.view_points.specs.Codes.{Text};
+ghost use Rattle.spec_points.specs.Codes.{Text};
 ghost use Rattle.attr_dict.specs.Admitting.{entry_text};
 ghost use Rattle.attr_dict.specs.Entering.{can_enter, entered, EntersFront, HasRead};
 ghost use Rattle.attr_dict.specs.Stops.{HasCause, StopsAt};

@@ -2,8 +2,8 @@
 ghost use Rattle.std.specs.Prelude.{◌≡◌, ◌<◌, ◌≤◌, ℕ, List, [], OnOk, IfOk, IfErr, All, None, length, get_or, map};
 ghost use Rattle.fact_model.specs.declared.Fact.{Fact};
 ghost use Rattle.cube_schema.specs.Kinds.{max_of};
-ghost use Rattle.view_points.specs.Agree.{name_limit};
-ghost use Rattle.view_points.specs.Codes.{Text, same_entry, named};
+ghost use Rattle.spec_points.specs.Agree.{name_limit};
+ghost use Rattle.spec_points.specs.Codes.{Text, same_entry, named};
 ghost use Rattle.attr_dict.specs.Sizes.{IsSmall};
 ghost use Rattle.attr_dict.specs.Admitting.{Grew, names_with, first_full, codes_of, entries_text, fresh};
 ghost use Rattle.attr_dict.specs.Coding.{AreNamesOf};

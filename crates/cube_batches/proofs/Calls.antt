@@ -8,7 +8,7 @@ use Rattle.cube_batches.proofs.Names.{made_alone, moves_made, names_with, next_s
 use Rattle.cube_batches.proofs.Names.{Level, schema_of}
 use Rattle.cube_state.specs.Moves.{Reached, reached_behind, reached_by}
 use Rattle.cube_state.proofs.Moves.{reached_next}
-use Rattle.kept_worlds.specs.Keeps.{IsFrom}
+use Rattle.spec_crash.specs.Keeps.{IsFrom}
 
 -- ---- a reply
 

@@ -10,14 +10,14 @@ use Rattle.cube_batches.proofs.Names.{length, length-append, onward, page_total,
 use Rattle.cube_batches.proofs.Names.{Level}
 use Rattle.cube_batches.proofs.{Calls.answered_by, Calls.says_either, Takings.all_fine}
 use Rattle.cube_state.proofs.BatchCosts.{commit_spends, pages_read}
-use Rattle.forest_moves.specs.Forest.{forest_moves}
+use Rattle.spec_moves.specs.Forest.{forest_moves}
 use Rattle.forest_refresh.specs.Begun.{moves_of}
 use Rattle.std.proofs.Common.{Option, ◌≤◌}
 use Rattle.cube_state.proofs.Standing.{keeps_from}
-use Rattle.kept_forest.proofs.Standing.{in_some}
-use Rattle.kept_forest.specs.Held.{KeepsAs}
-use Rattle.kept_worlds.specs.Keeps.{IsFrom}
-use Rattle.kept_forest.specs.Sides.{page_count}
+use Rattle.spec_store.proofs.Standing.{in_some}
+use Rattle.spec_store.specs.Held.{KeepsAs}
+use Rattle.spec_crash.specs.Keeps.{IsFrom}
+use Rattle.spec_store.specs.Sides.{page_count}
 use Rattle.forest_root.specs.declared.body.Body.{Body}
 use Rattle.cube_state.specs.Cached.{generation}
 use Rattle.cube_state.specs.Costs.{Spends}

@@ -16,8 +16,8 @@ use Rattle.cube_batches.proofs.{Loads.empty_answer, Loads.same_facts, Calls.IsSt
 use Rattle.forest_refresh.specs.Begun.{moves_of}
 use Rattle.cube_state.specs.BatchCosts.{commit_cost}
 use Rattle.cube_state.specs.Moves.{format_behind, format_of, reached_behind, reached_by, unmoved}
-use Rattle.forest_moves.specs.Forest.{forest_moves}
-use Rattle.kept_forest.specs.Held.{KeepsAs, format_for}
+use Rattle.spec_moves.specs.Forest.{forest_moves}
+use Rattle.spec_store.specs.Held.{KeepsAs, format_for}
 use Rattle.cube_batches.specs.declared.committing.Told.TheVariants.{Committed}
 use Rattle.cube_state.proofs.Moves.{format_stays, reached_next}
 

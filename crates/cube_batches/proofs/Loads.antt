@@ -11,7 +11,7 @@ use Rattle.cube_batches.proofs.{Calls.answered_by, Calls.batch_told, Calls.batch
 use Rattle.cube_batches.proofs.{Calls.says_either, Sources.begin_answer, Sources.begin_sends, Sources.begins_is, Sources.each_load, Sources.given_some, Sources.load_answer}
 use Rattle.cube_batches.proofs.{Sources.load_calls, Sources.load_gives, Sources.load_is, Sources.load_sends, Sources.rows_last, Takings.begun_fits, Takings.known}
 use Rattle.cube_state.specs.Moves.{reached_by, unmoved}
-use Rattle.kept_forest.specs.Held.{format_for}
+use Rattle.spec_store.specs.Held.{format_for}
 use Rattle.cube_batches.specs.declared.committing.Told.TheVariants.{Committed}
 use Rattle.cube_batches.specs.Taking.{HasStarted}
 use Rattle.cube_batches.proofs.{Calls.still_reached, Sources.load_reaches, Takings.later_for}

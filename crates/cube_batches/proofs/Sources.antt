@@ -9,7 +9,7 @@ use Rattle.cube_batches.proofs.Names.{read_by, refl, refusal_of, size, sym, take
 use Rattle.cube_batches.proofs.Names.{Level}
 use Rattle.cube_state.proofs.{BatchCosts.grows, BatchCosts.pending_format, Moves.format_stays}
 use Rattle.cube_state.specs.Moves.{Reached, batch_moves, format_behind, format_with, reached_behind}
-use Rattle.kept_forest.specs.Held.{format_for}
+use Rattle.spec_store.specs.Held.{format_for}
 
 -- ---- the commands that take one in at once
 

@@ -10,8 +10,8 @@ use Rattle.cube_batches.proofs.Names.{goes_nowhere, holds_to, inl, inr, last_beh
 use Rattle.cube_batches.proofs.Names.{spends_more, stable_holds, stopped, subst, sym, take, take_over, unharmed, unless, wider, written, ℕ}
 use Rattle.cube_batches.proofs.Names.{says_just}
 use Rattle.cube_state.proofs.{Limits.none_refused, Limits.one_refused, Standing.keeps_from}
-use Rattle.kept_forest.proofs.{Formats.format-later, Standing.in_some}
-use Rattle.kept_forest.specs.Held.{KeepsAs, format_for}
+use Rattle.spec_store.proofs.{Formats.format-later, Standing.in_some}
+use Rattle.spec_store.specs.Held.{KeepsAs, format_for}
 use Rattle.cube_batches.proofs.{Calls.answered_by, Calls.rests, Calls.still_reached, Sources.answer_batch, Sources.answer_read}
 use Rattle.forest_refresh.specs.Begun.{moves_of}
 use Rattle.cube_state.specs.Moves.{format_of, reached_by}

@@ -7,11 +7,11 @@ use Rattle.cube_batches.proofs.Names.{Forest, Ghosts, Hollow, Idle, IsReady, IsR
 use Rattle.cube_batches.proofs.Names.{SaysOnly, Some, Spends, Stands, State, Stop, Store, Warehouse, World, [], act, ap, arith, codes, cond, free, goes_nowhere, inl, inr}
 use Rattle.cube_batches.proofs.Names.{line, load_cost_of, nat_tests, refl, runs_out, says, stable_holds, stopped, subst, sym, true, unharmed, ℕ}
 use Rattle.cube_batches.proofs.Names.{says_just}
-use Rattle.forest_moves.specs.Forest.{forest_moves}
+use Rattle.spec_moves.specs.Forest.{forest_moves}
 use Rattle.forest_refresh.specs.Next.{body_as}
 use Rattle.page_fmt.specs.Formats.{wide_format}
-use Rattle.plain_machine.proofs.Acts.{act_upgrade}
-use Rattle.plain_machine.specs.Machine.{upgrade_over}
+use Rattle.spec_machine.proofs.Acts.{act_upgrade}
+use Rattle.spec_machine.specs.Machine.{upgrade_over}
 use Rattle.cube_state.proofs.BatchCosts.{committed_spends}
 use Rattle.cube_state.proofs.Costs.{spends_more}
 use Rattle.cube_state.specs.BatchCosts.{remakes, remakes_over, upgrade_moves}

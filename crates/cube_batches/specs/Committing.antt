@@ -4,16 +4,16 @@ use Rattle.site_core.specs.Disk.{DiffersPast, Files}
 use Rattle.site_core.specs.declared.site.Site.{Ghosts}
 use Rattle.cube_schema.specs.declared.schema.Schema.{Schema}
 use Rattle.fact_model.specs.declared.fact.Fact.{Fact}
-use Rattle.forest_moves.specs.Forest.{forest_moves}
+use Rattle.spec_moves.specs.Forest.{forest_moves}
 use Rattle.forest_refresh.specs.Begun.{Begun, next_side}
 use Rattle.forest_root.specs.declared.body.Body.{Body}
-use Rattle.kept_forest.specs.Sides.{page_count}
+use Rattle.spec_store.specs.Sides.{page_count}
 use Rattle.page_cache.specs.Giving.{Cache}
 use Rattle.reply_text.specs.Replies.{committed_text, line, upgraded_text}
 use Rattle.roll_up.specs.declared.level.Level.{Level}
 use Rattle.script_lang.specs.declared.command.Command.{Command}
-use Rattle.plain_machine.specs.Machine.{Answer, act, asked_by, committed}
-use Rattle.plain_machine.specs.World.{Warehouse, World}
+use Rattle.spec_machine.specs.Machine.{Answer, act, asked_by, committed}
+use Rattle.spec_machine.specs.World.{Warehouse, World}
 use Rattle.cube_state.specs.declared.state.State.{State}
 use Rattle.cube_state.specs.declared.state.State.TheVariants.{Empty, Idle, Hollow, Pending}
 use Rattle.cube_state.specs.declared.stop.Stop.{Stop}

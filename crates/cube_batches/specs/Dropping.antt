@@ -4,7 +4,7 @@ use Rattle.site_core.specs.Disk.{Files}
 use Rattle.fact_model.specs.declared.fact.Fact.{Fact}
 use Rattle.forest_refresh.specs.Begun.{Begun, IsRefreshOf}
 use Rattle.forest_root.specs.declared.forest.Store.{Store}
-use Rattle.kept_forest.specs.Stored.{IsStoreOf, IsWhole}
+use Rattle.spec_store.specs.Stored.{IsStoreOf, IsWhole}
 use Rattle.cube_state.specs.declared.state.State.{State}
 use Rattle.cube_state.specs.declared.state.State.TheVariants.{Empty, Idle, Hollow, Pending}
 

@@ -5,7 +5,7 @@ use Rattle.cube_schema.specs.Agreeing.{Agrees}
 use Rattle.cube_schema.specs.declared.schema.Schema.{Schema}
 use Rattle.fact_model.specs.declared.fact.Fact.{Fact}
 use Rattle.forest_refresh.specs.Next.{last_behind}
-use Rattle.plain_machine.specs.Machine.{Given}
+use Rattle.spec_machine.specs.Machine.{Given}
 use Rattle.cube_batches.specs.declared.batch.Read.{Read}
 use Rattle.cube_batches.specs.declared.batch.Read.TheVariants.{Batch, Refused}
 

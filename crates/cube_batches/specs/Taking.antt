@@ -11,13 +11,13 @@ use Rattle.forest_refresh.specs.declared.stop.BeginStop.{BeginStop}
 use Rattle.forest_refresh.specs.declared.stop.BeginStop.TheVariants as begins
 use Rattle.forest_root.specs.Root.{ClosesGate}
 use Rattle.forest_root.specs.declared.forest.Store.{Store}
-use Rattle.kept_forest.specs.Held.{format_for}
+use Rattle.spec_store.specs.Held.{format_for}
 use Rattle.reply_text.specs.Replies.{line}
 use Rattle.roll_up.specs.declared.level.Level.{Level}
 use Rattle.script_lang.specs.declared.command.Command.{Command}
-use Rattle.plain_machine.specs.declared.batch_source.BatchSource.{BatchSource}
-use Rattle.plain_machine.specs.Machine.{Answer, Given, act, asked_by, batch_from, refusal_of, take_over, unless}
-use Rattle.plain_machine.specs.World.{Knows, Warehouse, World}
+use Rattle.spec_machine.specs.declared.batch_source.BatchSource.{BatchSource}
+use Rattle.spec_machine.specs.Machine.{Answer, Given, act, asked_by, batch_from, refusal_of, take_over, unless}
+use Rattle.spec_machine.specs.World.{Knows, Warehouse, World}
 use Rattle.cube_state.specs.declared.state.State.{State}
 use Rattle.cube_state.specs.declared.state.State.TheVariants.{Empty, Idle, Hollow, Pending}
 use Rattle.cube_state.specs.declared.stop.Stop.{Stop}

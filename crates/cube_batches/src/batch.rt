@@ -1,7 +1,7 @@
 //! A batch is read from a block of rows, or made by the generator.
 ghost use Rattle.std.specs.Prelude.{◌≡◌, ℕ, IfOk, IfErr};
 ghost use Rattle.cube_schema.specs.Lawful.{IsSchema};
-ghost use Rattle.plain_machine.specs.Machine.{batch_from, block_read, generated_within, in_turn, with_last, with_number};
+ghost use Rattle.spec_machine.specs.Machine.{batch_from, block_read, generated_within, in_turn, with_last, with_number};
 ghost use Rattle.cube_batches.specs.Reading.{IsRead};
 
 use cube_schema::Schema;
@@ -9,8 +9,8 @@ use cube_state::Stop;
 use fact_batch::Batch;
 use fact_csv::{MOST_ROWS, RowRefusal, read_batch};
 use fact_gen::generate;
-use plain_machine::BatchSource;
 use script_lang::Block;
+use spec_machine::BatchSource;
 use std::alloc::Global;
 
 /// What a source gives.

@@ -6,8 +6,8 @@ use crate::committing::{Told, acknowledge, commit};
 use crate::taking::{Taken, take_in};
 use cube_state::{State, Stop};
 use page_cache::Pages;
-use plain_machine::BatchSource;
 use site_core::Site;
+use spec_machine::BatchSource;
 use std::alloc::Global;
 
 /// Takes in the batch of a source at once and acknowledges it, or refuses it and writes nothing. A numbered batch that was taken in before is

@@ -12,9 +12,9 @@ use crate::committing::{Told, acknowledge, commit};
 use crate::taking::{Taken, take_in};
 use cube_state::{State, Stop};
 use page_cache::Pages;
-use plain_machine::BatchSource;
 use script_lang::Block;
 use site_core::Site;
+use spec_machine::BatchSource;
 use std::alloc::Global;
 use std::mem::replace;
 

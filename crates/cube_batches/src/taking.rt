@@ -3,7 +3,7 @@ ghost use Rattle.std.specs.Prelude.{◌≡◌, ◌<◌, IfOk, IfErr, Ok, Some, l
 ghost use Rattle.cube_state.specs.Batches.{given_to, refusal_text};
 ghost use Rattle.cube_state.specs.Frames.{RunsOn};
 ghost use Rattle.forest_refresh.specs.Next.{last_behind};
-ghost use Rattle.plain_machine.specs.declared.batch_source.BatchSource as sources;
+ghost use Rattle.spec_machine.specs.declared.batch_source.BatchSource as sources;
 ghost use Rattle.cube_batches.specs.Reading.{IsBatchFor};
 ghost use Rattle.cube_batches.specs.Taking.{IsIdle, OnlyRefuses, TakesIn, begin_stop};
 
@@ -13,8 +13,8 @@ use cube_state::{State, Stop};
 use fact_batch::Batch;
 use forest_refresh::{BeginStop, Refresh};
 use forest_root::Store;
-use plain_machine::BatchSource;
 use site_core::Site;
+use spec_machine::BatchSource;
 use std::alloc::Global;
 use std::mem::replace;
 

@@ -10,7 +10,7 @@ use Rattle.cube_state.specs.declared.stop.Stop.TheVariants as stops
 use Rattle.cube_state.specs.Moves.{Reached, format_told, reached_behind, reached_by, reached_from}
 use Rattle.cube_state.proofs.Moves.{format_past, format_untold, stands_format}
 use Rattle.cube_state.proofs.Standing.{stands_from}
-use Rattle.kept_worlds.specs.Keeps.{HasFormat, IsFrom}
+use Rattle.spec_crash.specs.Keeps.{HasFormat, IsFrom}
 use Rattle.cube_session.specs.Session.{reached_for}
 
 -- what a session that stands tells of the files: what they keep, also after a stop, the moves made and the format

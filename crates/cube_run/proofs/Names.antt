@@ -8,9 +8,9 @@ pub use Rattle.cube_session.specs.Session.{Answers, AnswersByWorld, RepliesTo, R
 pub use Rattle.cube_state.{proofs.Answering.OnlyNow, proofs.Moves.stands_moved, proofs.SliceCosts.query_costs, proofs.SliceCosts.rollup_costs, proofs.SliceCosts.slice_costs, proofs.Standing.stands_left, proofs.Standing.stands_read, specs.Commands.CostTogether}
 pub use Rattle.cube_state.{specs.Commands.Costs, specs.Commands.none_cost, specs.Commands.one_costs, specs.Costs.Cost, specs.Costs.Spends, specs.Costs.both, specs.Moves.HasMovedTo}
 pub use Rattle.cube_state.{specs.Stops.IsNoDamage, specs.Stops.StopCause, specs.declared.stop.Stop.Stop}
-pub use Rattle.kept_worlds.{proofs.Once.goes_on_once, proofs.Stops.at_rest, proofs.Stops.carried_more as carried_command, proofs.Stops.carried_none as carried_start}
-pub use Rattle.kept_worlds.{proofs.Stops.carried_then, proofs.Stops.during, specs.Keeps.Keeps, specs.Stops.AfterStop}
-pub use Rattle.plain_machine.{specs.Machine.act, specs.Stages.replies_from, specs.World.Kept, specs.World.World, specs.World.bare}
+pub use Rattle.spec_crash.{proofs.Once.goes_on_once, proofs.Stops.at_rest, proofs.Stops.carried_more as carried_command, proofs.Stops.carried_none as carried_start}
+pub use Rattle.spec_crash.{proofs.Stops.carried_then, proofs.Stops.during, specs.Keeps.Keeps, specs.Stops.AfterStop}
+pub use Rattle.spec_machine.{specs.Machine.act, specs.Stages.replies_from, specs.World.Kept, specs.World.World, specs.World.bare}
 pub use Rattle.script_lang.specs.Reading.{Gives, IsFirstWhole, Reading, nothing_read, ready, to_come, whole_with, with_more}
 pub use Rattle.script_lang.{proofs.Feeding.ended as feeding_ended, proofs.Feeding.fed, proofs.Feeding.fed_whole, proofs.Feeding.none_to_come, proofs.Feeding.none_whole, specs.Script.commands}
 pub use Rattle.script_lang.{specs.Script.whole, specs.declared.command.Command.Command}
@@ -18,6 +18,6 @@ pub use Rattle.site_core.{proofs.Run.Changes-refl, proofs.Run.each_moment, proof
 pub use Rattle.site_core.{specs.Calls.TellsNothing, specs.Causes.Rose, specs.Causes.RoseOnce, specs.Disk.Disk, specs.Disk.Files, specs.Moments.Elapses, specs.Moments.LeavesOnly}
 pub use Rattle.site_core.{specs.declared.site.Site.Ghosts, specs.declared.site.Site.Ghosts as Sites, specs.declared.source.Source.Ghosts as Sources}
 pub use Rattle.{cube_state.specs.Audits.open_cost, cube_session.specs.Damage.StopsAt, cube_session.specs.Damage.TellsBreak, cube_session.specs.declared.session.Session.Session}
-pub use Rattle.{cube_words.specs.Words.AreValid, cube_words.specs.declared.words.WordsStop.WordsStop, forest_open.specs.Breaks.BreaksAt, forest_open.specs.Opening.Place}
+pub use Rattle.{cube_args.specs.Words.AreValid, cube_args.specs.declared.words.WordsStop.WordsStop, forest_open.specs.Breaks.BreaksAt, forest_open.specs.Opening.Place}
 pub use Rattle.{page_cache.specs.Giving.Cache, std.specs.Option.IsSomeAnd, std.specs.Result.IsErrAnd}
 pub use Rattle.cube_session.specs.declared.held.Held.{Held}

@@ -8,12 +8,12 @@ use Rattle.cube_run.proofs.Moments.{histories_go_on, moments_then, opened_behind
 use Rattle.cube_run.proofs.Statuses.{complete, never, none_told, of_stop, still_closed, stop_cause}
 use Rattle.script_lang.specs.declared.command.Command.TheVariants as says
 use Rattle.cube_state.specs.declared.stop.Stop.TheVariants as stops
-use Rattle.cube_words.specs.declared.words.WordsStop.TheVariants as words
+use Rattle.cube_args.specs.declared.words.WordsStop.TheVariants as words
 use Rattle.cube_run.specs.declared.exit.Status.TheVariants.{Done, Usage, Input, Memory, TooLong}
-use Rattle.kept_worlds.specs.Keeps.{HasFormat}
-use Rattle.kept_worlds.proofs.Formats.{has_format}
+use Rattle.spec_crash.specs.Keeps.{HasFormat}
+use Rattle.spec_crash.proofs.Formats.{has_format}
 use Rattle.cube_state.specs.Moves.{KeepsFormat, Reached, reached_behind, unmoved}
-use Rattle.kept_worlds.specs.Stops.{AfterStop}
+use Rattle.spec_crash.specs.Stops.{AfterStop}
 use Rattle.site_core.specs.Moments.{LeavesOnly}
 use Rattle.cube_session.specs.Session.{reached_for}
 

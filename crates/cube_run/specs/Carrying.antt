@@ -4,7 +4,7 @@ use Rattle.site_core.specs.declared.site.Site.{Ghosts}
 use Rattle.page_cache.specs.Giving.{Cache}
 use Rattle.script_lang.specs.Reading.{Reading, ready, to_come, whole_with}
 use Rattle.script_lang.specs.declared.command.Command.{Command}
-use Rattle.plain_machine.specs.World.{World}
+use Rattle.spec_machine.specs.World.{World}
 use Rattle.cube_state.specs.Stops.{IsNoDamage, StopCause}
 use Rattle.cube_session.specs.declared.held.Held.{Held}
 use Rattle.cube_state.specs.declared.stop.Stop.{Stop}

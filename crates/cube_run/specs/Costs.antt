@@ -2,8 +2,8 @@
 use Rattle.std.specs.Prelude.{ℕ, List}
 use Rattle.script_lang.specs.declared.command.Command.{Command}
 use Rattle.site_core.specs.declared.site.Site.{Ghosts}
-use Rattle.kept_worlds.specs.Keeps.{HasFormat}
-use Rattle.plain_machine.specs.World.{Kept, bare}
+use Rattle.spec_crash.specs.Keeps.{HasFormat}
+use Rattle.spec_machine.specs.World.{Kept, bare}
 use Rattle.cube_state.specs.Commands.{CostTogether}
 use Rattle.cube_state.specs.Costs.{Cost, Spends, both}
 use Rattle.cube_state.specs.Moves.{unmoved}

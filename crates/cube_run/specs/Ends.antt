@@ -2,8 +2,8 @@
 use Rattle.std.specs.Prelude.{◌≡◌, ℕ, Option, Some, None, IfSome, Result, Ok, Err}
 use Rattle.site_core.specs.Causes.{RoseOnce}
 use Rattle.site_core.specs.declared.site.Site.{Ghosts}
-use Rattle.cube_words.specs.declared.words.WordsStop.{WordsStop}
-use Rattle.cube_words.specs.declared.words.WordsStop.TheVariants as words
+use Rattle.cube_args.specs.declared.words.WordsStop.{WordsStop}
+use Rattle.cube_args.specs.declared.words.WordsStop.TheVariants as words
 use Rattle.cube_state.specs.Stops.{IsNoDamage}
 use Rattle.cube_state.specs.declared.stop.Stop.{Stop}
 use Rattle.cube_state.specs.declared.stop.Stop.TheVariants as stops

@@ -5,10 +5,10 @@ use Rattle.site_core.specs.Calls.{TellsFront}
 use Rattle.site_core.specs.Moments.{LeavesOnly}
 use Rattle.script_lang.specs.Script.{commands, whole}
 use Rattle.script_lang.specs.declared.command.Command.{Command}
-use Rattle.plain_machine.specs.World.{World}
-use Rattle.kept_worlds.specs.Keeps.{HasFormat, Keeps}
-use Rattle.plain_machine.specs.Stages.{replies_from, replies, final}
-use Rattle.kept_worlds.specs.Stops.{AfterStop}
+use Rattle.spec_machine.specs.World.{World}
+use Rattle.spec_crash.specs.Keeps.{HasFormat, Keeps}
+use Rattle.spec_machine.specs.Stages.{replies_from, replies, final}
+use Rattle.spec_crash.specs.Stops.{AfterStop}
 use Rattle.cube_state.specs.Moves.{FromFormat, HasMovedTo, KeepsFormat, Reached, reached_from}
 use Rattle.cube_run.specs.declared.exit.Status.{Status}
 use Rattle.cube_run.specs.declared.exit.Status.TheVariants.{Done, Input, TooLong}

@@ -2,8 +2,8 @@
 use Rattle.std.specs.Prelude.{◌≡◌, ◌⊎◌, ℕ, List}
 use Rattle.site_core.specs.Disk.{Disk}
 use Rattle.site_core.specs.Moments.{HoldsNow, LeavesOnly}
-use Rattle.plain_machine.specs.World.{Kept}
-use Rattle.kept_worlds.specs.Stops.{GoesOnOnce}
+use Rattle.spec_machine.specs.World.{Kept}
+use Rattle.spec_crash.specs.Stops.{GoesOnOnce}
 use Rattle.cube_run.specs.declared.exit.Status.{Status}
 use Rattle.cube_run.specs.Headline.{HasOpened}
 

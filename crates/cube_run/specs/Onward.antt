@@ -4,8 +4,8 @@ use Rattle.site_core.specs.Disk.{Files}
 use Rattle.site_core.specs.Moments.{LeavesOnly}
 use Rattle.site_core.specs.declared.site.Site.{Ghosts}
 use Rattle.script_lang.specs.declared.command.Command.{Command}
-use Rattle.plain_machine.specs.World.{World}
-use Rattle.kept_worlds.specs.Stops.{AfterStop, Carried}
+use Rattle.spec_machine.specs.World.{World}
+use Rattle.spec_crash.specs.Stops.{AfterStop, Carried}
 use Rattle.cube_state.specs.Commands.{CostTogether}
 use Rattle.cube_state.specs.Costs.{Cost, Spends}
 use Rattle.cube_state.specs.Moves.{KeepsFormat, Reached, reached_from}

@@ -7,9 +7,9 @@ use Rattle.site_core.specs.declared.source.Source.{Ghosts as Sources}
 use Rattle.forest_open.specs.Breaks.{BreaksAt}
 use Rattle.forest_open.specs.Opening.{Place}
 use Rattle.script_lang.specs.Script.{commands}
-use Rattle.cube_words.specs.Words.{AreValid}
-use Rattle.kept_worlds.specs.Keeps.{Keeps}
-use Rattle.plain_machine.specs.World.{Kept, bare}
+use Rattle.cube_args.specs.Words.{AreValid}
+use Rattle.spec_crash.specs.Keeps.{Keeps}
+use Rattle.spec_machine.specs.World.{Kept, bare}
 use Rattle.cube_state.specs.Moves.{FromFormat}
 use Rattle.cube_run.specs.Costs.{CostsRun}
 use Rattle.cube_run.specs.Damage.{EndsAt, EndsForBreak}

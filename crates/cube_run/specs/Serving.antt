@@ -4,7 +4,7 @@ use Rattle.site_core.specs.Disk.{Disk}
 use Rattle.site_core.specs.declared.site.Site.{Ghosts as Sites}
 use Rattle.site_core.specs.declared.source.Source.{Ghosts as Sources}
 use Rattle.script_lang.specs.Script.{commands}
-use Rattle.plain_machine.specs.World.{World}
+use Rattle.spec_machine.specs.World.{World}
 use Rattle.cube_state.specs.Moves.{Reached}
 use Rattle.cube_session.specs.declared.held.Held.{Held}
 use Rattle.cube_session.specs.Session.{StandsFor, reached_for}

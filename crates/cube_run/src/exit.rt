@@ -2,8 +2,8 @@
 ghost use Rattle.std.specs.Prelude.{◌≡◌};
 ghost use Rattle.cube_run.specs.Ends.{code_of, status_of, words_status};
 
+use cube_args::WordsStop;
 use cube_state::Stop;
-use cube_words::WordsStop;
 use fact_model::Memory;
 use std::alloc::AllocError;
 

@@ -5,11 +5,11 @@ ghost use Rattle.cube_run.specs.Runs.{RunsScript};
 
 use crate::exit::Status;
 use crate::serve::serve;
+use cube_args::cache_of;
 use cube_session::Session;
-use cube_words::cache_of;
-use hash_seed::Seed;
 use site_core::{Site, Source};
 use std::alloc::Global;
+use text_hash::Seed;
 
 /// Runs a script within a limit of bytes, or tells what ended the run: the words are read, the files opened, and the script served.
 pub fn attempt<S: Source, T: Site>(

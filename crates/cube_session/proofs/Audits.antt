@@ -1,7 +1,7 @@
 -- An audit is carried out.
 use Rattle.cube_session.proofs.Names.{Answer, Cache, CarriesOut, Command, Cost, Err, Files, Fits, Ghosts, Global, GoesTo, IsReadyFor, IsTrue, List, Ok, Reply, Spends, State, Stop, Vec, World}
 use Rattle.cube_session.proofs.Names.{act, ap, arith, kept_same, live_file, live_of, refl, spares_none, subst, sym, ℕ, ◌∙◌, ◌≡◌}
-use Rattle.plain_machine.proofs.Acts.{act_audit}
+use Rattle.spec_machine.proofs.Acts.{act_audit}
 use Rattle.site_core.specs.Calls.{Rests, Stays}
 use Rattle.site_core.proofs.Run.{Settles-ok}
 use Rattle.cube_state.specs.Audits.{audit_cost}

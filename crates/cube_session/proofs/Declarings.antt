@@ -1,5 +1,5 @@
 -- A schema is declared in files that keep none.
-use Rattle.kept_worlds.specs.Keeps.{IsFrom}
+use Rattle.spec_crash.specs.Keeps.{IsFrom}
 use Rattle.cube_session.proofs.Names.{declared_text, Vec, Global, Result, List, sym, subst, ap, Some, ◌∙◌, None, ◌≡◌, ℕ, [], inr, refl, arith, Bool, true, cond, inl, Ok, IsTrue, Err, IfErr, ◌⊎◌}
 use Rattle.cube_session.proofs.Names.{IfOk, OnOk, nat_lt, IsErrOf, IsErrAnd, wider, stable_holds, HasCauseWhere, CallsOnly, IsStable, LeavesOnly, Ghosts, IsSchema, schema_of, Schema, SchemaRefusal}
 use Rattle.cube_session.proofs.Names.{Cache, Keeps, none_accepted, InitStop, KeepsNothing, Store, KeepsFacts, IsOpened, IsStoreOf, IsWhole, Whole, Command, line, act_schema, IsLawful, Answer, act}

@@ -9,14 +9,14 @@ use Rattle.cube_state.specs.Carried.{CarriesOutWith, Syncs}
 use Rattle.cube_state.specs.Levels.{FitSchema}
 use Rattle.cube_state.specs.Visits.{schema_of}
 use Rattle.cube_state.proofs.Levels.{fit_behind, schema_stands}
-use Rattle.plain_machine.proofs.Levels.{act_levels}
-use Rattle.plain_machine.specs.Machine.{levels_behind}
+use Rattle.spec_machine.proofs.Levels.{act_levels}
+use Rattle.spec_machine.specs.Machine.{levels_behind}
 use Rattle.roll_up.specs.declared.level.Level.{Level}
 use Rattle.cube_state.specs.Moves.{KeepsFormat, Reached, format_of, format_told, reached_behind, reached_by}
 use Rattle.cube_state.proofs.Moves.{format_past, format_untold, format_within, reached_more, stands_known}
 use Rattle.cube_state.proofs.Standing.{stands_from}
 use Rattle.page_fmt.specs.Formats.{wide_format}
-use Rattle.kept_worlds.specs.Keeps.{IsFrom}
+use Rattle.spec_crash.specs.Keeps.{IsFrom}
 use Rattle.std.proofs.Common.{Bool, false, inl, length-take, nat_lt, true, ◌∷◌, ◌+◌, ◌<◌, ◌≤◌, ◌⊎◌}
 use Rattle.std.proofs.lemmas.Bool.Decides.{nat_tests}
 

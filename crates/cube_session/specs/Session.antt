@@ -11,11 +11,11 @@ use Rattle.forest_root.specs.declared.body.Body.{Body}
 use Rattle.forest_root.specs.declared.forest.Store.{Store}
 use Rattle.page_cache.specs.Giving.{Cache}
 use Rattle.script_lang.specs.declared.command.Command.{Command}
-use Rattle.kept_worlds.specs.Keeps.{Keeps}
-use Rattle.plain_machine.specs.Machine.{act, levels_behind}
+use Rattle.spec_crash.specs.Keeps.{Keeps}
+use Rattle.spec_machine.specs.Machine.{act, levels_behind}
 use Rattle.roll_up.specs.declared.level.Level.{Level}
-use Rattle.kept_worlds.specs.Stops.{Meanwhile}
-use Rattle.plain_machine.specs.World.{Kept, World, bare}
+use Rattle.spec_crash.specs.Stops.{Meanwhile}
+use Rattle.spec_machine.specs.World.{Kept, World, bare}
 use Rattle.cube_state.specs.Cached.{KeepsUp, Saves, kept_over, live_file, live_of}
 use Rattle.cube_state.specs.Audits.{open_cost}
 use Rattle.cube_state.specs.Carried.{IsReadyFor, MayWrite, Spares, Syncs}

@@ -6,10 +6,10 @@ ghost use Rattle.cube_session.specs.Auditing.{Audits};
 use cube_state::Stop;
 use fact_model::Memory;
 use forest_audit::{AuditStop, Verdict};
-use hash_seed::Seed;
 use reply_text::{broken, plain};
 use site_core::Site;
 use std::alloc::Global;
+use text_hash::Seed;
 
 /// Opens the files anew and audits them, and gives the line of the verdict. Damage is the verdict, and no error: an error is that a file failed
 /// or memory ran out. Nothing is written.

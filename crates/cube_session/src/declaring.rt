@@ -6,10 +6,10 @@ ghost use Rattle.script_lang.specs.declared.command.Command.TheVariants as says;
 use crate::answering::plain;
 use cube_schema::Schema;
 use cube_state::{State, Stop};
-use hash_seed::Seed;
 use script_lang::Block;
 use site_core::Site;
 use std::alloc::Global;
+use text_hash::Seed;
 
 /// Declares the schema of a block where there is none, or refuses it. An error ends the session: a file failed, or memory ran out; then
 /// the schema is declared or is not.

@@ -1,6 +1,6 @@
 //! Commands are carried out over the files, up to their replies, which are not told yet.
 ghost use Rattle.std.specs.Prelude.{◌≡◌, OnOk};
-ghost use Rattle.plain_machine.specs.Machine.{levels_behind};
+ghost use Rattle.spec_machine.specs.Machine.{levels_behind};
 ghost use Rattle.cube_state.specs.Carried.{CarriesOutWith, IsReadyFor};
 ghost use Rattle.cube_state.specs.Levels.{FitSchema};
 ghost use Rattle.cube_state.specs.Visits.{schema_of};
@@ -12,12 +12,12 @@ use crate::held::Held;
 use cube_batches::{abandon, begin, finish, load, step, upgrade};
 use cube_slices::{explain, level, rollup, slice, sql};
 use cube_state::Stop;
-use hash_seed::Seed;
 use page_cache::Pages;
-use plain_machine::BatchSource;
 use script_lang::Command;
 use site_core::Site;
+use spec_machine::BatchSource;
 use std::alloc::Global;
+use text_hash::Seed;
 
 /// Carries out a command, and gives its reply. A stop at any moment leaves what was known before it or is known behind it, and so does
 /// an error, which ends the session. Damage leaves the names and the pages that count as they were.

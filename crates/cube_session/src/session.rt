@@ -7,12 +7,12 @@ use crate::held::Held;
 use crate::machine::act;
 use cube_state::{State, Stop};
 use forest_root::Store;
-use hash_seed::Seed;
 use page_cache::Pages;
 use roll_up::LevelList;
 use script_lang::Command;
 use site_core::{Fault, Site};
 use std::alloc::Global;
+use text_hash::Seed;
 
 /// The warehouse between two commands of a script.
 #[derive(Drop)]

@@ -3,9 +3,9 @@ ghost use Rattle.std.specs.Prelude.{◌≤◌, ◌^◌, map, string_bytes};
 ghost use Rattle.cube_run.specs.Runs.{RunsScript};
 
 use cube_run::{Status, attempt};
-use hash_seed::Seed;
 use site_core::{Site, Source};
 use std::alloc::Global;
+use text_hash::Seed;
 
 /// The most bytes of a script.
 const SCRIPT_LIMIT: u64 = 1 << 30;

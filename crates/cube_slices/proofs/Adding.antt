@@ -10,12 +10,12 @@ use Rattle.fact_model.specs.declared.fact.Fact.{Fact}
 use Rattle.fact_model.specs.declared.slice.Column.{Column}
 use Rattle.fact_model.specs.declared.slice.Column.TheVariants.{Count, Sum, Min, Max}
 use Rattle.fact_model.specs.declared.slice.Slice.{Slice}
-use Rattle.kept_forest.proofs.Schemas.{few_measures}
-use Rattle.kept_forest.specs.Held.{AreAccepted}
+use Rattle.spec_store.proofs.Schemas.{few_measures}
+use Rattle.spec_store.specs.Held.{AreAccepted}
 use Rattle.row_fold.proofs.Adding.{rows-add}
 use Rattle.row_fold.specs.Folds.{KeepsMass}
 use Rattle.slice_lang.specs.Agreeing.{SliceAgrees, is_column}
-use Rattle.view_points.proofs.Members.{All-from_every, all-every, every-map}
+use Rattle.spec_points.proofs.Members.{All-from_every, all-every, every-map}
 
 module _ (schema : Schema) (lawful : IsSchema schema) (facts : List Fact) (fine : AreAccepted schema facts) where
   keeps : (c : Column) → is_column (measure_count schema) c ≡ true → KeepsMass facts c

@@ -8,8 +8,8 @@ use Rattle.cube_slices.proofs.Folding.{IsFolding, fold_carries}
 use Rattle.cube_state.specs.Folds.{AreFolded, FindsFor, FoldTells, GivesQuery, IsSpoiltFold, QueryGives, records_found}
 use Rattle.cube_state.specs.Slices.{AreRowsIn}
 use Rattle.fact_model.specs.Adds.{AddUp}
-use Rattle.plain_machine.proofs.Acts.{act_sql}
-use Rattle.plain_machine.specs.Machine.{queried, query_over, query_reply}
+use Rattle.spec_machine.proofs.Acts.{act_sql}
+use Rattle.spec_machine.specs.Machine.{queried, query_over, query_reply}
 use Rattle.slice_lang.specs.Agreeing.{SliceAgrees}
 use Rattle.sql_lang.specs.Agreeing.{SqlAgrees}
 use Rattle.sql_lang.specs.Reading.{query_of}

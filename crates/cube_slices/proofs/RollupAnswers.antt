@@ -9,8 +9,8 @@ use Rattle.cube_schema.specs.Kinds.{arity}
 use Rattle.cube_state.specs.Folds.{FoldTells, GivesRolled, IsSpoiltFold, RollupGives}
 use Rattle.cube_state.specs.Slices.{AreRowsIn}
 use Rattle.fact_model.specs.Adds.{AddUp}
-use Rattle.plain_machine.proofs.Acts.{act_rollup}
-use Rattle.plain_machine.specs.Machine.{base_slice, rolled_from, rollup_over, rollup_reply}
+use Rattle.spec_machine.proofs.Acts.{act_rollup}
+use Rattle.spec_machine.specs.Machine.{base_slice, rolled_from, rollup_over, rollup_reply}
 use Rattle.roll_up.proofs.Answered.{lifted-answer}
 use Rattle.roll_up.specs.Levels.{Fit, extended, lift}
 use Rattle.roll_up.specs.Lifted.{rolled_up}
@@ -25,7 +25,7 @@ use Rattle.std.proofs.lemmas.Slice.Zip.{AllZip-long}
 use Rattle.std.specs.List.{All}
 use Rattle.roll_up.specs.Lifted as lifted
 use Rattle.view_rows.specs.Grouped as grouped
-use Rattle.view_points.specs.Agree.{is_text}
+use Rattle.spec_points.specs.Agree.{is_text}
 use Rattle.view_rows.specs.Regions.{is_word}
 
 pub rollup_asks : (text : List ℕ) → IsAsking (Command.Rollup text)

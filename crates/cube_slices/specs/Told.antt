@@ -16,7 +16,7 @@ use Rattle.slice_exec.specs.declared.stop.AnswerStop.{AnswerStop}
 use Rattle.slice_exec.specs.declared.stop.AnswerStop.TheVariants as answers
 use Rattle.sql_slice.specs.RowFold.{IsWide}
 use Rattle.sql_slice.specs.declared.planned.Plan.{Plan}
-use Rattle.plain_machine.specs.Machine.{is_covered}
+use Rattle.spec_machine.specs.Machine.{is_covered}
 use Rattle.cube_state.specs.Carried.{CarriesOut, CarriesOutWith, IsReadyFor, Reply}
 use Rattle.cube_state.specs.Visits.{store_of}
 use Rattle.cube_state.specs.declared.state.State.{State}

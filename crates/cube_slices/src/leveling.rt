@@ -4,18 +4,18 @@ ghost use Rattle.cube_schema.specs.Lawful.{IsSchema};
 ghost use Rattle.roll_up.specs.Levels.{Fit};
 ghost use Rattle.roll_up.specs.Reading.{level_of};
 ghost use Rattle.script_lang.specs.declared.command.Command.TheVariants as says;
-ghost use Rattle.plain_machine.specs.Machine.{level_by, level_read, level_reply, levels_behind, read_reply};
+ghost use Rattle.spec_machine.specs.Machine.{level_by, level_read, level_reply, levels_behind, read_reply};
 ghost use Rattle.cube_state.specs.Levels.{FitSchema, leveled_by};
 ghost use Rattle.cube_state.specs.Visits.{schema_of, store_of};
 
 use cube_schema::Schema;
 use cube_state::{State, Stop};
 use fact_model::{Memory, Text};
-use hash_seed::Seed;
 use reply_text::{leveled, plain, refused_level};
 use roll_up::{LevelList, read_level};
 use script_lang::Block;
 use std::alloc::Global;
+use text_hash::Seed;
 
 /// Puts the level of this name, over the attribute of that name, behind the others, or refuses it by the first reason against it. The files
 /// are not asked. An error is want of memory.

@@ -4,7 +4,7 @@ ghost use Rattle.roll_up.specs.Levels.{Fit, extended};
 ghost use Rattle.script_lang.specs.declared.command.Command.TheVariants as says;
 ghost use Rattle.slice_lang.specs.Agreeing.{SliceAgrees};
 ghost use Rattle.slice_lang.specs.Reading.{slice_of};
-ghost use Rattle.plain_machine.specs.Machine.{base_slice};
+ghost use Rattle.spec_machine.specs.Machine.{base_slice};
 ghost use Rattle.cube_state.specs.Carried.{CarriesOutWith, IsReadyFor};
 ghost use Rattle.cube_state.specs.Levels.{FitSchema};
 ghost use Rattle.cube_state.specs.Visits.{schema_of};

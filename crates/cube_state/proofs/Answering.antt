@@ -4,8 +4,8 @@ use Rattle.site_core.specs.Disk.{Files, Disk}
 use Rattle.site_core.proofs.Run.{each_moment, started}
 use Rattle.site_core.specs.Calls.{Rests, Stays, TellsNothing}
 use Rattle.site_core.specs.Moments.{Elapses}
-use Rattle.plain_machine.specs.World.{World}
-use Rattle.kept_worlds.specs.Keeps.{IsFrom, Keeps}
+use Rattle.spec_machine.specs.World.{World}
+use Rattle.spec_crash.specs.Keeps.{IsFrom, Keeps}
 use Rattle.cube_state.specs.declared.state.State.{State}
 use Rattle.cube_state.specs.Session.{IsFit, Stands, Between, KeepsEither}
 use Rattle.cube_state.specs.Moves.{format_of}

@@ -5,12 +5,12 @@ use Rattle.forest_audit.specs.Cost.{CostsAudit}
 use Rattle.forest_audit.proofs.States.{state-answered}
 use Rattle.forest_open.specs.Opening.{names_pages}
 use Rattle.forest_root.specs.declared.forest.Store.{Store}
-use Rattle.kept_forest.specs.Held.{names_text}
-use Rattle.kept_forest.specs.Sides.{page_count}
-use Rattle.kept_forest.proofs.Standing.{live_keeps}
-use Rattle.kept_worlds.specs.Keeps.{Keeps}
-use Rattle.plain_machine.specs.Machine.{audit_over}
-use Rattle.plain_machine.specs.World.{Kept, Warehouse, World}
+use Rattle.spec_store.specs.Held.{names_text}
+use Rattle.spec_store.specs.Sides.{page_count}
+use Rattle.spec_store.proofs.Standing.{live_keeps}
+use Rattle.spec_crash.specs.Keeps.{Keeps}
+use Rattle.spec_machine.specs.Machine.{audit_over}
+use Rattle.spec_machine.specs.World.{Kept, Warehouse, World}
 use Rattle.site_core.specs.Disk.{Disk, Files}
 use Rattle.cube_state.specs.Audits.{AuditGives, audit_cost, verdict_text}
 use Rattle.cube_state.specs.Moves.{format_of}

@@ -5,21 +5,21 @@ use Rattle.cube_state.specs.Costs.{Spends, free}
 use Rattle.cube_state.specs.Moves.{batch_moves, format_behind, format_with, moves_over, pending_moves}
 use Rattle.cube_state.specs.Session.{AttendsAs}
 use Rattle.fact_model.specs.declared.fact.Fact.{Fact}
-use Rattle.forest_moves.specs.Forest.{forest_moves}
-use Rattle.forest_bytes.proofs.Scanned.{forest-long}
+use Rattle.spec_moves.specs.Forest.{forest_moves}
+use Rattle.spec_forest.proofs.Scanned.{forest-long}
 use Rattle.view_route.specs.Counts.{body_counts}
 use Rattle.forest_refresh.specs.Begun.{Begun}
 use Rattle.forest_root.specs.Forest.{pages_of_all}
-use Rattle.kept_forest.proofs.Storable.{storable}
-use Rattle.kept_forest.specs.Held.{format_for}
-use Rattle.kept_forest.specs.Sides.{page_count, page_total}
-use Rattle.packing.proofs.Moves.{reads-more, written-more}
-use Rattle.packing.specs.Moves.{KeepsTo, Move}
-use Rattle.plain_machine.proofs.Acts.{act_finish}
-use Rattle.plain_machine.specs.Histories.{batch_pending, batch_with}
-use Rattle.plain_machine.specs.Machine.{act, committed, pending_over}
-use Rattle.plain_machine.specs.Stages.{makes_stage, size}
-use Rattle.plain_machine.specs.World.{Knows, Warehouse, World}
+use Rattle.spec_store.proofs.Storable.{storable}
+use Rattle.spec_store.specs.Held.{format_for}
+use Rattle.spec_store.specs.Sides.{page_count, page_total}
+use Rattle.spec_tree.proofs.Moves.{reads-more, written-more}
+use Rattle.spec_tree.specs.Moves.{KeepsTo, Move}
+use Rattle.spec_machine.proofs.Acts.{act_finish}
+use Rattle.spec_machine.specs.Histories.{batch_pending, batch_with}
+use Rattle.spec_machine.specs.Machine.{act, committed, pending_over}
+use Rattle.spec_machine.specs.Stages.{makes_stage, size}
+use Rattle.spec_machine.specs.World.{Knows, Warehouse, World}
 use Rattle.select_map.specs.Views.{selected}
 use Rattle.site_core.specs.declared.site.Site.{Ghosts}
 use Rattle.std.proofs.Common.{List, None, Option, Some, [], ap, arith, cond, length, length-append, min, refl, subst, sym, true, ℕ, ◌++◌, ◌+◌, ◌-◌, ◌/◌, ◌<◌, ◌∙◌, ◌∷◌, ◌≡◌, ◌≤◌}

@@ -6,7 +6,7 @@ use Rattle.site_core.specs.Disk.{DiffersPast, Files}
 use Rattle.page_fmt.specs.InFiles.{IsPageOf}
 use Rattle.forest_refresh.specs.Begun.{next_side}
 use Rattle.forest_root.specs.declared.body.Body.{Body}
-use Rattle.kept_forest.specs.Sides.{side_of}
+use Rattle.spec_store.specs.Sides.{side_of}
 use Rattle.page_cache.specs.Giving.{Cache, Name}
 use Rattle.page_cache.specs.Keeping.{Agrees, LiesIn}
 use Rattle.cube_state.specs.Cached.{AreLive, FitsLive, SideStays, emptied, generation, kept_over, live_file}

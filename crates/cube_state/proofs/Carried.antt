@@ -6,8 +6,8 @@ use Rattle.site_core.specs.declared.site.Site.{Ghosts}
 use Rattle.page_cache.specs.Giving.{Cache}
 use Rattle.roll_up.specs.declared.level.Level.{Level}
 use Rattle.script_lang.specs.declared.command.Command.{Command}
-use Rattle.plain_machine.specs.Machine.{Answer, act}
-use Rattle.plain_machine.specs.World.{Knows, World}
+use Rattle.spec_machine.specs.Machine.{Answer, act}
+use Rattle.spec_machine.specs.World.{Knows, World}
 use Rattle.cube_state.specs.declared.state.State.{State}
 use Rattle.cube_state.specs.declared.stop.Stop.{Stop}
 use Rattle.cube_state.specs.declared.stop.Stop.TheVariants as stops

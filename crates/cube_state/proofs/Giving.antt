@@ -1,6 +1,6 @@
 -- Each reply that a command gives has a byte.
 use Rattle.cube_state.specs.declared.state.State.{State}
-use Rattle.plain_machine.specs.World.{bare}
+use Rattle.spec_machine.specs.World.{bare}
 use Rattle.script_lang.specs.declared.command.Command.{Command}
 use Rattle.site_core.specs.Disk.{Files}
 use Rattle.std.proofs.Common.{◌≡◌, ◌<◌, ℕ, inl, inr, List, [], ◌∷◌, length, map, Option, Some, None, Result, Ok, Err, codes, decimal, sym, subst}
@@ -19,10 +19,10 @@ use Rattle.reply_text.specs.Replies.{abandoned_text, audited_text, begun_text, i
 use Rattle.script_lang.specs.declared.command.Command.TheVariants as says
 use Rattle.slice_lang.specs.declared.refusal.SliceRefusal.{SliceRefusal}
 use Rattle.slice_lang.specs.Reading.{slice_of}
-use Rattle.plain_machine.specs.declared.batch_source.BatchSource.{BatchSource}
-use Rattle.plain_machine.specs.declared.batch_source.BatchSource.TheVariants.{Rows, Numbered, Generator}
-use Rattle.plain_machine.specs.Machine.{Given}
-use Rattle.plain_machine.proofs.Acts.{HasByte, HasReply, answer_some, behind, declare_some, explained_some, level_reply_some, query_refused_some, records_some, refused_some, some_line, some_number, source_has}
+use Rattle.spec_machine.specs.declared.batch_source.BatchSource.{BatchSource}
+use Rattle.spec_machine.specs.declared.batch_source.BatchSource.TheVariants.{Rows, Numbered, Generator}
+use Rattle.spec_machine.specs.Machine.{Given}
+use Rattle.spec_machine.proofs.Acts.{HasByte, HasReply, answer_some, behind, declare_some, explained_some, level_reply_some, query_refused_some, records_some, refused_some, some_line, some_number, source_has}
 use Rattle.cube_state.specs.declared.state.State.TheVariants.{Empty, Idle, Hollow, Pending}
 use Rattle.cube_state.specs.Batches.{GivesBatch, GivesBegun, GivesGiven, IsRefused, LoadGives, given_to, pending_line, refusal_text}
 use Rattle.cube_state.specs.Commands.{Gives}

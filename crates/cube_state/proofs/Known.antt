@@ -19,9 +19,9 @@ use Rattle.view_route.specs.Counts.{body_counts}
 use Rattle.forest_refresh.specs.Begun.{batch_size}
 use Rattle.forest_root.specs.declared.forest.Store.{Store}
 use Rattle.page_cache.specs.Giving.{Cache}
-use Rattle.plain_machine.proofs.Acts.{act_explain, act_level, act_long_line, act_open_block, act_schema, act_status, act_unknown}
-use Rattle.plain_machine.specs.Machine.{Answer, declare_over, explain_over, explain_reply, level_over, level_reply, schema_in, status_over, status_text}
-use Rattle.plain_machine.specs.World.{Kept, Knows, Warehouse, World, bare}
+use Rattle.spec_machine.proofs.Acts.{act_explain, act_level, act_long_line, act_open_block, act_schema, act_status, act_unknown}
+use Rattle.spec_machine.specs.Machine.{Answer, declare_over, explain_over, explain_reply, level_over, level_reply, schema_in, status_over, status_text}
+use Rattle.spec_machine.specs.World.{Kept, Knows, Warehouse, World, bare}
 use Rattle.reply_text.specs.Replies.{facts_text, is_declared, is_unknown, line, long_line, no_schema, open_block, pending_text}
 use Rattle.script_lang.specs.declared.command.Block.{Block}
 use Rattle.script_lang.specs.declared.command.Command.{Command}

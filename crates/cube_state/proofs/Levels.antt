@@ -12,8 +12,8 @@ use Rattle.script_lang.specs.declared.command.Block.{Block}
 use Rattle.script_lang.specs.declared.command.Block.TheVariants.{Whole, Long}
 use Rattle.script_lang.specs.declared.command.Command.{Command}
 use Rattle.script_lang.specs.declared.command.Command.TheVariants as says
-use Rattle.plain_machine.specs.Machine.{level_by, level_read, levels_behind, schema_in}
-use Rattle.plain_machine.specs.World.{World}
+use Rattle.spec_machine.specs.Machine.{level_by, level_read, levels_behind, schema_in}
+use Rattle.spec_machine.specs.World.{World}
 use Rattle.site_core.specs.Disk.{Disk}
 use Rattle.cube_state.specs.Levels.{FitSchema}
 use Rattle.cube_state.specs.Visits.{schema_from, schema_of, store_of}

@@ -11,17 +11,17 @@ use Rattle.fact_model.specs.declared.fact.Fact.{Fact}
 use Rattle.forest_open.proofs.Openings.{mass_past}
 use Rattle.forest_refresh.specs.Limits.{TellsLimit}
 use Rattle.forest_refresh.specs.declared.stop.BeginStop.{BeginStop}
-use Rattle.kept_forest.proofs.Schemas.{few_measures}
-use Rattle.kept_forest.specs.Held.{AreAccepted, HasNames}
-use Rattle.plain_machine.specs.Machine.{fact_limit, first_full, first_heavy, full_refusal, heavy_refusal, refusal_of}
-use Rattle.plain_machine.specs.World.{Warehouse}
+use Rattle.spec_store.proofs.Schemas.{few_measures}
+use Rattle.spec_store.specs.Held.{AreAccepted, HasNames}
+use Rattle.spec_machine.specs.Machine.{fact_limit, first_full, first_heavy, full_refusal, heavy_refusal, refusal_of}
+use Rattle.spec_machine.specs.World.{Warehouse}
 use Rattle.std.proofs.Common.{Bool, List, None, Option, Some, [], ap, append-nil, arith, cond, false, get_or, inl, inr, length, refl, subst, suc, sym, true, zero, ℕ, ◌++◌, ◌+◌, ◌<◌, ◌∙◌, ◌∷◌, ◌≡◌, ◌≤◌}
 use Rattle.std.proofs.lemmas.Bool.{cases_Bool}
 use Rattle.std.proofs.lemmas.Bool.Decides.{nat_tests}
 use Rattle.std.proofs.lemmas.List.{length-map}
 use Rattle.std.specs.List.{All}
 use Rattle.std.specs.Prelude.{nat_le, nat_lt}
-use Rattle.view_points.specs.Codes.{names_of}
+use Rattle.spec_points.specs.Codes.{names_of}
 use Rattle.forest_refresh.specs.declared.stop.BeginStop.TheVariants as begins
 
 -- ---- the first of some items that passes

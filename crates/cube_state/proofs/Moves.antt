@@ -4,22 +4,22 @@ use Rattle.std.proofs.lemmas.Bool.Decides.{nat_tests}
 use Rattle.site_core.specs.Disk.{Disk, Files}
 use Rattle.cube_schema.specs.declared.schema.Schema.{Schema}
 use Rattle.fact_model.specs.declared.fact.Fact.{Fact}
-use Rattle.packing.specs.Moves.{written}
-use Rattle.forest_moves.specs.Forest.{bytes_after, forest_moves}
+use Rattle.spec_tree.specs.Moves.{written}
+use Rattle.spec_moves.specs.Forest.{bytes_after, forest_moves}
 use Rattle.forest_root.specs.Live.{IsLiveBody}
 use Rattle.forest_root.specs.declared.body.Body.{Body}
-use Rattle.kept_forest.specs.Held.{IsLive, format_for}
+use Rattle.spec_store.specs.Held.{IsLive, format_for}
 use Rattle.forest_refresh.specs.Begun.{Begun, next_side}
-use Rattle.plain_machine.specs.Histories.{Batch, batch_by}
-use Rattle.kept_worlds.specs.Keeps.{HasFormat}
-use Rattle.plain_machine.specs.Machine.{act}
-use Rattle.plain_machine.specs.Stages.{makes_stage, size}
-use Rattle.plain_machine.specs.World.{Kept, Knows, Warehouse, World}
+use Rattle.spec_machine.specs.Histories.{Batch, batch_by}
+use Rattle.spec_crash.specs.Keeps.{HasFormat}
+use Rattle.spec_machine.specs.Machine.{act}
+use Rattle.spec_machine.specs.Stages.{makes_stage, size}
+use Rattle.spec_machine.specs.World.{Kept, Knows, Warehouse, World}
 use Rattle.script_lang.specs.declared.command.Command.{Command}
 use Rattle.script_lang.specs.declared.command.Command.TheVariants as says
 use Rattle.page_fmt.specs.Formats.{wide_format}
-use Rattle.plain_machine.proofs.Acts.{reply_some}
-use Rattle.kept_forest.proofs.Formats.{format-later}
+use Rattle.spec_machine.proofs.Acts.{reply_some}
+use Rattle.spec_store.proofs.Formats.{format-later}
 use Rattle.cube_state.specs.Cached.{live_of}
 use Rattle.cube_state.specs.Moves.{HasMovedTo, HasPagesOver, Reached, format_behind, format_in, format_of, format_told, format_upgraded, format_with, moves_made, reached_behind, reached_by}
 use Rattle.cube_state.specs.Session.{Attends, Stands}

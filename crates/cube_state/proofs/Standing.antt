@@ -12,12 +12,12 @@ use Rattle.forest_root.specs.Root.{IsShut, RootIsStable}
 use Rattle.forest_root.specs.declared.body.Body.{Body}
 use Rattle.forest_commit.specs.Commit.{slot_of}
 use Rattle.forest_root.specs.declared.forest.Store.{Store}
-use Rattle.kept_forest.specs.Held.{KeepsAs, KeepsFacts}
-use Rattle.kept_forest.specs.Opened.{HasRoot, IsOpened}
-use Rattle.kept_forest.specs.Stored.{IsStoreOf}
-use Rattle.kept_forest.proofs.Standing.{body_format, in_some, live_keeps}
-use Rattle.plain_machine.specs.World.{Kept, Knows, World, Warehouse}
-use Rattle.kept_worlds.specs.Keeps.{IsFrom, Keeps, KeepsWarehouse}
+use Rattle.spec_store.specs.Held.{KeepsAs, KeepsFacts}
+use Rattle.spec_store.specs.Opened.{HasRoot, IsOpened}
+use Rattle.spec_store.specs.Stored.{IsStoreOf}
+use Rattle.spec_store.proofs.Standing.{body_format, in_some, live_keeps}
+use Rattle.spec_machine.specs.World.{Kept, Knows, World, Warehouse}
+use Rattle.spec_crash.specs.Keeps.{IsFrom, Keeps, KeepsWarehouse}
 use Rattle.cube_state.specs.declared.state.State.{State}
 use Rattle.cube_state.specs.declared.state.State.TheVariants.{Empty, Idle, Hollow, Pending}
 use Rattle.cube_state.specs.Moves.{format_of}

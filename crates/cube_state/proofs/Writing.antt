@@ -10,8 +10,8 @@ use Rattle.forest_root.specs.declared.body.Body.{Body}
 use Rattle.page_cache.specs.Giving.{Cache}
 use Rattle.roll_up.specs.declared.level.Level.{Level}
 use Rattle.script_lang.specs.declared.command.Command.{Command}
-use Rattle.plain_machine.specs.Machine.{act, asked_by, asked_over}
-use Rattle.plain_machine.specs.World.{Kept, World}
+use Rattle.spec_machine.specs.Machine.{act, asked_by, asked_over}
+use Rattle.spec_machine.specs.World.{Kept, World}
 use Rattle.cube_state.specs.declared.state.State.{State}
 use Rattle.cube_state.specs.declared.stop.Stop.{Stop}
 use Rattle.cube_state.specs.Cached.{Fits, FitsLive, SideStays, emptied, generation, kept_over, live_of}

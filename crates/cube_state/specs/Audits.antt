@@ -5,8 +5,8 @@ use Rattle.forest_audit.specs.Verdicts.{IsVerdict}
 use Rattle.forest_audit.specs.declared.verdict.Verdict.{Verdict}
 use Rattle.forest_audit.specs.declared.verdict.Verdict.TheVariants as verdicts
 use Rattle.forest_open.specs.Opening.{names_pages}
-use Rattle.kept_forest.specs.Held.{names_text}
-use Rattle.plain_machine.specs.World.{Kept}
+use Rattle.spec_store.specs.Held.{names_text}
+use Rattle.spec_machine.specs.World.{Kept}
 use Rattle.reply_text.specs.Replies.{audited_text, broken_text, line, unopened}
 use Rattle.cube_state.specs.BatchCosts.{pages_over}
 use Rattle.cube_state.specs.Costs.{Cost}

@@ -1,17 +1,17 @@
 -- What the commands of a batch cost, and the schema.
 use Rattle.std.specs.Prelude.{◌+◌, ◌-◌, ℕ, Bool, false, cond, List, [], ◌∷◌, length, nat_lt, Option, Some, None}
 use Rattle.fact_model.specs.declared.fact.Fact.{Fact}
-use Rattle.packing.specs.Moves.{Move, reads_in, written}
+use Rattle.spec_tree.specs.Moves.{Move, reads_in, written}
 use Rattle.page_fmt.specs.Formats.{wide_format}
-use Rattle.forest_moves.specs.Forest.{forest_moves}
-use Rattle.kept_forest.specs.Sides.{page_count}
+use Rattle.spec_moves.specs.Forest.{forest_moves}
+use Rattle.spec_store.specs.Sides.{page_count}
 use Rattle.script_lang.specs.declared.command.Block.{Block}
 use Rattle.script_lang.specs.declared.command.Command.{Command}
 use Rattle.script_lang.specs.declared.command.Command.TheVariants as says
-use Rattle.plain_machine.specs.Histories.{Batch, batch_by}
-use Rattle.plain_machine.specs.Machine.{begin}
-use Rattle.plain_machine.specs.Stages.{makes_stage}
-use Rattle.plain_machine.specs.World.{Kept, World}
+use Rattle.spec_machine.specs.Histories.{Batch, batch_by}
+use Rattle.spec_machine.specs.Machine.{begin}
+use Rattle.spec_machine.specs.Stages.{makes_stage}
+use Rattle.spec_machine.specs.World.{Kept, World}
 use Rattle.cube_state.specs.Costs.{Cost, both, free}
 use Rattle.cube_state.specs.Moves.{Reached, moves_over, pending_moves}
 

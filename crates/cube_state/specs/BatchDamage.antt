@@ -9,8 +9,8 @@ use Rattle.forest_root.specs.declared.forest.Store.{Store}
 use Rattle.forest_refresh.specs.Begun.{Begun, next_side}
 use Rattle.forest_refresh.specs.Trees.{TellsFirstDamage, deltas_by}
 use Rattle.forest_refresh.specs.declared.stop.RefreshStop.TheVariants as refreshes
-use Rattle.plain_machine.specs.declared.batch_source.BatchSource.{BatchSource}
-use Rattle.plain_machine.specs.Machine.{Given}
+use Rattle.spec_machine.specs.declared.batch_source.BatchSource.{BatchSource}
+use Rattle.spec_machine.specs.Machine.{Given}
 use Rattle.cube_state.specs.declared.state.State.{State}
 use Rattle.cube_state.specs.declared.state.State.TheVariants.{Empty, Idle, Hollow, Pending}
 use Rattle.cube_state.specs.declared.stop.Stop.{Stop}

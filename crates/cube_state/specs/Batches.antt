@@ -13,9 +13,9 @@ use Rattle.forest_refresh.specs.declared.stop.BeginStop.TheVariants as begins
 use Rattle.page_fmt.specs.Formats.{wide_format}
 use Rattle.reply_text.specs.Replies.{line, committed_text, full_text, mass_text, no_schema, is_pending, none_pending, too_many_facts, begun_text, upgraded_text}
 use Rattle.script_lang.specs.declared.command.Block.{Block}
-use Rattle.plain_machine.specs.declared.batch_source.BatchSource.{BatchSource}
-use Rattle.plain_machine.specs.declared.batch_source.BatchSource.TheVariants.{Rows}
-use Rattle.plain_machine.specs.Machine.{Given, batch_from}
+use Rattle.spec_machine.specs.declared.batch_source.BatchSource.{BatchSource}
+use Rattle.spec_machine.specs.declared.batch_source.BatchSource.TheVariants.{Rows}
+use Rattle.spec_machine.specs.Machine.{Given, batch_from}
 use Rattle.cube_state.specs.declared.state.State.{State}
 use Rattle.cube_state.specs.declared.state.State.TheVariants.{Empty, Idle, Hollow, Pending}
 use Rattle.cube_state.specs.Session.{IsLine}

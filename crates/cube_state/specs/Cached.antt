@@ -2,7 +2,7 @@
 use Rattle.std.specs.Prelude.{◌≡◌, ◌==◌, ◌+◌, ◌≤◌, ℕ, List, [], cond, length, Option, Some, None}
 use Rattle.site_core.specs.Disk.{Files}
 use Rattle.forest_root.specs.declared.body.Body.{Body}
-use Rattle.kept_forest.specs.Sides.{side_of}
+use Rattle.spec_store.specs.Sides.{side_of}
 use Rattle.page_cache.specs.Giving.{Cache}
 use Rattle.page_cache.specs.Keeping.{Agrees, HasRoom, Keeps, LiesIn, unkept}
 use Rattle.cube_state.specs.declared.state.State.{State}

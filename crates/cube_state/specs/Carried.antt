@@ -11,8 +11,8 @@ use Rattle.cube_schema.specs.declared.schema.Schema.{Schema}
 use Rattle.roll_up.specs.declared.level.Level.{Level}
 use Rattle.script_lang.specs.declared.command.Command.{Command}
 use Rattle.script_lang.specs.declared.command.Command.TheVariants as says
-use Rattle.plain_machine.specs.Machine.{act}
-use Rattle.plain_machine.specs.World.{World}
+use Rattle.spec_machine.specs.Machine.{act}
+use Rattle.spec_machine.specs.World.{World}
 use Rattle.cube_state.specs.declared.state.State.{State}
 use Rattle.cube_state.specs.declared.stop.Stop.{Stop}
 use Rattle.cube_state.specs.declared.stop.Stop.TheVariants as stops

@@ -7,10 +7,10 @@ use Rattle.roll_up.specs.declared.level.Level.{Level}
 use Rattle.script_lang.specs.declared.command.Block.{Block}
 use Rattle.script_lang.specs.declared.command.Command.{Command}
 use Rattle.script_lang.specs.declared.command.Command.TheVariants as says
-use Rattle.plain_machine.specs.declared.batch_source.BatchSource.{BatchSource}
-use Rattle.plain_machine.specs.declared.batch_source.BatchSource.TheVariants.{Rows, Numbered, Generator}
-use Rattle.plain_machine.specs.Machine.{act, asked_slice, declare}
-use Rattle.plain_machine.specs.World.{World, bare}
+use Rattle.spec_machine.specs.declared.batch_source.BatchSource.{BatchSource}
+use Rattle.spec_machine.specs.declared.batch_source.BatchSource.TheVariants.{Rows, Numbered, Generator}
+use Rattle.spec_machine.specs.Machine.{act, asked_slice, declare}
+use Rattle.spec_machine.specs.World.{World, bare}
 use Rattle.cube_state.specs.declared.state.State.{State}
 use Rattle.cube_state.specs.declared.state.State.TheVariants.{Empty, Idle, Hollow, Pending}
 use Rattle.cube_state.specs.declared.stop.Stop.{Stop}

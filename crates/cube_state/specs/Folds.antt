@@ -22,7 +22,7 @@ use Rattle.sql_lang.specs.declared.refusal.SqlRefusal.{SqlRefusal}
 use Rattle.sql_slice.specs.Plans.{plan_of}
 use Rattle.sql_slice.specs.RowFold.{query_text as records_text}
 use Rattle.sql_slice.specs.declared.planned.Plan.{Plan}
-use Rattle.plain_machine.specs.Machine.{asked_by, base_slice, is_covered}
+use Rattle.spec_machine.specs.Machine.{asked_by, base_slice, is_covered}
 use Rattle.cube_state.specs.declared.stop.Stop.{Stop}
 use Rattle.cube_state.specs.declared.stop.Stop.TheVariants as stops
 use Rattle.cube_state.specs.Session.{IsLine}

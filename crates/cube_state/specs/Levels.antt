@@ -6,7 +6,7 @@ use Rattle.reply_text.specs.Replies.{line, no_schema}
 use Rattle.roll_up.specs.Levels.{Fit}
 use Rattle.roll_up.specs.declared.level.Level.{Level}
 use Rattle.script_lang.specs.declared.command.Block.{Block}
-use Rattle.plain_machine.specs.Machine.{level_reply}
+use Rattle.spec_machine.specs.Machine.{level_reply}
 
 -- they fit the schema that is declared; without one there are none
 abbrev pub FitSchema : Option Schema → List Level → Type 0

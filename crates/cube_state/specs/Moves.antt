@@ -2,20 +2,20 @@
 use Rattle.std.specs.Prelude.{◌≡◌, ◌+◌, ◌-◌, ◌*◌, ◌++◌, ℕ, cond, List, [], ◌∷◌, length, min, nat_le, take, Option, Some, None}
 use Rattle.site_core.specs.Disk.{Files}
 use Rattle.fact_model.specs.declared.fact.Fact.{Fact}
-use Rattle.packing.specs.Moves.{Move, written}
+use Rattle.spec_tree.specs.Moves.{Move, written}
 use Rattle.page_fmt.specs.Formats.{wide_format}
-use Rattle.forest_moves.specs.Forest.{bytes_after, forest_moves}
+use Rattle.spec_moves.specs.Forest.{bytes_after, forest_moves}
 use Rattle.forest_root.specs.Live.{IsLiveBody}
 use Rattle.forest_root.specs.declared.body.Body.{Body}
 use Rattle.forest_refresh.specs.Begun.{next_side}
-use Rattle.kept_forest.specs.Held.{format_for}
+use Rattle.spec_store.specs.Held.{format_for}
 use Rattle.script_lang.specs.declared.command.Command.{Command}
 use Rattle.script_lang.specs.declared.command.Command.TheVariants as says
-use Rattle.plain_machine.specs.Histories.{Batch, batch_by}
-use Rattle.plain_machine.specs.Machine.{act}
-use Rattle.kept_worlds.specs.Keeps.{HasFormat, IsFrom}
-use Rattle.plain_machine.specs.Stages.{makes_stage}
-use Rattle.plain_machine.specs.World.{Kept, Warehouse, World}
+use Rattle.spec_machine.specs.Histories.{Batch, batch_by}
+use Rattle.spec_machine.specs.Machine.{act}
+use Rattle.spec_crash.specs.Keeps.{HasFormat, IsFrom}
+use Rattle.spec_machine.specs.Stages.{makes_stage}
+use Rattle.spec_machine.specs.World.{Kept, Warehouse, World}
 use Rattle.cube_state.specs.Cached.{live_of}
 use Rattle.cube_state.specs.declared.state.State.{State}
 use Rattle.cube_state.specs.declared.state.State.TheVariants.{Empty, Idle, Hollow, Pending}

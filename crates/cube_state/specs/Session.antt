@@ -5,13 +5,13 @@ use Rattle.site_core.specs.Moments.{HoldsNow, LeavesOnly}
 use Rattle.fact_model.specs.declared.fact.Fact.{Fact}
 use Rattle.forest_root.specs.declared.forest.Store.{Store}
 use Rattle.forest_refresh.specs.Begun.{Begun, IsGoing, IsReady, IsRefreshOf, StandsAt, batch_size}
-use Rattle.kept_forest.specs.Held.{format_for}
-use Rattle.kept_forest.specs.Opened.{IsEmpty, IsOpened}
-use Rattle.kept_forest.specs.Stored.{IsStoreOf, IsWhole}
+use Rattle.spec_store.specs.Held.{format_for}
+use Rattle.spec_store.specs.Opened.{IsEmpty, IsOpened}
+use Rattle.spec_store.specs.Stored.{IsStoreOf, IsWhole}
 use Rattle.reply_text.specs.Replies.{line, facts_text, pending_text, unopened}
-use Rattle.kept_worlds.specs.Keeps.{IsFrom, IsLawful, Keeps}
-use Rattle.plain_machine.specs.Machine.{Answer}
-use Rattle.plain_machine.specs.World.{Knows, Warehouse, World}
+use Rattle.spec_crash.specs.Keeps.{IsFrom, IsLawful, Keeps}
+use Rattle.spec_machine.specs.Machine.{Answer}
+use Rattle.spec_machine.specs.World.{Knows, Warehouse, World}
 use Rattle.cube_state.specs.declared.state.State.{State}
 use Rattle.cube_state.specs.declared.state.State.TheVariants.{Empty, Idle, Hollow, Pending}
 

@@ -12,7 +12,7 @@ use Rattle.slice_exec.specs.declared.stop.AnswerStop.TheVariants as answers
 use Rattle.slice_lang.specs.declared.refusal.SliceRefusal.{SliceRefusal}
 use Rattle.slice_lang.specs.Reading.{slice_of}
 use Rattle.replica_route.specs.Picked.{IsPicked}
-use Rattle.plain_machine.specs.Machine.{asked_by, explain_reply, is_covered}
+use Rattle.spec_machine.specs.Machine.{asked_by, explain_reply, is_covered}
 use Rattle.cube_state.specs.declared.stop.Stop.{Stop}
 use Rattle.cube_state.specs.declared.stop.Stop.TheVariants as stops
 use Rattle.cube_state.specs.Session.{IsLine}

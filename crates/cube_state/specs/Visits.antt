@@ -9,8 +9,8 @@ use Rattle.roll_up.specs.declared.level.Level.{Level}
 use Rattle.script_lang.specs.declared.command.Command.{Command}
 use Rattle.slice_exec.specs.Costs.{visits_over}
 use Rattle.replica_route.specs.Picked.{IsPicked}
-use Rattle.plain_machine.specs.Machine.{asked_by, asked_slice}
-use Rattle.plain_machine.specs.World.{Kept, World}
+use Rattle.spec_machine.specs.Machine.{asked_by, asked_slice}
+use Rattle.spec_machine.specs.World.{Kept, World}
 use Rattle.cube_state.specs.declared.state.State.{State}
 use Rattle.cube_state.specs.declared.state.State.TheVariants.{Empty, Idle, Hollow, Pending}
 use Rattle.cube_state.specs.Costs.{Cost, free}

@@ -5,10 +5,10 @@ mod end;
 
 use end::End;
 use fact_model::Memory;
-use real_host::StandardInput;
 use reply_fold::{Fault, fold};
 use reply_text::{refused_schema, refused_slice};
 use site_folder::Input;
+use site_host::StandardInput;
 use std::io::{Print, Write};
 use std::process::ExitCode;
 use std::{env, io};

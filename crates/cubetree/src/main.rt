@@ -4,13 +4,13 @@
 mod words;
 
 use cube_shell::{Status, run};
-use hash_seed::Seed;
-use real_host::{CurrentFolder, StandardInput};
 use site_folder::{FolderSite, Input};
+use site_host::{CurrentFolder, StandardInput};
 use std::io;
 use std::io::Print;
 use std::process::ExitCode;
 use std::random::RandomSource;
+use text_hash::Seed;
 use words::{fault_of_words, words};
 
 /// Writes what went wrong to standard error.

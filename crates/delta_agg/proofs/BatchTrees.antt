@@ -14,9 +14,9 @@ use Rattle.cube_schema.specs.Kinds.{measure_count}
 use Rattle.cube_schema.specs.Lawful.{IsSchema}
 use Rattle.select_map.specs.declared.mapping.Tree.{Tree}
 use Rattle.select_map.specs.Trees.{views_of}
-use Rattle.view_points.specs.Light.{KeepMasses}
-use Rattle.view_points.specs.Points.{View}
-use Rattle.view_points.proofs.Members.{every-from_All}
+use Rattle.spec_points.specs.Light.{KeepMasses}
+use Rattle.spec_points.specs.Points.{View}
+use Rattle.spec_points.proofs.Members.{every-from_All}
 use Rattle.delta_agg.specs.declared.runs.ViewRuns.{ViewRuns}
 use Rattle.delta_agg.specs.Batch.{HasNumbers, batch_points, no_fact}
 use Rattle.delta_agg.specs.Orders.{IsBatch, IsRuns, IsTree, bare, run_at, run_entry, tree_entries, view_entries, views_in}

@@ -13,8 +13,8 @@ use Rattle.fact_batch.specs.Batch.{measures_in}
 use Rattle.cube_point.specs.declared.point.Entry.{Entry}
 use Rattle.cube_point.specs.Points.{point_cmp}
 use Rattle.cube_point.proofs.PointOrder.{point-only}
-use Rattle.view_points.specs.Points.{View}
-use Rattle.view_points.specs.Entries.{entry_of, pair_of}
+use Rattle.spec_points.specs.Points.{View}
+use Rattle.spec_points.specs.Entries.{entry_of, pair_of}
 use Rattle.delta_agg.specs.Batch.{HasNumbers, no_fact, row_entry, squeezed_entries}
 use Rattle.delta_agg.specs.Orders.{bare, facts_at, run_at, run_entry}
 use Rattle.delta_agg.specs.Rows.{begins, cuts_by, row_place, same_place}

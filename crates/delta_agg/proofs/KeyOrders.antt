@@ -7,7 +7,7 @@ use Rattle.std.proofs.lemmas.List.{get_or-map, length-map, map-id}
 use Rattle.std.proofs.lemmas.List.FromFn.{length-map-range_with_len}
 use Rattle.std.proofs.lemmas.List.Sorted.{IsPermutation-reverse, All-permutation}
 use Rattle.std.proofs.lemmas.Nat.{mod-mul-add}
-use Rattle.view_points.proofs.Members.{every-from_All}
+use Rattle.spec_points.proofs.Members.{every-from_All}
 use Rattle.cube_point.specs.Points.{point_cmp}
 use Rattle.fact_model.specs.declared.memory.Memory.{Memory}
 use Rattle.delta_agg.specs.declared.digits.Digit.{Digit}

@@ -11,7 +11,7 @@ use Rattle.std.proofs.lemmas.List.{reverse-append, length-map, length-drop, map-
 use Rattle.std.proofs.lemmas.Bool.{eq-eqb, ne_eqb}
 use Rattle.std.proofs.lemmas.Nat.{div-mul-add, mul-le}
 use Rattle.cube_point.specs.Points.{point_cmp}
-use Rattle.view_points.proofs.Members.{every-from_All}
+use Rattle.spec_points.proofs.Members.{every-from_All}
 use Rattle.delta_agg.specs.declared.digits.Digit.{Digit}
 use Rattle.delta_agg.specs.Batch.{place_at}
 use Rattle.delta_agg.specs.Rows.{HasDigit, digit_of, digits_of, number_from, number_in, room, span}

@@ -12,11 +12,11 @@ use Rattle.fact_model.specs.Fact.{mass, mass_limit, measure_at, numbers_at}
 use Rattle.fact_model.specs.Numbers.{total}
 use Rattle.fact_model.proofs.Cells.{cell-append}
 use Rattle.fact_model.proofs.Masses.{mass-cons}
-use Rattle.view_points.specs.Light.{KeepMasses}
+use Rattle.spec_points.specs.Light.{KeepMasses}
 use Rattle.std.proofs.lemmas.Int.{ints}
 use Rattle.std.proofs.lemmas.List.Sums.{sum_by-cons}
-use Rattle.view_points.proofs.Answers.{four}
-use Rattle.view_points.proofs.Sums.{mass-append}
+use Rattle.spec_points.proofs.Answers.{four}
+use Rattle.spec_points.proofs.Sums.{mass-append}
 use Rattle.delta_agg.specs.Orders.{bare, facts_at, no_part}
 
 -- the part of one number of a row

@@ -9,7 +9,7 @@ use Rattle.std.proofs.lemmas.Slice.Zip.{length-zip, get_or-zip}
 use Rattle.fact_model.specs.declared.fact.Fact.{Fact}
 use Rattle.cube_point.specs.declared.point.Entry.{Entry}
 use Rattle.cube_point.specs.Points.{comes_before}
-use Rattle.view_points.specs.Points.{View}
+use Rattle.spec_points.specs.Points.{View}
 use Rattle.delta_agg.specs.Batch.{HasNumbers, batch_points, no_fact, own_entry, row_entry, squeezed_entries}
 use Rattle.delta_agg.specs.Rows.{row_before}
 use Rattle.delta_agg.proofs.Gathering.{batch-points}

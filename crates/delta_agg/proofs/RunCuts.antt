@@ -9,8 +9,8 @@ use Rattle.std.proofs.lemmas.List.FromFn.{fill_by_all, get_or-range_with_len, le
 use Rattle.std.proofs.lemmas.List.Sorted.{All-permutation, IsPermutation-map, length_permutation, sum_by-IsPermutation}
 use Rattle.fact_model.specs.declared.fact.Fact.{Fact}
 use Rattle.fact_model.specs.Fact.{mass, measure_at}
-use Rattle.view_points.specs.Points.{View}
-use Rattle.view_points.proofs.Sums.{mass-append}
+use Rattle.spec_points.specs.Points.{View}
+use Rattle.spec_points.proofs.Sums.{mass-append}
 use Rattle.delta_agg.specs.Orders.{bare, facts_at, run_at}
 use Rattle.delta_agg.specs.Rows.{IsOrdered, begins, cuts_by}
 use Rattle.delta_agg.proofs.Cuts.{filter-no, filter-yes}

@@ -7,7 +7,7 @@ use Rattle.std.proofs.lemmas.List.Sums.{sum_by-cons, sum_by-le}
 use Rattle.cube_point.specs.declared.point.Entry.{Entry}
 use Rattle.select_map.specs.declared.mapping.Tree.{Tree}
 use Rattle.select_map.specs.Trees.{views_of}
-use Rattle.view_points.specs.Points.{View}
+use Rattle.spec_points.specs.Points.{View}
 use Rattle.delta_agg.specs.declared.runs.ViewRuns.{ViewRuns}
 use Rattle.delta_agg.specs.Orders.{IsTree, entry_at, no_view, run_count, tree_entries, view_entries, views_in}
 use Rattle.delta_agg.specs.Trees.{AreFew}

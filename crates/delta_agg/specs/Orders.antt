@@ -5,9 +5,9 @@ use Rattle.fact_model.specs.declared.fact.Fact.{Fact}
 use Rattle.fact_model.specs.declared.cell.Part.{Part}
 use Rattle.fact_model.specs.Cell.{cell_of}
 use Rattle.cube_point.specs.declared.point.Entry.{Entry}
-use Rattle.view_points.specs.Points.{View}
-use Rattle.view_points.specs.Entries.{entry_of}
-use Rattle.view_points.specs.Light.{KeepMasses}
+use Rattle.spec_points.specs.Points.{View}
+use Rattle.spec_points.specs.Entries.{entry_of}
+use Rattle.spec_points.specs.Light.{KeepMasses}
 use Rattle.delta_agg.specs.declared.runs.ViewRuns.{ViewRuns}
 use Rattle.delta_agg.specs.Batch.{HasPlace}
 use Rattle.delta_agg.specs.Rows.{IsOrdered, row_place}

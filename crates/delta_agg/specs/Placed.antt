@@ -1,6 +1,6 @@
 -- Rows with their points in a view.
 use Rattle.std.specs.Prelude.{ℕ, List, [], get_or}
-use Rattle.view_points.specs.Points.{View}
+use Rattle.spec_points.specs.Points.{View}
 use Rattle.delta_agg.specs.declared.placed.Placed.{Placed}
 use Rattle.delta_agg.specs.Batch.{point_at}
 

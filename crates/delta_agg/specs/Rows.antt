@@ -4,7 +4,7 @@ use Rattle.std.specs.List.{range_with_len}
 use Rattle.std.specs.List.Sorted.{IsPermutation, IsSortedBy}
 use Rattle.std.specs.Ordering.{is_lt, is_eq}
 use Rattle.cube_point.specs.Points.{point_cmp}
-use Rattle.view_points.specs.Points.{View}
+use Rattle.spec_points.specs.Points.{View}
 use Rattle.delta_agg.specs.declared.digits.Digit.{Digit}
 use Rattle.delta_agg.specs.Batch.{place_at}
 

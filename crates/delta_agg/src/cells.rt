@@ -3,7 +3,7 @@ ghost use Rattle.std.specs.Prelude.{◌≡◌, ◌<◌, ◌≤◌, ◌^◌, ◌+
 ghost use Rattle.std.specs.Int.{w128};
 ghost use Rattle.std.specs.List.{All};
 ghost use Rattle.fact_model.specs.Cell.{cell_of, join, join_parts, part_of};
-ghost use Rattle.view_points.specs.Light.{KeepMasses};
+ghost use Rattle.spec_points.specs.Light.{KeepMasses};
 ghost use Rattle.delta_agg.specs.Orders.{bare, facts_at, no_part};
 
 use fact_batch::FlatRows;

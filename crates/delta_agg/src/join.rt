@@ -1,7 +1,7 @@
 //! Two cells of one point are joined.
 ghost use Rattle.std.specs.Prelude.{◌≡◌, IfOk, OnOk, OnErr};
 ghost use Rattle.fact_model.specs.Cell.{FitCells};
-ghost use Rattle.view_points.specs.Entries.{both};
+ghost use Rattle.spec_points.specs.Entries.{both};
 
 use cube_point::Entry;
 

@@ -1,6 +1,6 @@
 -- The facts that are made from a number.
 use Rattle.std.specs.Prelude.{ℕ, zero, suc, ◌+◌, ◌%◌, min, ℤ, pos, ◌-ℤ◌, List, [], ◌∷◌, ◌++◌, length, codes, decimal}
-use Rattle.draws.specs.Draw.{next_state, draw, state_after}
+use Rattle.lcg.specs.Draw.{next_state, draw, state_after}
 use Rattle.cube_schema.specs.declared.schema.Attr.{Attr}
 use Rattle.cube_schema.specs.declared.schema.Kind.{Kind}
 use Rattle.cube_schema.specs.declared.schema.Kind.TheVariants as kind

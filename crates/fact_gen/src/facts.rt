@@ -1,7 +1,7 @@
 //! The facts of a schema, drawn one after the other.
 ghost use Rattle.std.specs.Prelude.{◌≡◌, ◌≤◌, ◌<◌, [], ◌∷◌, ◌++◌, IfOk, OnOk, length};
 ghost use Rattle.std.specs.List.{All};
-ghost use Rattle.draws.specs.Draw.{state_after};
+ghost use Rattle.lcg.specs.Draw.{state_after};
 ghost use Rattle.cube_schema.specs.Agreeing.{Agrees};
 ghost use Rattle.cube_schema.specs.Lawful.{IsSchema};
 ghost use Rattle.fact_batch.specs.Batch.{IsBetween};
@@ -10,9 +10,9 @@ ghost use Rattle.fact_gen.specs.Generated.{width, fact_from, generated};
 use crate::measures::draw_measures;
 use crate::values::draw_values;
 use cube_schema::Schema;
-use draws::Draws;
 use fact_batch::{Batch, BatchBuilder};
 use fact_model::Memory;
+use lcg::Draws;
 use std::alloc::Global;
 
 /// Makes so many facts of a schema from a number: the same ones for the same number. The state of `Draws` begins with it, and
@@ -39,7 +39,7 @@ pub fn generate(alloc: Global, schema: &Schema, start: u64, rows: u64) -> Result
 }
 
 /// Draws one fact: its values, and then its measures. What the text holds does not matter.
-#[tactic(auto, using(draws::proofs::Steps::state_after_add))]
+#[tactic(auto, using(lcg::proofs::Steps::state_after_add))]
 fn draw_fact(
     schema: &Schema,
     draws: &mut Draws,

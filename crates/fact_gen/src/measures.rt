@@ -1,11 +1,11 @@
 //! The numbers of measures, drawn one after the other.
 ghost use Rattle.std.specs.Prelude.{◌≡◌, ◌++◌, OnOk, length};
-ghost use Rattle.draws.specs.Draw.{next_state, draw, state_after};
+ghost use Rattle.lcg.specs.Draw.{next_state, draw, state_after};
 ghost use Rattle.fact_gen.specs.Generated.{measure_of, measures_from};
 
-use draws::Draws;
 use fact_batch::BatchBuilder;
 use fact_model::{Memory, Text};
+use lcg::Draws;
 
 /// How many numbers a measure may get: those from -1000 to 1000.
 const NUMBERS: u64 = 2001;

@@ -1,16 +1,16 @@
 //! The values of attributes, drawn one after the other.
 ghost use Rattle.std.specs.Prelude.{◌≡◌, ◌≤◌, [], ◌∷◌, ◌++◌, OnOk, IsTrue, length, codes, decimal};
 ghost use Rattle.std.specs.List.{list_all};
-ghost use Rattle.draws.specs.Draw.{next_state, draw, state_after};
+ghost use Rattle.lcg.specs.Draw.{next_state, draw, state_after};
 ghost use Rattle.cube_schema.specs.declared.schema.Attr as declared;
 ghost use Rattle.cube_schema.specs.Words.{is_in_range};
 ghost use Rattle.fact_gen.specs.Generated.{value_of, values_from};
 
 use cube_schema::{Attr, Kind};
-use draws::Draws;
 use fact_batch::BatchBuilder;
 use fact_model::Memory;
 use itoa::Buffer;
+use lcg::Draws;
 
 /// How many texts an attribute may get, even where its `max` is greater.
 const MOST_TEXTS: u32 = 1000;

@@ -7,13 +7,13 @@ use Rattle.site_core.specs.Disk.{Files}
 use Rattle.attr_dict.specs.Book.{Book}
 use Rattle.cube_schema.specs.declared.schema.Schema.{Schema}
 use Rattle.forest_root.specs.declared.body.Body.{Body}
-use Rattle.kept_points.specs.Kept.{Kept}
-use Rattle.tree_audit.specs.declared.stop.TreeStop.{TreeStop}
-use Rattle.tree_audit.specs.declared.stop.TreeStop.TheVariants as stops
-use Rattle.tree_audit.specs.Kept.{AreViewsOf}
+use Rattle.audit_points.specs.Kept.{Kept}
+use Rattle.audit_tree.specs.declared.stop.TreeStop.{TreeStop}
+use Rattle.audit_tree.specs.declared.stop.TreeStop.TheVariants as stops
+use Rattle.audit_tree.specs.Kept.{AreViewsOf}
 use Rattle.forest_audit.specs.Audited.{side_file, tree_counts, tree_place, trees_of}
 use Rattle.forest_audit.specs.Limits.{limits_in}
-use Rattle.tree_audit.specs.Broken.{TellsBroken}
+use Rattle.audit_tree.specs.Broken.{TellsBroken}
 use Rattle.forest_audit.specs.Reading.{AreRead, AreShaped, IsAdded, IsReadTree, TellsTree, TellsTrees}
 
 -- what holds of each of the trees before, and of the one behind them, holds of each

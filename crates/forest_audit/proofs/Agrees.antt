@@ -10,16 +10,16 @@ use Rattle.cube_point.specs.declared.point.Shape.{Shape}
 use Rattle.cube_point.specs.Points.{point_cmp}
 use Rattle.cube_schema.specs.declared.schema.Schema.{Schema}
 use Rattle.forest_root.specs.declared.body.Body.{Body}
-use Rattle.kept_points.specs.Kept.{Kept, points_of}
+use Rattle.audit_points.specs.Kept.{Kept, points_of}
 use Rattle.page_fmt.specs.Taking.{ascend, entry_before}
 use Rattle.page_fmt.specs.Writing.{FitsLeaf}
 use Rattle.row_fold.specs.Ascends.{Ascends, Below}
 use Rattle.select_map.specs.Views.{arity_at, tree_number}
-use Rattle.tree_audit.specs.Kept.{IsKept, IsViewOf, has_arity}
+use Rattle.audit_tree.specs.Kept.{IsKept, IsViewOf, has_arity}
 use Rattle.tree_scan.specs.Scanning.{AreGood, entries_of}
-use Rattle.view_audit.specs.Rolling.{RollsUp}
-use Rattle.view_audit.proofs.Order.{ascends-from}
-use Rattle.view_points.specs.Entries.{pair_of}
+use Rattle.audit_view.specs.Rolling.{RollsUp}
+use Rattle.audit_view.proofs.Order.{ascends-from}
+use Rattle.spec_points.specs.Entries.{pair_of}
 use Rattle.forest_audit.specs.Agreeing.{IsViewRead}
 use Rattle.forest_audit.specs.Audited.{points_at, side_file, tree_place, trees_of, view_of}
 use Rattle.forest_audit.specs.Reading.{AreRead as AreTreesRead, AreShaped}

@@ -12,7 +12,7 @@ use Rattle.forest_root.specs.declared.body.Body.{Body}
 use Rattle.forest_root.specs.Live.{NoneRaised}
 use Rattle.forest_root.proofs.Answered.{live_damaged, live_none}
 use Rattle.forest_root.proofs.One.{one_body}
-use Rattle.tree_audit.proofs.Fronts.{audited-unbroken, broken-alone, tree-audited}
+use Rattle.audit_tree.proofs.Fronts.{audited-unbroken, broken-alone, tree-audited}
 use Rattle.forest_audit.specs.declared.verdict.Verdict.{Verdict}
 use Rattle.forest_audit.specs.declared.verdict.Verdict.TheVariants as verdicts
 use Rattle.forest_audit.specs.Audited.{BreaksAudit, BreaksTree, IsAudited, TreeKeeps, first_page, offset_of, side_file, tree_counts, tree_place}

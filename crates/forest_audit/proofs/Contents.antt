@@ -3,7 +3,7 @@ use Rattle.std.proofs.Common.{◌≡◌, ◌≤◌, ◌<◌, ◌+◌, ℕ, List,
 use Rattle.std.specs.List.{range_with_len}
 use Rattle.std.proofs.lemmas.List.{get_or-map, length-map}
 use Rattle.cube_point.specs.declared.point.Shape.{Shape}
-use Rattle.packing.specs.Tree.{Leaf, Inner}
+use Rattle.spec_tree.specs.Tree.{Leaf, Inner}
 use Rattle.page_fmt.specs.InFiles.{page_at}
 use Rattle.page_fmt.specs.Lawful.{Content, IsLawful, content_bytes}
 use Rattle.page_fmt.specs.Writing.{IsShape}

@@ -3,8 +3,8 @@ use Rattle.std.proofs.Common.{◌≡◌, ◌≤◌, ◌<◌, ℕ, zero, suc, Boo
 use Rattle.std.specs.Prelude.{◌==◌, ◌||◌, slice_index}
 use Rattle.std.specs.List.{list_any}
 use Rattle.std.proofs.lemmas.Bool.{eq-eqb, ne_eqb}
-use Rattle.view_points.specs.Agree.{among}
-use Rattle.view_points.specs.Answer.{coordinate}
+use Rattle.spec_points.specs.Agree.{among}
+use Rattle.spec_points.specs.Answer.{coordinate}
 use Rattle.forest_audit.specs.Agreeing.{IsFirstAt}
 
 pub coordinate-at : (view place : List ℕ) (a n : ℕ) → length view ≤ length place → IsFirstAt view a n → coordinate view place a ≡ slice_index place n

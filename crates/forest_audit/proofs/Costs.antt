@@ -6,16 +6,16 @@ use Rattle.cube_schema.specs.declared.schema.Schema.{Schema}
 use Rattle.fact_model.specs.declared.fact.Fact.{Fact}
 use Rattle.forest_open.specs.Opening.{names_pages}
 use Rattle.forest_open.proofs.Openings.{book_of, kept_opened, live_body, names_counted}
-use Rattle.forest_bytes.specs.Forest.{forest}
-use Rattle.forest_bytes.proofs.Scanned.{forest-long}
+use Rattle.spec_forest.specs.Forest.{forest}
+use Rattle.spec_forest.proofs.Scanned.{forest-long}
 use Rattle.forest_root.specs.Forest.{pages_of_all}
 use Rattle.forest_root.specs.Keeps.{KeepsNothing}
 use Rattle.forest_root.specs.declared.body.Body.{Body}
 use Rattle.forest_root.proofs.Answered.{live_none}
-use Rattle.kept_forest.specs.Held.{AreAccepted, IsLive, KeepsAs, names_text}
-use Rattle.kept_forest.specs.Sides.{page_count, page_total}
-use Rattle.kept_forest.proofs.Standing.{body_format, in_some}
-use Rattle.kept_forest.proofs.Storable.{storable}
+use Rattle.spec_store.specs.Held.{AreAccepted, IsLive, KeepsAs, names_text}
+use Rattle.spec_store.specs.Sides.{page_count, page_total}
+use Rattle.spec_store.proofs.Standing.{body_format, in_some}
+use Rattle.spec_store.proofs.Storable.{storable}
 use Rattle.forest_audit.specs.Audited.{trees_of}
 use Rattle.forest_audit.specs.Cost.{CostsAudit, HaveFewPages}
 use Rattle.forest_audit.specs.Verdicts.{OpensAs}

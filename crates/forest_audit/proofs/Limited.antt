@@ -17,15 +17,15 @@ use Rattle.cube_schema.specs.Kinds.{measure_count}
 use Rattle.cube_schema.specs.declared.schema.Kind.{Kind}
 use Rattle.cube_schema.specs.declared.schema.Kind.TheVariants as kind
 use Rattle.cube_schema.specs.declared.schema.Schema.{Schema}
-use Rattle.forest_bytes.specs.Forest.{view_entries}
-use Rattle.forest_bytes.specs.Storable.{AreStorable}
-use Rattle.forest_bytes.proofs.Cells.{each-point}
-use Rattle.tree_audit.specs.Packed.{IsWithin}
+use Rattle.spec_forest.specs.Forest.{view_entries}
+use Rattle.spec_forest.specs.Storable.{AreStorable}
+use Rattle.spec_forest.proofs.Cells.{each-point}
+use Rattle.audit_tree.specs.Packed.{IsWithin}
 use Rattle.tree_pack.specs.Pages.{joined}
-use Rattle.view_points.specs.Codes.{Text, names_of, place}
-use Rattle.view_points.specs.Entries.{entry_of}
-use Rattle.view_points.specs.Points.{PlacedCell, View, coord, padded, place_of, points}
-use Rattle.view_points.proofs.Members.{every-append, every-both, every-from_All, every-map}
+use Rattle.spec_points.specs.Codes.{Text, names_of, place}
+use Rattle.spec_points.specs.Entries.{entry_of}
+use Rattle.spec_points.specs.Points.{PlacedCell, View, coord, padded, place_of, points}
+use Rattle.spec_points.proofs.Members.{every-append, every-both, every-from_All, every-map}
 use Rattle.forest_audit.specs.Limits.{attr_limit, limit_for}
 use Rattle.forest_audit.proofs.Slots.{has-arity, views_in}
 

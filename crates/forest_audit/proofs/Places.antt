@@ -6,9 +6,9 @@ use Rattle.cube_schema.specs.declared.schema.Schema.{Schema}
 use Rattle.forest_root.specs.declared.body.Body.{Body}
 use Rattle.forest_root.specs.declared.forest.Forest.{Forest}
 use Rattle.cube_schema.specs.Lawful.{IsSchema}
-use Rattle.forest_bytes.proofs.Bounds.{pages-within}
-use Rattle.forest_bytes.proofs.Scanned.{few-views}
-use Rattle.forest_bytes.proofs.Selected.{tree-shape}
+use Rattle.spec_forest.proofs.Bounds.{pages-within}
+use Rattle.spec_forest.proofs.Scanned.{few-views}
+use Rattle.spec_forest.proofs.Selected.{tree-shape}
 use Rattle.forest_root.proofs.Trees.{trees-few}
 use Rattle.forest_root.specs.Body.{IsBody}
 use Rattle.forest_root.specs.Forest.{count_in, pages_of, pages_of_all, place_of, shape_of}

@@ -9,21 +9,21 @@ use Rattle.cube_point.specs.declared.point.Entry.{Entry}
 use Rattle.cube_point.specs.declared.point.Shape.{Shape}
 use Rattle.cube_schema.specs.declared.schema.Schema.{Schema}
 use Rattle.cube_schema.specs.Kinds.{measure_count}
-use Rattle.view_points.specs.Codes.{names_of}
-use Rattle.view_points.specs.Points.{View}
-use Rattle.view_points.proofs.Members.{every-from_All}
-use Rattle.forest_bytes.specs.Storable.{AreStorable}
-use Rattle.forest_bytes.proofs.Leaves.{entries-arity}
+use Rattle.spec_points.specs.Codes.{names_of}
+use Rattle.spec_points.specs.Points.{View}
+use Rattle.spec_points.proofs.Members.{every-from_All}
+use Rattle.spec_forest.specs.Storable.{AreStorable}
+use Rattle.spec_forest.proofs.Leaves.{entries-arity}
 use Rattle.leaf_pack.specs.Leaf.{arity_of}
-use Rattle.packing.specs.Runs.{runs, top}
-use Rattle.packing.specs.Tree.{inner, laid, leaf}
+use Rattle.spec_tree.specs.Runs.{runs, top}
+use Rattle.spec_tree.specs.Tree.{inner, laid, leaf}
 use Rattle.page_fmt.specs.Trees.{fanout_of, room_of}
 use Rattle.select_map.specs.Views.{arity_at}
 use Rattle.select_map.proofs.TreeViews.{numbers_in}
-use Rattle.forest_bytes.specs.Forest.{view_entries}
+use Rattle.spec_forest.specs.Forest.{view_entries}
 use Rattle.tree_pack.specs.Pages.{Views, child_of, joined, pages_of}
-use Rattle.tree_audit.specs.Numbers.{cut}
-use Rattle.tree_audit.proofs.Arities.{run}
+use Rattle.audit_tree.specs.Numbers.{cut}
+use Rattle.audit_tree.proofs.Arities.{run}
 
 -- the runs of each view
 abbrev pub all_runs : (ℕ → ℕ) → Views → List (List Entry)

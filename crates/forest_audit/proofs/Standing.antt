@@ -15,29 +15,29 @@ use Rattle.cube_schema.specs.Lawful.{IsSchema}
 use Rattle.cube_schema.specs.declared.schema.Schema.{Schema}
 use Rattle.fact_model.specs.declared.fact.Fact.{Fact}
 use Rattle.view_route.specs.Counts.{body_counts}
-use Rattle.forest_bytes.specs.Forest.{forest, tree_entries, views_over}
-use Rattle.forest_bytes.proofs.Bounds.{pages-within}
-use Rattle.forest_bytes.proofs.Bytes.{tree-lawful}
-use Rattle.forest_bytes.proofs.Scanned.{counts-few, few-views, tree-good, tree-stands}
-use Rattle.forest_bytes.proofs.Selected.{pages-told, stand, tree, tree-shape, view-counted}
+use Rattle.spec_forest.specs.Forest.{forest, tree_entries, views_over}
+use Rattle.spec_forest.proofs.Bounds.{pages-within}
+use Rattle.spec_forest.proofs.Bytes.{tree-lawful}
+use Rattle.spec_forest.proofs.Scanned.{counts-few, few-views, tree-good, tree-stands}
+use Rattle.spec_forest.proofs.Selected.{pages-told, stand, tree, tree-shape, view-counted}
 use Rattle.forest_root.specs.Forest.{count_in, counts_of, pages_of, pages_of_all, shape_of}
 use Rattle.forest_root.specs.declared.body.Body.{Body}
-use Rattle.kept_forest.specs.Held.{AreAccepted, IsLive}
-use Rattle.kept_forest.proofs.Places.{nine-in}
-use Rattle.kept_forest.proofs.Storable.{storable}
+use Rattle.spec_store.specs.Held.{AreAccepted, IsLive}
+use Rattle.spec_store.proofs.Places.{nine-in}
+use Rattle.spec_store.proofs.Storable.{storable}
 use Rattle.leaf_pack.specs.Leaf.{arity_of}
-use Rattle.forest_bytes.specs.Storable.{AreStorable}
+use Rattle.spec_forest.specs.Storable.{AreStorable}
 use Rattle.page_fmt.specs.declared.page.Place.{Place}
 use Rattle.page_fmt.specs.Trees.{room_of}
 use Rattle.select_map.proofs.Selected.{schema-short}
-use Rattle.tree_audit.specs.Numbers.{cut, views_of}
-use Rattle.tree_audit.proofs.Arities.{run}
-use Rattle.tree_audit.specs.Packed.{IsAuditedTree, IsWithin, packed_pages, pages_in, points_in}
+use Rattle.audit_tree.specs.Numbers.{cut, views_of}
+use Rattle.audit_tree.proofs.Arities.{run}
+use Rattle.audit_tree.specs.Packed.{IsAuditedTree, IsWithin, packed_pages, pages_in, points_in}
 use Rattle.tree_pack.specs.Packing.{max_first}
 use Rattle.tree_pack.specs.Pages.{page_bytes, pages_of as tree_pages_of}
-use Rattle.view_points.specs.Codes.{names_of}
-use Rattle.view_points.specs.Points.{points}
-use Rattle.view_points.proofs.Members.{All-from_every}
+use Rattle.spec_points.specs.Codes.{names_of}
+use Rattle.spec_points.specs.Points.{points}
+use Rattle.spec_points.proofs.Members.{All-from_every}
 use Rattle.forest_audit.specs.Audited.{TreeKeeps, side_file, tree_place, trees_of}
 use Rattle.forest_audit.specs.Limits.{limits_in, view_limits}
 use Rattle.forest_audit.proofs.Contents.{pages-there}

@@ -8,21 +8,21 @@ use Rattle.cube_schema.specs.declared.schema.Schema.{Schema}
 use Rattle.fact_model.specs.declared.fact.Fact.{Fact}
 use Rattle.forest_open.specs.Opening.{AreOpened}
 use Rattle.forest_open.proofs.Openings.{book_of, kept_names, kept_opened, live_body}
-use Rattle.forest_bytes.specs.Forest.{view_entries}
-use Rattle.forest_bytes.proofs.Selected.{view-of-tree}
+use Rattle.spec_forest.specs.Forest.{view_entries}
+use Rattle.spec_forest.proofs.Selected.{view-of-tree}
 use Rattle.forest_root.specs.Live.{IsLiveBody}
 use Rattle.forest_root.specs.declared.body.Body.{Body}
 use Rattle.forest_root.proofs.One.{held_is_live}
-use Rattle.kept_forest.specs.Held.{AreAccepted, IsLive, KeepsFacts, held}
+use Rattle.spec_store.specs.Held.{AreAccepted, IsLive, KeepsFacts, held}
 use Rattle.select_map.specs.Views.{arity_at, tree_number}
-use Rattle.tree_audit.specs.Kept.{has_arity}
-use Rattle.view_points.specs.Codes.{names_of}
-use Rattle.view_points.specs.Entries.{entry_of, pair_of}
-use Rattle.view_points.specs.Points.{PlacedCell, points}
-use Rattle.view_points.specs.RollUp.{rolled_up}
-use Rattle.view_points.specs.Weights.{count_in, weight}
-use Rattle.view_points.proofs.RollUps.{roll-up}
-use Rattle.view_points.proofs.Sums.{counts-all}
+use Rattle.audit_tree.specs.Kept.{has_arity}
+use Rattle.spec_points.specs.Codes.{names_of}
+use Rattle.spec_points.specs.Entries.{entry_of, pair_of}
+use Rattle.spec_points.specs.Points.{PlacedCell, points}
+use Rattle.spec_points.specs.RollUp.{rolled_up}
+use Rattle.spec_points.specs.Weights.{count_in, weight}
+use Rattle.spec_points.proofs.RollUps.{roll-up}
+use Rattle.spec_points.proofs.Sums.{counts-all}
 use Rattle.forest_audit.specs.Audited.{IsAudited, ViewAgrees, points_at, view_of}
 use Rattle.forest_audit.specs.States.{AnswersState}
 use Rattle.forest_audit.specs.Verdicts.{AreAudited, IsVerdict}

@@ -4,9 +4,9 @@ use Rattle.site_core.specs.Disk.{Files}
 use Rattle.attr_dict.specs.Book.{Book}
 use Rattle.cube_schema.specs.declared.schema.Schema.{Schema}
 use Rattle.forest_root.specs.declared.body.Body.{Body}
-use Rattle.kept_points.specs.Kept.{Kept, points_of}
-use Rattle.view_audit.specs.Rolling.{AreDims, AreRead, RollsUp}
-use Rattle.view_points.specs.Points.{View}
+use Rattle.audit_points.specs.Kept.{Kept, points_of}
+use Rattle.audit_view.specs.Rolling.{AreDims, AreRead, RollsUp}
+use Rattle.spec_points.specs.Points.{View}
 use Rattle.forest_audit.specs.Audited.{HasAll, ViewAgrees, first_page, points_at, view_of}
 
 -- the first place of the attribute in the view

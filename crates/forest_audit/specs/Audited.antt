@@ -13,12 +13,12 @@ use Rattle.page_fmt.specs.declared.page.TheConstants.{PAGE}
 use Rattle.select_map.specs.declared.mapping.Tree.{Tree}
 use Rattle.select_map.specs.Selection.{tree_of}
 use Rattle.select_map.specs.Views.{arity_at, selected, tree_number}
-use Rattle.tree_audit.specs.Broken.{IsFirstBroken}
-use Rattle.tree_audit.specs.Kept.{first_leaf, view_points}
-use Rattle.tree_audit.specs.Packed.{IsAuditedTree}
-use Rattle.view_audit.specs.Rolling.{AddUp, RollsUp}
-use Rattle.view_points.specs.Agree.{among}
-use Rattle.view_points.specs.Points.{View}
+use Rattle.audit_tree.specs.Broken.{IsFirstBroken}
+use Rattle.audit_tree.specs.Kept.{first_leaf, view_points}
+use Rattle.audit_tree.specs.Packed.{IsAuditedTree}
+use Rattle.audit_view.specs.Rolling.{AddUp, RollsUp}
+use Rattle.spec_points.specs.Agree.{among}
+use Rattle.spec_points.specs.Points.{View}
 use Rattle.forest_audit.specs.Limits.{limits_in}
 
 -- the trees of a schema

@@ -9,8 +9,8 @@ use Rattle.forest_open.specs.Opening.{names_pages}
 use Rattle.forest_root.specs.declared.body.Body.{Body}
 use Rattle.forest_root.specs.Keeps.{KeepsNothing}
 use Rattle.forest_root.specs.Live.{IsLiveBody}
-use Rattle.kept_forest.specs.Held.{AreAccepted, KeepsAs, names_text}
-use Rattle.kept_forest.specs.Sides.{page_count, page_total}
+use Rattle.spec_store.specs.Held.{AreAccepted, KeepsAs, names_text}
+use Rattle.spec_store.specs.Sides.{page_count, page_total}
 use Rattle.forest_audit.specs.Verdicts.{OpensAs}
 
 -- the names that count take at most so many pages, and the trees of files that are opened so many

@@ -7,8 +7,8 @@ use Rattle.cube_schema.specs.declared.schema.Kind.TheVariants as kind
 use Rattle.attr_dict.specs.Book.{Book, kind_at, names_at, no_names}
 use Rattle.select_map.specs.Selection.{tree_of}
 use Rattle.select_map.specs.Views.{selected}
-use Rattle.view_points.specs.Codes.{Text}
-use Rattle.view_points.specs.Points.{padded}
+use Rattle.spec_points.specs.Codes.{Text}
+use Rattle.spec_points.specs.Points.{padded}
 
 -- of a text attribute the number of its names, and otherwise that of the greatest number
 abbrev pub limit_for : Kind → List Text → ℕ

@@ -4,10 +4,10 @@ use Rattle.site_core.specs.Disk.{Files}
 use Rattle.attr_dict.specs.Book.{Book}
 use Rattle.cube_schema.specs.declared.schema.Schema.{Schema}
 use Rattle.forest_root.specs.declared.body.Body.{Body}
-use Rattle.kept_points.specs.Kept.{Kept}
-use Rattle.tree_audit.specs.declared.stop.TreeStop.{TreeStop}
-use Rattle.tree_audit.specs.declared.stop.TreeStop.TheVariants as stops
-use Rattle.tree_audit.specs.Kept.{AreKept, AreViewsOf}
+use Rattle.audit_points.specs.Kept.{Kept}
+use Rattle.audit_tree.specs.declared.stop.TreeStop.{TreeStop}
+use Rattle.audit_tree.specs.declared.stop.TreeStop.TheVariants as stops
+use Rattle.audit_tree.specs.Kept.{AreKept, AreViewsOf}
 use Rattle.forest_audit.specs.Audited.{BreaksTree, TreeKeeps, side_file, tree_place, trees_of}
 
 module _ (files : Files) (body : Body) (schema : Schema) (names : Book) where

@@ -5,7 +5,7 @@ use Rattle.cube_schema.specs.Lawful.{IsSchema}
 use Rattle.cube_schema.specs.declared.schema.Schema.{Schema}
 use Rattle.fact_model.specs.declared.fact.Fact.{Fact}
 use Rattle.forest_root.specs.Keeps.{KeepsNothing}
-use Rattle.kept_forest.specs.Held.{AreAccepted, KeepsFacts}
+use Rattle.spec_store.specs.Held.{AreAccepted, KeepsFacts}
 use Rattle.forest_audit.specs.declared.verdict.Verdict.{Verdict}
 use Rattle.forest_audit.specs.declared.verdict.Verdict.TheVariants as verdicts
 

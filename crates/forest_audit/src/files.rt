@@ -16,14 +16,14 @@ ghost use Rattle.forest_audit.specs.Verdicts.{IsStoreVerdict, IsVerdict, NamesPa
 use crate::trees::read_trees;
 use crate::verdict::{AuditStop, Verdict};
 use crate::views::{first_wrong, points_of};
+use audit_points::TreePoints;
+use audit_tree::{TreeAudit, TreeStop};
 use forest_open::{OpenStop, open_store};
 use forest_root::Store;
-use hash_seed::Seed;
-use kept_points::TreePoints;
 use page_fmt::PAGE;
 use site_core::{SIDES, Site};
 use std::alloc::Global;
-use tree_audit::{TreeAudit, TreeStop};
+use text_hash::Seed;
 
 /// Opens the files by their rules, and reads each page of the live side once. Nothing is written, also after an error.
 ///

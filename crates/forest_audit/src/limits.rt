@@ -3,14 +3,14 @@
 ghost use Rattle.std.specs.Prelude.{◌≡◌, ◌≤◌, ◌<◌, ℕ, get_or, length, map, slice_index};
 ghost use Rattle.std.specs.List.{All};
 ghost use Rattle.attr_dict.specs.Book.{Book, names_at};
-ghost use Rattle.view_points.specs.Points.{padded};
+ghost use Rattle.spec_points.specs.Points.{padded};
 ghost use Rattle.forest_audit.specs.Limits.{attr_limit, view_limits};
 
 use attr_dict::Lengths;
+use audit_tree::Limits;
 use cube_schema::{Kind, Schema};
 use page_fmt::ARITIES;
 use select_map::Tree;
-use tree_audit::Limits;
 
 /// The coordinate of the greatest number.
 const GREATEST: u64 = 1 << 63;

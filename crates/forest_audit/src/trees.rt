@@ -6,17 +6,17 @@ ghost use Rattle.site_core.specs.Frames.{LooksOnly};
 ghost use Rattle.attr_dict.specs.Book.{names_at};
 ghost use Rattle.forest_root.specs.Forest.{pages_of, pages_of_all};
 ghost use Rattle.select_map.specs.Selection.{tree_of};
-ghost use Rattle.tree_audit.specs.Kept.{AreViewsOf};
+ghost use Rattle.audit_tree.specs.Kept.{AreViewsOf};
 ghost use Rattle.forest_audit.specs.Audited.{tree_place, trees_of};
 ghost use Rattle.forest_audit.specs.Reading.{AreRead, AreShaped, IsAdded, IsReadTree, TellsTree, TellsTrees};
 
 use crate::limits::tree_limits;
 use attr_dict::Lengths;
+use audit_points::TreePoints;
+use audit_tree::{TreeAudit, TreeStop};
 use forest_root::Store;
-use kept_points::TreePoints;
 use site_core::Site;
 use std::alloc::Global;
-use tree_audit::{TreeAudit, TreeStop};
 
 /// Reads each page of each tree once, in ascending order, and keeps the points. `Ok` where all pages keep the rules.
 ///

@@ -6,11 +6,11 @@ ghost use Rattle.forest_audit.specs.Audited.{HasAll, ViewAgrees, tree_place, tre
 ghost use Rattle.forest_audit.specs.Reading.{AreRead, AreShaped};
 ghost use Rattle.forest_audit.specs.Agreeing.{FindsWrong, HasDims, IsFirstAt, StandsNowhere, IsViewRead, Pairs};
 
+use audit_points::{TreePoints, ViewPoints};
+use audit_view::{do_add_up, is_roll_up};
 use fact_model::Memory;
 use forest_root::Store;
-use kept_points::{TreePoints, ViewPoints};
 use std::alloc::Global;
-use view_audit::{do_add_up, is_roll_up};
 
 /// The number of the first view that does not agree with the facts or with another view, in order of declaration; `None` where all do.
 pub(crate) fn first_wrong(

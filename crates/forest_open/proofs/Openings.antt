@@ -10,7 +10,7 @@ use Rattle.site_core.specs.Moments.{IsStable}
 use Rattle.fact_model.specs.declared.fact.Fact.{Fact}
 use Rattle.fact_model.specs.Fact.{mass, measure_at}
 use Rattle.fact_model.proofs.Masses.{mass-cons}
-use Rattle.view_points.specs.Codes.{names, names_of}
+use Rattle.spec_points.specs.Codes.{names, names_of}
 use Rattle.cube_schema.specs.declared.schema.Schema.{Schema}
 use Rattle.cube_schema.specs.Agreeing.{Agrees}
 use Rattle.cube_schema.specs.declared.schema.Attr.{Attr}
@@ -33,17 +33,17 @@ use Rattle.forest_root.proofs.Answered.{live_damaged, one_first}
 use Rattle.forest_root.proofs.One.{held_is_live, one_body, one_live}
 use Rattle.forest_root.specs.declared.forest.Store.{Store}
 use Rattle.forest_root.specs.Forest.{pages_of_all}
-use Rattle.forest_bytes.specs.Forest.{forest}
-use Rattle.forest_bytes.proofs.Scanned.{forest-long}
+use Rattle.spec_forest.specs.Forest.{forest}
+use Rattle.spec_forest.proofs.Scanned.{forest-long}
 use Rattle.select_map.specs.Views.{selected}
-use Rattle.kept_forest.specs.Held.{AreAccepted, FitsFormat, IsLive, KeepsFacts, held, masses_of, names_text}
-use Rattle.kept_forest.specs.Opened.{HasRoot}
-use Rattle.kept_forest.specs.Sides.{page_total, side_of}
-use Rattle.kept_forest.specs.Stored.{IsWhole}
-use Rattle.kept_forest.proofs.Schemas.{few_measures, some_measures}
-use Rattle.kept_forest.proofs.Standing.{all_stable}
-use Rattle.kept_forest.proofs.Shown.{named_shown}
-use Rattle.kept_forest.proofs.Storable.{storable}
+use Rattle.spec_store.specs.Held.{AreAccepted, FitsFormat, IsLive, KeepsFacts, held, masses_of, names_text}
+use Rattle.spec_store.specs.Opened.{HasRoot}
+use Rattle.spec_store.specs.Sides.{page_total, side_of}
+use Rattle.spec_store.specs.Stored.{IsWhole}
+use Rattle.spec_store.proofs.Schemas.{few_measures, some_measures}
+use Rattle.spec_store.proofs.Standing.{all_stable}
+use Rattle.spec_store.proofs.Shown.{named_shown}
+use Rattle.spec_store.proofs.Storable.{storable}
 use Rattle.forest_open.specs.declared.stop.OpenStop.{OpenStop}
 use Rattle.forest_open.specs.declared.stop.OpenStop.TheVariants as stops
 use Rattle.forest_open.specs.Breaks.{BreaksAt, TellsBreak}

@@ -10,7 +10,7 @@ use Rattle.forest_root.specs.declared.body.Body.{Body}
 use Rattle.forest_root.specs.declared.forest.Forest.{Forest}
 use Rattle.forest_root.specs.declared.forest.Store.{Store}
 use Rattle.cube_schema.specs.declared.schema.Schema.{Schema}
-use Rattle.kept_forest.specs.Held.{AreAccepted, IsLive, KeepsAs}
+use Rattle.spec_store.specs.Held.{AreAccepted, IsLive, KeepsAs}
 use Rattle.forest_refresh.specs.declared.stop.BeginFault.{BeginFault}
 use Rattle.forest_refresh.specs.declared.stop.BeginStop.TheVariants as begins
 use Rattle.forest_refresh.specs.Back.{IsBack, IsCut}

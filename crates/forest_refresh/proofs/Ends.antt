@@ -10,13 +10,13 @@ use Rattle.forest_root.specs.declared.forest.Forest.{Forest}
 use Rattle.forest_root.specs.declared.forest.Store.{Store}
 use Rattle.forest_root.specs.Keeps.{IsBodyOf}
 use Rattle.forest_commit.specs.Commit.{IsLiveNow, slot_of}
-use Rattle.forest_bytes.specs.Forest.{forest as forest_bytes}
-use Rattle.kept_forest.specs.Held.{IsLive, KeepsAs, held}
-use Rattle.kept_forest.specs.Stored.{IsStoreOf, IsWhole}
-use Rattle.kept_forest.proofs.Places.{selection}
-use Rattle.kept_forest.proofs.Schemas.{few_views}
-use Rattle.kept_forest.proofs.Standing.{live_now}
-use Rattle.kept_forest.proofs.Storable.{storable}
+use Rattle.spec_forest.specs.Forest.{forest as forest_bytes}
+use Rattle.spec_store.specs.Held.{IsLive, KeepsAs, held}
+use Rattle.spec_store.specs.Stored.{IsStoreOf, IsWhole}
+use Rattle.spec_store.proofs.Places.{selection}
+use Rattle.spec_store.proofs.Schemas.{few_views}
+use Rattle.spec_store.proofs.Standing.{live_now}
+use Rattle.spec_store.proofs.Storable.{storable}
 use Rattle.forest_refresh.specs.Begun.{Begun, HasMoved, IsBegun, IsGoing, IsNext, IsNextBody, IsRefreshOf, batch_size, next_side}
 use Rattle.forest_refresh.specs.Next.{HasNumbers, counts_from}
 use Rattle.forest_refresh.specs.Progress.{Progress}

@@ -8,9 +8,9 @@ use Rattle.fact_model.specs.Fact.{measure_at}
 use Rattle.site_core.specs.Disk.{Files}
 use Rattle.fact_model.specs.declared.fact.Fact.{Fact}
 use Rattle.fact_model.specs.Fact.{mass, mass_limit}
-use Rattle.view_points.proofs.Members.{every-append, every-from_All, All-from_every}
+use Rattle.spec_points.proofs.Members.{every-append, every-from_All, All-from_every}
 use Rattle.site_core.specs.Causes.{HasCauseWhere}
-use Rattle.view_points.proofs.Sums.{mass-append}
+use Rattle.spec_points.proofs.Sums.{mass-append}
 use Rattle.forest_root.specs.declared.body.Body.{Body}
 use Rattle.forest_root.specs.Body.{IsBody, max_facts, max_names_len}
 use Rattle.page_fmt.specs.Formats.{wide_format}
@@ -19,8 +19,8 @@ use Rattle.cube_schema.specs.Writing.{canonical}
 use Rattle.forest_refresh.specs.declared.stop.BeginStop.TheVariants as begins
 use Rattle.cube_schema.specs.Agreeing.{Agrees}
 use Rattle.attr_dict.specs.Admitting.{entries_text}
-use Rattle.view_points.specs.Codes.{names}
-use Rattle.kept_forest.specs.Held.{AreAccepted, HasNames, IsLive, masses_of, names_text}
+use Rattle.spec_points.specs.Codes.{names}
+use Rattle.spec_store.specs.Held.{AreAccepted, HasNames, IsLive, masses_of, names_text}
 use Rattle.forest_refresh.specs.Limits.{TellsLimit}
 use Rattle.forest_refresh.specs.Next.{AddsNames, HasMass, HasNumbers, KeepsLimits, added, next_body}
 use Rattle.forest_commit.specs.Commit.{slot_of}

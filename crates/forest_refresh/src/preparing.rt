@@ -2,15 +2,15 @@
 ghost use Rattle.std.specs.Prelude.{◌≡◌, ◌≢◌, ◌<◌, ◌≤◌, ◌+◌, ◌++◌, ℕ, [], IfOk, IfErr, OnErr, OnOk, List, length, map, slice_index, vec_capacity};
 ghost use Rattle.site_core.specs.Disk.{Files};
 ghost use Rattle.fact_model.specs.declared.fact.Fact as declared;
-ghost use Rattle.view_points.specs.Codes.{names_of};
+ghost use Rattle.spec_points.specs.Codes.{names_of};
 ghost use Rattle.attr_dict.specs.Admitting.{names_with};
 ghost use Rattle.attr_dict.specs.Book.{HoldsNamesOf, names_at, shown_names};
 ghost use Rattle.attr_dict.specs.Room.{entries_len, entries_limit};
 ghost use Rattle.cube_schema.specs.Writing.{canonical};
 ghost use Rattle.forest_root.specs.Body.{max_facts};
 ghost use Rattle.page_fmt.specs.Formats.{wide_format};
-ghost use Rattle.kept_forest.specs.Held.{AreAccepted, HasNames, IsLive, format_for};
-ghost use Rattle.kept_forest.specs.Stored.{IsStoreOf, IsWhole};
+ghost use Rattle.spec_store.specs.Held.{AreAccepted, HasNames, IsLive, format_for};
+ghost use Rattle.spec_store.specs.Stored.{IsStoreOf, IsWhole};
 ghost use Rattle.forest_refresh.specs.Back.{IsBack};
 ghost use Rattle.forest_refresh.specs.Begun.{HasMoved, IsBegun, IsGoing, IsRefreshOf};
 ghost use Rattle.forest_refresh.specs.Limits.{IsBatchOf, TellsLimit};

@@ -4,8 +4,8 @@ use Rattle.std.specs.Prelude.{Result, Ok, Err, IfOk, OnOk, OnErr, IsErrAnd}
 use Rattle.fact_model.specs.Cell.{FitCells}
 use Rattle.cube_point.specs.declared.point.Entry.{Entry}
 use Rattle.delta_agg.specs.declared.join.DoesNotJoin.{DoesNotJoin}
-use Rattle.view_points.specs.Entries.{both}
-use Rattle.packing.specs.Levels.{children_at, full_level, rest_level}
+use Rattle.spec_points.specs.Entries.{both}
+use Rattle.spec_tree.specs.Levels.{children_at, full_level, rest_level}
 use Rattle.page_fmt.specs.Pages.{inner_bytes, leaf_bytes}
 use Rattle.page_fmt.specs.Trees.{fanout_of}
 use Rattle.page_fmt.specs.Writing.{leaf_arity}

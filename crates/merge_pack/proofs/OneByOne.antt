@@ -9,7 +9,7 @@ use Rattle.std.proofs.lemmas.List.Elements.{All-tail}
 use Rattle.cube_point.specs.declared.point.Entry.{Entry}
 use Rattle.cube_point.specs.declared.point.Point.{Point}
 use Rattle.cube_point.specs.declared.point.Shape.{Shape}
-use Rattle.packing.specs.Levels.{full_level}
+use Rattle.spec_tree.specs.Levels.{full_level}
 use Rattle.page_fmt.proofs.Laws.{and-both}
 use Rattle.page_fmt.specs.Runs.{Precedes}
 use Rattle.page_fmt.specs.Taking.{ascend, entry_before}

@@ -3,7 +3,7 @@ use Rattle.std.specs.Prelude.{◌≡◌, ◌≤◌, ℕ, List, Some, None, Resul
 use Rattle.std.specs.List.{All}
 use Rattle.cube_point.specs.declared.point.Entry.{Entry}
 use Rattle.delta_agg.specs.declared.join.DoesNotJoin.{DoesNotJoin}
-use Rattle.packing.specs.Levels.{full_level, rest_level}
+use Rattle.spec_tree.specs.Levels.{full_level, rest_level}
 use Rattle.page_fmt.specs.Trees.{fanout_of}
 use Rattle.tree_pack.specs.Moving.{HasPageIn, HasRoomIn}
 use Rattle.merge_pack.specs.declared.side.Advance.{Advance}

@@ -3,7 +3,7 @@
 ghost use Rattle.std.specs.Prelude.{◌≡◌, ◌<◌, List, ◌∷◌, drop, length, OnErr, OnOk};
 ghost use Rattle.fact_model.specs.Cell.{FitCells};
 ghost use Rattle.cube_point.specs.declared.point.Entry as declared;
-ghost use Rattle.view_points.specs.Entries.{both};
+ghost use Rattle.spec_points.specs.Entries.{both};
 ghost use Rattle.tree_pack.specs.Moving.{with_point};
 ghost use Rattle.merge_pack.specs.Merging.{MayTake, first_point, side_of};
 

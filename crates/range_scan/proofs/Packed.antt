@@ -7,16 +7,16 @@ use Rattle.std.proofs.lemmas.List.{length-map}
 use Rattle.std.proofs.lemmas.List.Elements.{All-contains, All-nil}
 use Rattle.cube_point.specs.declared.bounds.Region.{Region}
 use Rattle.cube_point.specs.declared.point.Entry.{Entry}
-use Rattle.packing.specs.Counts.{reach, runs_of}
-use Rattle.packing.specs.Runs.{runs, top}
-use Rattle.packing.specs.Tree.{Node, inner, laid, leaf, size}
-use Rattle.packing.proofs.Counts.{length-laid}
-use Rattle.packing.proofs.Finish.{below_factor}
-use Rattle.packing.proofs.Leaves.{leaves-views}
-use Rattle.packing.proofs.Pages.{size-cons}
-use Rattle.packing.proofs.Room.{twelve}
-use Rattle.packing.proofs.Runs.{length-runs_of}
-use Rattle.packing.proofs.Tops.{every-top}
+use Rattle.spec_tree.specs.Counts.{reach, runs_of}
+use Rattle.spec_tree.specs.Runs.{runs, top}
+use Rattle.spec_tree.specs.Tree.{Node, inner, laid, leaf, size}
+use Rattle.spec_tree.proofs.Counts.{length-laid}
+use Rattle.spec_tree.proofs.Finish.{below_factor}
+use Rattle.spec_tree.proofs.Leaves.{leaves-views}
+use Rattle.spec_tree.proofs.Pages.{size-cons}
+use Rattle.spec_tree.proofs.Room.{twelve}
+use Rattle.spec_tree.proofs.Runs.{length-runs_of}
+use Rattle.spec_tree.proofs.Tops.{every-top}
 use Rattle.page_fmt.specs.declared.page.Child.{Child}
 use Rattle.page_fmt.specs.declared.page.Place.{Place}
 use Rattle.page_fmt.specs.declared.page.TheConstants.{PAGE}

@@ -3,7 +3,7 @@ use Rattle.std.proofs.Common.{◌≡◌, ◌≤◌, ◌<◌, ◌+◌, ℕ, suc, 
 use Rattle.std.specs.List.{AllByRecursion, IsDistinct}
 use Rattle.std.proofs.lemmas.Bool.{ne_eqb}
 use Rattle.std.proofs.lemmas.Map.Keys.{IsDistinct-cons, IsDistinct-head, IsDistinct-tail}
-use Rattle.packing.proofs.Tops.{every-append}
+use Rattle.spec_tree.proofs.Tops.{every-append}
 
 -- the number is one of so many from the first on
 abbrev IsFrom : ℕ → ℕ → ℕ → Type 0

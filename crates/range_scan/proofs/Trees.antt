@@ -7,10 +7,10 @@ use Rattle.std.proofs.lemmas.Grind.{flat_map-append}
 use Rattle.std.proofs.lemmas.List.Elements.{All-append, All-cons, All-nil, filter-append}
 use Rattle.cube_point.specs.declared.bounds.Region.{Region}
 use Rattle.cube_point.specs.declared.point.Entry.{Entry}
-use Rattle.packing.specs.Tree.{Leaf, Inner, Node, entries_in, inner, laid, leaf, placed, size}
-use Rattle.packing.proofs.Counts.{Sized, length-laid}
-use Rattle.packing.proofs.Entries.{entries-append}
-use Rattle.packing.proofs.Pages.{size-cons}
+use Rattle.spec_tree.specs.Tree.{Leaf, Inner, Node, entries_in, inner, laid, leaf, placed, size}
+use Rattle.spec_tree.proofs.Counts.{Sized, length-laid}
+use Rattle.spec_tree.proofs.Entries.{entries-append}
+use Rattle.spec_tree.proofs.Pages.{size-cons}
 use Rattle.page_fmt.specs.declared.page.Child.{Child}
 use Rattle.page_fmt.specs.declared.page.Place.{Place}
 use Rattle.leaf_pack.specs.Cover.{box_of}

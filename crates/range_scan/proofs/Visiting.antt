@@ -6,8 +6,8 @@ use Rattle.std.proofs.lemmas.List.Elements.{All-nil}
 use Rattle.cube_point.specs.declared.bounds.Region.{Region}
 use Rattle.cube_point.specs.declared.point.Entry.{Entry}
 use Rattle.cube_point.specs.declared.point.Shape.{Shape}
-use Rattle.byte_formats.specs.Formats.{IsBytes}
-use Rattle.packing.specs.Tree.{Leaf, Inner}
+use Rattle.be_numbers.specs.Formats.{IsBytes}
+use Rattle.spec_tree.specs.Tree.{Leaf, Inner}
 use Rattle.page_fmt.specs.declared.page.Child.{Child}
 use Rattle.page_fmt.specs.declared.page.Head.{Head}
 use Rattle.page_fmt.specs.declared.page.Node.TheVariants as nodes

@@ -3,8 +3,8 @@ ghost use Rattle.std.specs.Prelude.{◌≡◌, ◌<◌, ◌≤◌, ℕ, IfSome, 
 ghost use Rattle.std.specs.List.{All};
 ghost use Rattle.fact_model.specs.declared.fact.Fact as facts;
 ghost use Rattle.cube_schema.specs.Lawful.{IsSchema};
-ghost use Rattle.view_points.specs.Agree.{InRange, Once, among};
-ghost use Rattle.view_points.specs.Codes.{names_of};
+ghost use Rattle.spec_points.specs.Agree.{InRange, Once, among};
+ghost use Rattle.spec_points.specs.Codes.{names_of};
 ghost use Rattle.replica_route.specs.Picked.{Picks, beats, better, choice_of, is_bound, is_run, joins_run, picked, suffix};
 ghost use Rattle.replica_route.specs.Together.{LieTogether};
 

@@ -17,7 +17,7 @@ use Rattle.fact_model.specs.declared.slice.Row.{Row}
 use Rattle.fact_model.specs.declared.slice.Slice.{Slice}
 use Rattle.fact_model.specs.Adds.{AddUp}
 use Rattle.fact_model.specs.Rows.{rows}
-use Rattle.plain_machine.specs.Machine.{is_covered, rows_reply, slice_reply}
+use Rattle.spec_machine.specs.Machine.{is_covered, rows_reply, slice_reply}
 use Rattle.reply_text.specs.Replies.{answer_text, line, not_covered, numbered}
 use Rattle.row_fold.specs.Folds.{KeepsMass}
 use Rattle.row_fold.proofs.FoldLaws.{lists-join}

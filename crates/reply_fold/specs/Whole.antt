@@ -16,7 +16,7 @@ use Rattle.fact_model.specs.declared.fact.Fact.{Fact}
 use Rattle.fact_model.specs.declared.slice.Column.{Column}
 use Rattle.fact_model.specs.declared.slice.Row.{Row}
 use Rattle.fact_model.specs.declared.slice.Slice.{Slice}
-use Rattle.plain_machine.specs.Machine.{slice_over}
+use Rattle.spec_machine.specs.Machine.{slice_over}
 use Rattle.reply_text.specs.Replies.{answer_text}
 use Rattle.row_fold.specs.Folds.{folded}
 use Rattle.slice_lang.specs.Reading.{slice_of}

@@ -12,8 +12,8 @@ use Rattle.cube_schema.specs.declared.schema.Schema.{Schema}
 use Rattle.fact_model.specs.Slice.{attr_of}
 use Rattle.fact_model.specs.declared.slice.Slice.{Slice}
 use Rattle.slice_lang.specs.Agreeing.{SliceAgrees, FitsKind}
-use Rattle.view_points.specs.Agree.{among}
-use Rattle.view_points.proofs.Members.{all-every, every-map, every-filter, every-both}
+use Rattle.spec_points.specs.Agree.{among}
+use Rattle.spec_points.proofs.Members.{all-every, every-map, every-filter, every-both}
 use Rattle.roll_up.specs.Bases.{base, is_on_attr, source_of, sources}
 use Rattle.roll_up.specs.Levels.{Fit, IsLevelOf, as_attr, extended}
 use Rattle.roll_up.specs.declared.level.Level.{Level}

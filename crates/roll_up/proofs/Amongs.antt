@@ -6,7 +6,7 @@ use Rattle.fact_model.specs.Value.{Key}
 use Rattle.std.specs.List.{list_all, range_with_len}
 use Rattle.row_fold.specs.Lent.{value_of}
 use Rattle.row_fold.specs.declared.lent.LentValue.{LentValue}
-use Rattle.view_points.specs.Agree.{among}
+use Rattle.spec_points.specs.Agree.{among}
 use Rattle.roll_up.specs.Lifted.{value_for}
 use Rattle.roll_up.proofs.Lifts.{among-cons, among-here}
 

@@ -8,8 +8,8 @@ use Rattle.fact_model.specs.declared.fact.Fact.{Fact}
 use Rattle.fact_model.specs.declared.slice.Cond.{Cond}
 use Rattle.fact_model.specs.declared.slice.Cond.TheVariants.{Equal, Between}
 use Rattle.fact_model.specs.declared.slice.Slice.{Slice}
-use Rattle.view_points.specs.Agree.{among}
-use Rattle.view_points.proofs.Members.{every-map, every-filter, every-both}
+use Rattle.spec_points.specs.Agree.{among}
+use Rattle.spec_points.proofs.Members.{every-map, every-filter, every-both}
 use Rattle.roll_up.specs.Bases.{source_of, is_on_level, is_on_attr, level_conds, sources, base}
 use Rattle.roll_up.specs.Lifted.{value_for, is_met, value_in, rolled, is_kept}
 use Rattle.roll_up.specs.Levels.{lift}

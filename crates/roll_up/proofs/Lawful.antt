@@ -30,7 +30,7 @@ use Rattle.slice_lang.specs.Values.{in_range}
 use Rattle.fact_model.specs.Value.{same_value, value_cmp}
 use Rattle.fact_model.specs.declared.fact.Value.{Value}
 use Rattle.fact_model.specs.declared.fact.Value.TheVariants.{Word, Number}
-use Rattle.view_points.proofs.Members.{every-append}
+use Rattle.spec_points.proofs.Members.{every-append}
 use Rattle.fact_model.proofs.ValueOrder.{value-total}
 use Rattle.roll_up.specs.Levels.{Fit, IsLevelOf, as_attr, extended}
 use Rattle.roll_up.specs.Parents.{Parent, has_parent}

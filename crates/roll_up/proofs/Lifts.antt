@@ -7,7 +7,7 @@ use Rattle.fact_model.specs.Fact.{value_at}
 use Rattle.fact_model.specs.declared.fact.Fact.{Fact}
 use Rattle.fact_model.specs.declared.fact.Value.{Value}
 use Rattle.fact_model.specs.declared.fact.Value.TheVariants.{Word, Number}
-use Rattle.view_points.specs.Agree.{among}
+use Rattle.spec_points.specs.Agree.{among}
 use Rattle.roll_up.specs.Bases.{source_of}
 use Rattle.roll_up.specs.Lifted.{value_for, lifted_at}
 use Rattle.roll_up.specs.Levels.{lift}

@@ -15,7 +15,7 @@ use Rattle.row_fold.proofs.FoldLaws.{facts-grouped, rows-fold}
 use Rattle.row_fold.proofs.Grouping.{grouped, put}
 use Rattle.row_fold.proofs.NumberJoins.{one}
 use Rattle.row_fold.proofs.Regroup.{grouped-same}
-use Rattle.view_points.proofs.Members.{every-filter, every-from_All, every-map, filter-same}
+use Rattle.spec_points.proofs.Members.{every-filter, every-from_All, every-map, filter-same}
 use Rattle.roll_up.specs.declared.level.Level.{Level}
 use Rattle.roll_up.specs.Bases.{base}
 use Rattle.roll_up.specs.Levels.{lift}

@@ -4,7 +4,7 @@ use Rattle.std.specs.List.{range_with_len}
 use Rattle.fact_model.specs.Slice.{attr_of}
 use Rattle.fact_model.specs.declared.slice.Cond.{Cond}
 use Rattle.fact_model.specs.declared.slice.Slice.{Slice}
-use Rattle.view_points.specs.Agree.{among}
+use Rattle.spec_points.specs.Agree.{among}
 use Rattle.roll_up.specs.declared.level.Level.{Level}
 
 -- the condition is on a level

@@ -15,10 +15,10 @@ use csv::ByteRecord;
 use csv_text::{block_reader, read_record};
 use cube_schema::{Kind, Schema, is_name};
 use fact_model::{LONGEST_TEXT, Text};
-use hash_seed::Seed;
 use row_fold::LentValue;
 use slice_lang::read_coordinate;
 use std::alloc::Global;
+use text_hash::Seed;
 
 /// The most rows of a level.
 const MOST_ROWS: u64 = 262_144;

@@ -4,7 +4,7 @@ use Rattle.std.proofs.lemmas.List.{get_or_past}
 use Rattle.std.proofs.lemmas.List.FromFn.{get_or-map-range_with_len, length-map-range_with_len}
 use Rattle.std.proofs.lemmas.Bool.{cases_lt}
 use Rattle.std.proofs.lemmas.Nat.{mod_below}
-use Rattle.draws.specs.Draw.{draw}
+use Rattle.lcg.specs.Draw.{draw}
 use Rattle.site_core.specs.Disk.{Files}
 use Rattle.site_core.proofs.Files.{with_file-other}
 use Rattle.site_mem.specs.declared.step.Step.{Step}

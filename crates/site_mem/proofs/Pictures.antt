@@ -4,7 +4,7 @@ use Rattle.std.specs.List.{range_with_len}
 use Rattle.std.proofs.lemmas.List.{map-id}
 use Rattle.std.proofs.lemmas.List.FromFn.{map-range_with_len_more}
 use Rattle.std.proofs.lemmas.List.Sums.{sum_by_push}
-use Rattle.draws.specs.Draw.{draw, next_state, state_after}
+use Rattle.lcg.specs.Draw.{draw, next_state, state_after}
 use Rattle.site_core.specs.Disk.{Files}
 use Rattle.site_mem.specs.declared.step.Step.{Step}
 use Rattle.site_mem.specs.Image.{pictured, unstable_below}

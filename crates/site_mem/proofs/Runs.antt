@@ -6,7 +6,7 @@ use Rattle.std.proofs.lemmas.Bool.Decides.{nat_tests}
 use Rattle.std.proofs.lemmas.List.{ext_get_or, get_or-take, get_or-drop, get_or-replicate, get_or-append_right, length-append, length-replicate, append_assoc, take_all}
 use Rattle.std.proofs.Math.ListN.{get_or-append}
 use Rattle.std.proofs.lemmas.List.FromFn.{get_or-map-range_with_len, length-map-range_with_len, map-range_with_len_more}
-use Rattle.draws.specs.Draw.{draw, next_state, state_after}
+use Rattle.lcg.specs.Draw.{draw, next_state, state_after}
 use Rattle.site_core.specs.Disk.{Files}
 use Rattle.site_mem.specs.declared.step.Step.{Step}
 use Rattle.site_mem.specs.Image.{pictured, unstable_below, drawn_bytes, IsDrawnSoFar}

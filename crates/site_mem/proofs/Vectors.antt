@@ -1,7 +1,7 @@
 -- What a stop may leave of an example, byte by byte; the values were worked out apart from the program. Behind a sync there are
 -- a write over stable bytes that failed, one past the end, and one into an empty file.
 use Rattle.std.proofs.Common.{◌≡◌, ◌<◌, ◌+◌, ◌^◌, ℕ, List, [], ◌∷◌, length, refl, arith}
-use Rattle.draws.specs.Draw.{draw, next_state}
+use Rattle.lcg.specs.Draw.{draw, next_state}
 use Rattle.site_core.specs.Disk.{Files}
 use Rattle.site_mem.specs.declared.step.Range.{Range}
 use Rattle.site_mem.specs.declared.step.Step.{Step}

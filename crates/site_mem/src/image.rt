@@ -5,12 +5,12 @@ ghost use Rattle.site_mem.specs.Unstable.{reach};
 
 use crate::step::Step;
 use crate::tape::Tape;
-use draws::Draws;
 use fact_model::{Memory, Text};
+use lcg::Draws;
 use std::alloc::Global;
 
 impl Tape {
-    ghost use Rattle.draws.specs.Draw.{next_state};
+    ghost use Rattle.lcg.specs.Draw.{next_state};
     ghost use Rattle.site_mem.specs.Tape.{tape_disk, tape_stable, tape_full};
     ghost use Rattle.site_mem.specs.Tape.{tape_filled, tape_drawn, tape_drawn_length, tape_drawn_file, tape_state_behind};
 

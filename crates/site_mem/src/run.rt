@@ -1,12 +1,12 @@
 //! Runs of places of a file that are all unstable, or all stable, so that no byte of an image has to look at the steps.
 ghost use Rattle.std.specs.Prelude.{◌≡◌, ◌<◌, ◌≤◌, ◌++◌, ◌-◌, ℕ, true, false, length, take, drop, vec_len, reverse, OnOk};
-ghost use Rattle.draws.specs.Draw.{state_after};
+ghost use Rattle.lcg.specs.Draw.{state_after};
 ghost use Rattle.site_mem.specs.Image.{drawn_bytes};
 ghost use Rattle.site_mem.specs.Unstable.{is_torn};
 
 use crate::step::Step;
 use crate::tape::Tape;
-use draws::Draws;
+use lcg::Draws;
 use std::alloc::AllocError;
 
 /// Where a run ends, and whether its places are unstable.

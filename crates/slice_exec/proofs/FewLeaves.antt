@@ -22,12 +22,12 @@ use Rattle.cube_schema.specs.Lawful.{IsSchema}
 use Rattle.delta_agg.proofs.Rising.{schema-selection}
 use Rattle.select_map.specs.declared.mapping.Mapping.{Mapping}
 use Rattle.select_map.specs.Views.{selected, tree_number}
-use Rattle.view_points.specs.Answer.{Interval, codes_of, inside, interval, just, nothing, region, top_coord, within}
-use Rattle.view_points.specs.Codes.{Text, code_in, names_of}
-use Rattle.view_points.specs.Entries.{entry_of}
-use Rattle.view_points.specs.Points.{Names, PlacedCell, View, points}
-use Rattle.view_points.proofs.Codes.{code-positive}
-use Rattle.view_points.proofs.Members.{every-from_All}
+use Rattle.spec_points.specs.Answer.{Interval, codes_of, inside, interval, just, nothing, region, top_coord, within}
+use Rattle.spec_points.specs.Codes.{Text, code_in, names_of}
+use Rattle.spec_points.specs.Entries.{entry_of}
+use Rattle.spec_points.specs.Points.{Names, PlacedCell, View, points}
+use Rattle.spec_points.proofs.Codes.{code-positive}
+use Rattle.spec_points.proofs.Members.{every-from_All}
 use Rattle.page_fmt.specs.declared.page.Place.{Place}
 use Rattle.page_fmt.specs.Trees.{room_of}
 use Rattle.page_fmt.specs.Formats.{is_wide}
@@ -37,17 +37,17 @@ use Rattle.page_fmt.specs.Pages.{width}
 use Rattle.page_fmt.proofs.Rooms.{room-many}
 use Rattle.page_fmt.proofs.Widths.{fits-wide}
 use Rattle.tree_pack.specs.Packing.{max_first}
-use Rattle.forest_bytes.specs.Storable.{AreStorable}
-use Rattle.forest_bytes.proofs.Leaves.{entries-fit}
+use Rattle.spec_forest.specs.Storable.{AreStorable}
+use Rattle.spec_forest.proofs.Leaves.{entries-fit}
 use Rattle.view_route.specs.Counts.{body_counts}
-use Rattle.forest_bytes.specs.Forest.{forest, tree_entries, view_entries, views_over}
-use Rattle.forest_bytes.proofs.Bounds.{pages-within}
-use Rattle.forest_bytes.proofs.Scanned.{counts-few, few-views, tree-there}
-use Rattle.forest_bytes.proofs.Selected.{few-measures, pages-told, tree, tree-shape, tree-views, view-of-tree}
+use Rattle.spec_forest.specs.Forest.{forest, tree_entries, view_entries, views_over}
+use Rattle.spec_forest.proofs.Bounds.{pages-within}
+use Rattle.spec_forest.proofs.Scanned.{counts-few, few-views, tree-there}
+use Rattle.spec_forest.proofs.Selected.{few-measures, pages-told, tree, tree-shape, tree-views, view-of-tree}
 use Rattle.forest_root.specs.Forest.{pages_of, pages_of_all}
-use Rattle.kept_forest.specs.Held.{AreAccepted, FitsFormat}
-use Rattle.kept_forest.proofs.Schemas.{view-short}
-use Rattle.kept_forest.proofs.Storable.{storable}
+use Rattle.spec_store.specs.Held.{AreAccepted, FitsFormat}
+use Rattle.spec_store.proofs.Schemas.{view-short}
+use Rattle.spec_store.proofs.Storable.{storable}
 use Rattle.range_scan.specs.Meeting.{is_inside}
 use Rattle.range_scan.specs.Packed.{HoldsTree}
 use Rattle.range_scan.proofs.Tests.{inside-told}
@@ -55,9 +55,9 @@ use Rattle.view_rows.specs.Regions.{clamped, region_from}
 use Rattle.replica_route.specs.Together.{matching}
 use Rattle.replica_route.proofs.Bound.{AreApart, IsFree, free-interval}
 use Rattle.replica_route.proofs.Told.{view-apart}
-use Rattle.replica_leaves.specs.Leaves.{IsLastBound, leaves_among, most_leaves}
-use Rattle.replica_leaves.proofs.Packed.{leaves-few}
-use Rattle.replica_leaves.proofs.Touched.{passing-fewer}
+use Rattle.spec_leaves.specs.Leaves.{IsLastBound, leaves_among, most_leaves}
+use Rattle.spec_leaves.proofs.Packed.{leaves-few}
+use Rattle.spec_leaves.proofs.Touched.{passing-fewer}
 use Rattle.slice_exec.specs.Costs.{region_over, tree_over, visits_over}
 use Rattle.slice_exec.specs.Leaves.{BindsLast}
 use Rattle.slice_exec.proofs.Found.{filter-map, filter-through}

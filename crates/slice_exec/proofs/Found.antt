@@ -15,25 +15,25 @@ use Rattle.cube_schema.specs.declared.schema.Schema.{Schema}
 use Rattle.cube_schema.specs.Kinds.{measure_count}
 use Rattle.select_map.specs.Selection.{tree_of}
 use Rattle.select_map.specs.Views.{tree_number}
-use Rattle.view_points.specs.Answer.{Interval, inside, region, top_coord}
-use Rattle.view_points.specs.Codes.{names_of}
-use Rattle.view_points.specs.Entries.{entry_of}
-use Rattle.view_points.specs.Points.{Names, PlacedCell, View, points_by}
-use Rattle.view_points.proofs.Members.{every-from_All, every-map, filter-same}
+use Rattle.spec_points.specs.Answer.{Interval, inside, region, top_coord}
+use Rattle.spec_points.specs.Codes.{names_of}
+use Rattle.spec_points.specs.Entries.{entry_of}
+use Rattle.spec_points.specs.Points.{Names, PlacedCell, View, points_by}
+use Rattle.spec_points.proofs.Members.{every-from_All, every-map, filter-same}
 use Rattle.attr_dict.specs.Book.{shown_names}
 use Rattle.page_fmt.specs.Formats.{wide_format}
 use Rattle.page_fmt.specs.Lawful.{IsCoordinate}
 use Rattle.page_fmt.specs.Pages.{width}
 use Rattle.page_fmt.specs.Writing.{FitsLeaf}
 use Rattle.page_fmt.proofs.Widths.{fits-wide}
-use Rattle.forest_bytes.specs.Storable.{AreStorable}
-use Rattle.forest_bytes.proofs.Leaves.{entries-fit}
+use Rattle.spec_forest.specs.Storable.{AreStorable}
+use Rattle.spec_forest.proofs.Leaves.{entries-fit}
 use Rattle.forest_root.specs.declared.forest.Store.{Store}
-use Rattle.forest_bytes.specs.Forest.{tree_entries, view_entries}
-use Rattle.kept_forest.specs.Held.{AreAccepted}
-use Rattle.kept_forest.proofs.Schemas.{few_measures, view-short}
-use Rattle.kept_forest.proofs.Storable.{any-wide, storable}
-use Rattle.kept_forest.proofs.ViewReads.{points-view}
+use Rattle.spec_forest.specs.Forest.{tree_entries, view_entries}
+use Rattle.spec_store.specs.Held.{AreAccepted}
+use Rattle.spec_store.proofs.Schemas.{few_measures, view-short}
+use Rattle.spec_store.proofs.Storable.{any-wide, storable}
+use Rattle.spec_store.proofs.ViewReads.{points-view}
 use Rattle.range_scan.specs.Meeting.{is_inside}
 use Rattle.range_scan.proofs.Tests.{inside-from, inside-told}
 use Rattle.slice_lang.specs.Agreeing.{SliceAgrees}

@@ -8,11 +8,11 @@ use Rattle.fact_model.specs.declared.slice.Slice.{Slice}
 use Rattle.cube_schema.specs.declared.schema.Attr.{Attr}
 use Rattle.cube_schema.specs.Lawful.{is_view}
 use Rattle.cube_schema.specs.Reading.{are_distinct}
-use Rattle.view_points.specs.Agree.{among}
-use Rattle.view_points.specs.Points.{View}
-use Rattle.view_points.proofs.Members.{All-from_every, all-every, every-map}
+use Rattle.spec_points.specs.Agree.{among}
+use Rattle.spec_points.specs.Points.{View}
+use Rattle.spec_points.proofs.Members.{All-from_every, all-every, every-map}
 use Rattle.forest_root.specs.declared.forest.Store.{Store}
-use Rattle.kept_forest.proofs.Schemas.{view-short}
+use Rattle.spec_store.proofs.Schemas.{view-short}
 use Rattle.view_route.specs.Routes.{IsCovering}
 use Rattle.view_route.proofs.Covering.{covering}
 

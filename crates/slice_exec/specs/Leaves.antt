@@ -7,10 +7,10 @@ use Rattle.fact_model.specs.declared.fact.Fact.{Fact}
 use Rattle.fact_model.specs.declared.slice.Cond.{Cond}
 use Rattle.fact_model.specs.declared.slice.Slice.{Slice}
 use Rattle.fact_model.specs.Slice.{attr_of}
-use Rattle.view_points.specs.Points.{View}
+use Rattle.spec_points.specs.Points.{View}
 use Rattle.page_fmt.specs.Trees.{room_of}
-use Rattle.forest_bytes.specs.Forest.{forest}
-use Rattle.replica_leaves.specs.Leaves.{leaves_among, most_leaves}
+use Rattle.spec_forest.specs.Forest.{forest}
+use Rattle.spec_leaves.specs.Leaves.{leaves_among, most_leaves}
 use Rattle.replica_route.specs.Together.{matching}
 use Rattle.slice_exec.specs.Costs.{tree_over, visits_over}
 

@@ -3,7 +3,7 @@ ghost use Rattle.std.specs.Prelude.{◌≡◌, ℕ, IsTrue, IfOk, IfErr, List};
 ghost use Rattle.std.specs.List.{All};
 ghost use Rattle.fact_model.specs.declared.fact.Fact as facts;
 ghost use Rattle.fact_model.specs.Rows.{rows};
-ghost use Rattle.kept_forest.specs.Stored.{IsStoreOf};
+ghost use Rattle.spec_store.specs.Stored.{IsStoreOf};
 ghost use Rattle.page_cache.specs.Keeping.{Agrees};
 ghost use Rattle.slice_lang.specs.Agreeing.{SliceAgrees};
 ghost use Rattle.view_route.specs.Routes.{IsCovering, IsRoute};

@@ -6,7 +6,7 @@ mod warehouse;
 use fact_model::Memory;
 use std::io;
 use std::io::{BufRead, BufReader, Print};
-use trial_text::Trial;
+use trial_lang::Trial;
 use warehouse::Warehouse;
 
 fn main(rt: HostRuntime) -> io::Result<()> {

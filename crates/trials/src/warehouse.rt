@@ -1,10 +1,10 @@
 //! The program of the warehouse.
 
 use cube_shell::{Status, run_within};
-use hash_seed::Seed;
 use site_mem::{MemorySource, ShortSite, SureSite, SureSource};
 use std::alloc::Global;
-use trial_text::{Ended, Program};
+use text_hash::Seed;
+use trial_lang::{Ended, Program};
 
 /// It runs as `cubetree` does.
 #[derive(Drop)]

@@ -1,7 +1,7 @@
 -- How many points the views of a schema have.
 use Rattle.std.specs.Prelude.{ℕ, ◌-◌, List, ◌++◌, length, map, replicate}
 use Rattle.fact_model.specs.declared.fact.Fact.{Fact}
-use Rattle.view_points.specs.Points.{points}
+use Rattle.spec_points.specs.Points.{points}
 use Rattle.cube_schema.specs.declared.schema.Schema.{Schema}
 use Rattle.cube_schema.specs.Kinds.{measure_count}
 

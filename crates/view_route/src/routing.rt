@@ -3,7 +3,7 @@ ghost use Rattle.std.specs.Prelude.{◌≡◌, ◌<◌, IfSome, length};
 ghost use Rattle.std.specs.List.{list_all};
 ghost use Rattle.fact_model.specs.Slice.{attr_of};
 ghost use Rattle.cube_schema.specs.Lawful.{IsSchema};
-ghost use Rattle.view_points.specs.Agree.{among};
+ghost use Rattle.spec_points.specs.Agree.{among};
 ghost use Rattle.view_route.specs.Routes.{Routes, covers, is_fewer};
 
 use cube_schema::Schema;

@@ -3,7 +3,7 @@ use Rattle.std.proofs.Common.{◌≡◌, ℕ, zero, suc, ◌+◌, ◌-◌, ◌<�
 use Rattle.std.proofs.Math.Seq.{get_or-append_right}
 use Rattle.std.proofs.lemmas.List.{get_or_append_left, length-append, length-map, map-append, map-set, set-append_left, set-append_right}
 use Rattle.cube_point.specs.declared.point.Entry.{Entry}
-use Rattle.view_points.specs.Entries.{both}
+use Rattle.spec_points.specs.Entries.{both}
 use Rattle.view_rows.specs.Bare.{bare}
 use Rattle.view_rows.specs.Grouped.{nowhere}
 use Rattle.view_rows.specs.Kept.{place_of}

@@ -9,7 +9,7 @@ use Rattle.fact_model.specs.declared.slice.Row.{Row}
 use Rattle.fact_model.specs.Fact.{mass_limit}
 use Rattle.fact_model.specs.Value.{Key}
 use Rattle.fact_model.proofs.Sums.{all_add, column-cons}
-use Rattle.view_points.specs.Answer.{column_of, row_from}
+use Rattle.spec_points.specs.Answer.{column_of, row_from}
 
 -- a row of nothing
 abbrev pub no_row : Row

@@ -3,8 +3,8 @@ ghost use Rattle.std.specs.Prelude.{◌≡◌, ◌<◌, ◌≤◌, ◌++◌, ◌
 ghost use Rattle.cube_point.specs.declared.point.Entry as entries;
 ghost use Rattle.fact_model.specs.Cell.{join, part_of};
 ghost use Rattle.page_fmt.specs.Cells.{EndsInZeros};
-ghost use Rattle.view_points.specs.Answer.{column_of};
-ghost use Rattle.view_points.specs.Entries.{both};
+ghost use Rattle.spec_points.specs.Answer.{column_of};
+ghost use Rattle.spec_points.specs.Entries.{both};
 ghost use Rattle.view_rows.specs.Bare.{bare};
 ghost use Rattle.view_rows.specs.Grouped.{Joins, nowhere};
 ghost use Rattle.view_rows.specs.Kept.{place_of};

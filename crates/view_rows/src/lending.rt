@@ -1,7 +1,7 @@
 //! The rows of points, lent.
 ghost use Rattle.std.specs.Prelude.{◌≡◌, ◌<◌, All, OnOk, get_or, length, map};
 ghost use Rattle.row_fold.specs.Lent.{row_in, value_of};
-ghost use Rattle.view_points.specs.Answer.{column_of, row_from};
+ghost use Rattle.spec_points.specs.Answer.{column_of, row_from};
 ghost use Rattle.view_rows.specs.Grouped.{key_of_entry, keyed, nowhere, value_at_code};
 
 use crate::flat::FlatPoints;

@@ -1,6 +1,6 @@
 //! The rows of points, made.
 ghost use Rattle.std.specs.Prelude.{◌≡◌, ◌<◌, All, IfOk, get_or, length, map};
-ghost use Rattle.view_points.specs.Answer.{column_of, row_from};
+ghost use Rattle.spec_points.specs.Answer.{column_of, row_from};
 ghost use Rattle.view_rows.specs.Grouped.{key_of_entry, keyed, nowhere, value_at_code};
 
 use crate::flat::FlatPoints;

@@ -4,7 +4,7 @@ ghost use Rattle.std.specs.Fmt.{signed_decimal};
 ghost use Rattle.csv_text.specs.Rows.{nothing_written, row_fields, value_text, with_end, with_field, with_fields, with_rows};
 ghost use Rattle.fact_model.specs.Adds.{AddUp, number_in};
 ghost use Rattle.fact_model.specs.declared.slice.Row as answers;
-ghost use Rattle.view_points.specs.Answer.{column_of, row_from};
+ghost use Rattle.spec_points.specs.Answer.{column_of, row_from};
 ghost use Rattle.view_rows.specs.Grouped.{key_of_entry, keyed, nowhere, value_at_code};
 
 use crate::adding::add_up;
@@ -33,7 +33,7 @@ pub struct SliceRows<'a> {
 impl<'a> Model for SliceRows<'a> {
     ghost use Rattle.std.specs.Prelude.{◌<◌, List, All, length, map};
     ghost use Rattle.fact_model.specs.declared.slice.Row.{Row};
-    ghost use Rattle.view_points.specs.Answer.{row_from};
+    ghost use Rattle.spec_points.specs.Answer.{row_from};
     ghost use Rattle.view_rows.specs.Grouped.{keyed};
 
     ghost Value = { List Row };

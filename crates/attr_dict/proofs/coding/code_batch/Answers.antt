@@ -6,8 +6,8 @@ use Rattle.std.proofs.lemmas.List.Elements.{All-head, All-tail}
 use Rattle.fact_model.specs.declared.fact.Value.{Value}
 use Rattle.fact_batch.specs.Batch.{values_in}
 use Rattle.fact_batch.specs.Values.{shown}
-use Rattle.view_points.specs.Codes.{Text, admitted, named}
-use Rattle.view_points.proofs.Names.{admitted-for, named-for}
+use Rattle.spec_points.specs.Codes.{Text, admitted, named}
+use Rattle.spec_points.proofs.Names.{admitted-for, named-for}
 use Rattle.attr_dict.specs.Coding.{AreNamesOf, entry_in}
 use Rattle.attr_dict.specs.Sizes.{IsSmall}
 use Rattle.attr_dict.proofs.Entries.{grew-not, grew-on}

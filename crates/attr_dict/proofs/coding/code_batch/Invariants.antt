@@ -1,7 +1,7 @@
 use Rattle.std.proofs.Common.{◌≡◌, ℕ, ◌+◌, ◌<◌, List, [], ◌++◌, length, get_or}
 use Rattle.std.specs.List.{All}
 use Rattle.fact_batch.specs.Batch.{values_in}
-use Rattle.view_points.specs.Codes.{Text}
+use Rattle.spec_points.specs.Codes.{Text}
 use Rattle.attr_dict.specs.Admitting.{Grew}
 use Rattle.attr_dict.specs.Coding.{AreNamesOf}
 use Rattle.attr_dict.specs.Sizes.{IsSmall}

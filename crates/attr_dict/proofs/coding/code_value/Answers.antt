@@ -6,7 +6,7 @@ use Rattle.std.proofs.lemmas.List.{get_or_read}
 use Rattle.std.proofs.lemmas.Result.{on_ok_weaker}
 use Rattle.fact_model.specs.declared.fact.Value.{Value}
 use Rattle.fact_batch.specs.Values.{shown}
-use Rattle.view_points.specs.Codes.{admitted, same_entry}
+use Rattle.spec_points.specs.Codes.{admitted, same_entry}
 use Rattle.attr_dict.specs.Admitting.{entries_text, entry_text, fresh}
 use Rattle.attr_dict.specs.Coding.{AreNamesOf, entry_in}
 use Rattle.attr_dict.proofs.Entries.{names-entered, entry-written}

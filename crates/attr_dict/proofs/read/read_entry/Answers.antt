@@ -1,6 +1,6 @@
 use Rattle.std.proofs.Common.{List, sym, refl, ap, ◌∙◌}
 use Rattle.std.specs.Prelude.{if◌then◌else◌}
-use Rattle.view_points.specs.Codes.{Text}
+use Rattle.spec_points.specs.Codes.{Text}
 use Rattle.attr_dict.specs.Book.{Book}
 use Rattle.attr_dict.specs.Entering.{entered}
 use Rattle.attr_dict.proofs.EntryTexts.{faulty-front}

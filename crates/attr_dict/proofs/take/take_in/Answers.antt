@@ -1,7 +1,7 @@
 use Rattle.std.proofs.Common.{◌<◌, ◌≤◌, ℕ, List, [], length, get_or, sym, subst}
 use Rattle.cube_schema.specs.declared.Kind.TheVariants as kind
 use Rattle.cube_schema.specs.Kinds.{max_of}
-use Rattle.view_points.specs.Codes.{Text}
+use Rattle.spec_points.specs.Codes.{Text}
 use Rattle.attr_dict.proofs.Fulls.{none-within}
 use Rattle.attr_dict.proofs.take.take_in.Goals as goal
 

@@ -1,6 +1,6 @@
 use Rattle.std.proofs.Common.{◌<◌, ◌≤◌, ℕ, List, length, sym, ◌∙◌, ap, subst, arith}
 use Rattle.std.specs.List.{All}
-use Rattle.view_points.specs.Light.{KeepMasses}
+use Rattle.spec_points.specs.Light.{KeepMasses}
 use Rattle.fact_model.specs.Cell.{cell_of}
 use Rattle.delta_agg.specs.Orders.{facts_at, run_at}
 use Rattle.delta_agg.proofs.RunCuts.{run-few, run-mass, run-rises, run-rows, run-some, run-within}

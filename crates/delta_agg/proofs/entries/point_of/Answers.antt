@@ -1,6 +1,6 @@
 use Rattle.std.proofs.Common.{◌<◌, ℕ, List, [], get_or, length, sym, ◌∙◌, ap, subst}
 use Rattle.std.specs.Prelude.{slice_index}
-use Rattle.view_points.specs.Arity.{arity_of}
+use Rattle.spec_points.specs.Arity.{arity_of}
 use Rattle.delta_agg.specs.Batch.{HasPlace, point_at}
 use Rattle.delta_agg.specs.Rows.{row_place}
 use Rattle.delta_agg.proofs.Places.{place-told}

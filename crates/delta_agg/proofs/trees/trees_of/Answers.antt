@@ -2,7 +2,7 @@ use Rattle.std.proofs.Common.{◌≡◌, ◌+◌, ◌<◌, ◌≤◌, ◌++◌, 
 use Rattle.std.specs.List.{All}
 use Rattle.std.proofs.lemmas.List.{map-append, take_all, take_more}
 use Rattle.std.proofs.lemmas.List.Elements.{All-push}
-use Rattle.view_points.specs.Points.{View}
+use Rattle.spec_points.specs.Points.{View}
 use Rattle.select_map.specs.declared.mapping.Tree.{Tree}
 use Rattle.select_map.specs.Trees.{numbers_of, views_of}
 use Rattle.delta_agg.specs.declared.runs.ViewRuns.{ViewRuns}

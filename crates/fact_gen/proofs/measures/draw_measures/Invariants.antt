@@ -1,5 +1,5 @@
 use Rattle.std.proofs.Common.{◌≡◌, ◌++◌, drop}
-use Rattle.draws.specs.Draw.{state_after}
+use Rattle.lcg.specs.Draw.{state_after}
 use Rattle.fact_gen.specs.Generated.{measures_from}
 use Rattle.fact_gen.proofs.measures.draw_measures.Given as goal
 

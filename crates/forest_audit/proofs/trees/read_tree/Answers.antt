@@ -14,9 +14,9 @@ use Rattle.forest_audit.proofs.Results.{err-one, ok-both}
 use Rattle.forest_audit.specs.Limits.{limits_in, view_limits}
 use Rattle.select_map.specs.declared.mapping.Tree.{Tree}
 use Rattle.select_map.specs.Selection.{no_tree}
-use Rattle.tree_audit.specs.Broken.{TellsBroken}
-use Rattle.tree_audit.specs.Kept.{AreKept, AreViewsOf}
-use Rattle.tree_audit.specs.Packed.{IsAuditedTree}
+use Rattle.audit_tree.specs.Broken.{TellsBroken}
+use Rattle.audit_tree.specs.Kept.{AreKept, AreViewsOf}
+use Rattle.audit_tree.specs.Packed.{IsAuditedTree}
 use Rattle.forest_audit.proofs.trees.read_tree.Goals as goal
 
 pub audit-requires-clause-file : goal.audit-requires-clause-file

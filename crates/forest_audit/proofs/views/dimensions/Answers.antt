@@ -4,9 +4,9 @@ use Rattle.std.specs.List.{All}
 use Rattle.std.proofs.lemmas.Bool.{true≢false}
 use Rattle.std.proofs.lemmas.List.{map-append, take_all, take_more}
 use Rattle.std.proofs.lemmas.List.Elements.{All-append, All-cons, All-nil}
-use Rattle.view_points.specs.Agree.{among}
-use Rattle.view_points.specs.Answer.{coordinate}
-use Rattle.view_points.specs.Points.{padded}
+use Rattle.spec_points.specs.Agree.{among}
+use Rattle.spec_points.specs.Answer.{coordinate}
+use Rattle.spec_points.specs.Points.{padded}
 use Rattle.forest_audit.proofs.Coordinates.{among-at, coordinate-at, not-among}
 use Rattle.forest_audit.proofs.views.dimensions.Goals as goal
 

@@ -1,8 +1,8 @@
 use Rattle.std.proofs.Common.{◌≡◌, ℕ, List, length, map, take, true}
 use Rattle.std.specs.Prelude.{slice_index}
 use Rattle.std.specs.List.{All}
-use Rattle.view_points.specs.Agree.{among}
-use Rattle.view_points.specs.Answer.{coordinate}
+use Rattle.spec_points.specs.Agree.{among}
+use Rattle.spec_points.specs.Answer.{coordinate}
 use Rattle.forest_audit.proofs.views.dimensions.Given as goal
 
 -- the first attributes stand in these dimensions

@@ -1,6 +1,6 @@
 use Rattle.std.proofs.Common.{◌≡◌, ◌∙◌, inl, inr, ℕ, List, length, ap, arith, refl, subst, sym}
 use Rattle.std.proofs.lemmas.Bool.{cases_lt, true≢false}
-use Rattle.view_audit.specs.Rolling.{AddUp}
+use Rattle.audit_view.specs.Rolling.{AddUp}
 use Rattle.forest_audit.specs.Agreeing.{Pairs}
 use Rattle.forest_audit.proofs.views.does_agree.Goals as goal
 

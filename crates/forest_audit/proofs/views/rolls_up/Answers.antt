@@ -2,11 +2,11 @@ use Rattle.std.proofs.Common.{◌≡◌, ◌∙◌, [], ℕ, List, get_or, ap, s
 use Rattle.std.proofs.lemmas.List.{get_or_default}
 use Rattle.cube_point.specs.declared.point.Entry.{Entry}
 use Rattle.select_map.specs.Views.{View}
-use Rattle.view_audit.specs.Rolling.{AreDims, RollsUp}
+use Rattle.audit_view.specs.Rolling.{AreDims, RollsUp}
 use Rattle.forest_audit.specs.Agreeing.{HasDims}
 use Rattle.forest_audit.specs.Audited.{points_at, view_of}
 use Rattle.forest_audit.proofs.Results.{ok-one, some-holds}
-use Rattle.kept_points.specs.Kept.{points_of}
+use Rattle.audit_points.specs.Kept.{points_of}
 use Rattle.forest_audit.proofs.views.rolls_up.Goals as goal
 
 pub returns-in-Some : goal.returns-in-Some

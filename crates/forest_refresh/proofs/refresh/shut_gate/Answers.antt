@@ -1,8 +1,8 @@
 use Rattle.std.proofs.Common.{◌≢◌, ◌<◌, ℕ, ap, arith, length, subst, sym}
 use Rattle.forest_root.proofs.Kept.{shut_keeps}
-use Rattle.kept_forest.specs.Held.{held}
+use Rattle.spec_store.specs.Held.{held}
 use Rattle.forest_root.specs.Root.{ClosesGate, IsShut}
-use Rattle.kept_forest.proofs.Standing.{all_stable, live_now}
+use Rattle.spec_store.proofs.Standing.{all_stable, live_now}
 use Rattle.forest_refresh.proofs.Committed.{live_facts, other_slot}
 use Rattle.forest_refresh.proofs.refresh.shut_gate.Goals as goal
 

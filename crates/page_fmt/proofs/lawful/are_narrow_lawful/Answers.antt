@@ -1,5 +1,5 @@
 use Rattle.std.proofs.Common.{◌≡◌, ◌≤◌, ◌*◌, ℕ, List, false, drop, sym, subst, ap, ◌∙◌, arith}
-use Rattle.byte_formats.specs.Formats.{many}
+use Rattle.be_numbers.specs.Formats.{many}
 use Rattle.cube_point.specs.declared.point.Shape.{Shape}
 use Rattle.page_fmt.specs.Pages.{entry_size}
 use Rattle.page_fmt.specs.Taking.{are_lawful_points, entry_of}

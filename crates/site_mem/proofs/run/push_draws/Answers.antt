@@ -1,5 +1,5 @@
 use Rattle.std.proofs.Common.{◌%◌, sym, ◌∙◌, ap, arith}
-use Rattle.draws.specs.Draw.{next_state}
+use Rattle.lcg.specs.Draw.{next_state}
 use Rattle.site_mem.proofs.Pictures.{state_after-more}
 use Rattle.site_mem.proofs.Runs.{drawn-push}
 use Rattle.site_mem.proofs.run.push_draws.Goals as goal

@@ -1,6 +1,6 @@
 use Rattle.std.proofs.Common.{◌≡◌, ◌+◌, ◌++◌}
 use Rattle.std.specs.Vec.{vec_len}
-use Rattle.draws.specs.Draw.{state_after}
+use Rattle.lcg.specs.Draw.{state_after}
 use Rattle.site_mem.specs.Image.{drawn_bytes}
 use Rattle.site_mem.proofs.run.push_draws.Given as goal
 

@@ -1,4 +1,4 @@
-use Rattle.kept_forest.proofs.ViewReads.{view-taken}
+use Rattle.spec_store.proofs.ViewReads.{view-taken}
 use Rattle.slice_exec.proofs.finding.attrs_of.Goals as goal
 
 pub returns : goal.returns

@@ -1,5 +1,5 @@
 use Rattle.std.proofs.Common.{get_or, ◌≡◌, map, take}
-use Rattle.view_points.specs.Answer.{column_of}
+use Rattle.spec_points.specs.Answer.{column_of}
 use Rattle.view_rows.specs.Grouped.{nowhere}
 use Rattle.view_rows.proofs.lending.lend_numbers.Given as goal
 

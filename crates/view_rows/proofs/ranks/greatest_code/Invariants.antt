@@ -1,5 +1,5 @@
 use Rattle.std.proofs.Common.{◌≡◌, ℕ, List, drop}
-use Rattle.view_points.specs.Answer.{coordinate}
+use Rattle.spec_points.specs.Answer.{coordinate}
 use Rattle.view_rows.proofs.ranks.greatest_code.Given as goal
 
 -- the attributes passed are others

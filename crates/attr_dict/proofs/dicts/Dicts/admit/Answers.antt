@@ -3,9 +3,9 @@ use Rattle.std.specs.List.{All}
 use Rattle.cube_schema.specs.declared.Kind.{Kind}
 use Rattle.cube_schema.specs.declared.Kind.TheVariants as kind
 use Rattle.cube_schema.specs.Kinds.{max_of}
-use Rattle.view_points.specs.Codes.{Text}
-use Rattle.view_points.specs.Deltas.{CodedBy}
-use Rattle.view_points.specs.Agree.{IsCoded}
+use Rattle.spec_points.specs.Codes.{Text}
+use Rattle.spec_points.specs.Deltas.{CodedBy}
+use Rattle.spec_points.specs.Agree.{IsCoded}
 use Rattle.attr_dict.specs.Book.{Book, names_at}
 use Rattle.attr_dict.specs.Admitting.{Agrees}
 use Rattle.attr_dict.specs.Room.{entries_len, entries_limit}

@@ -2,7 +2,7 @@ use Rattle.std.proofs.Common.{◌≡◌, ◌∙◌, ◌+◌, ◌^◌, ◌++◌, 
 use Rattle.site_core.specs.Disk.{DiffersPast}
 use Rattle.site_core.specs.Moments.{HoldsNow, LeavesOnly}
 use Rattle.merge_pack.proofs.Spending.{calls-more}
-use Rattle.kept_forest.specs.Held.{IsLive}
+use Rattle.spec_store.specs.Held.{IsLive}
 use Rattle.forest_refresh.specs.declared.refresh.Refresh.TheInside.{Inside}
 use Rattle.forest_refresh.specs.Begun.{Begun, HasMoved, IsGoing, IsNextBody, IsRefreshOf, moves_of, next_side}
 use Rattle.forest_refresh.specs.Next.{counts_from}

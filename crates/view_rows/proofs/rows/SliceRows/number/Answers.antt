@@ -1,7 +1,7 @@
 use Rattle.std.proofs.Common.{rules, ◌≡◌, ◌∙◌, ap, get_or, map, pos, of_z, to_z}
 use Rattle.std.specs.Int.{w128}
 use Rattle.fact_model.specs.Adds.{number_in}
-use Rattle.view_points.specs.Answer.{column_of}
+use Rattle.spec_points.specs.Answer.{column_of}
 use Rattle.view_rows.specs.Grouped.{keyed, nowhere}
 use Rattle.view_rows.proofs.LentRows.{row-there}
 use Rattle.view_rows.proofs.rows.SliceRows.number.Goals as goal

@@ -1,0 +1,33 @@
+-- When a coarser view is the roll-up of a finer one.
+use Rattle.std.specs.Prelude.{◌≡◌, ◌<◌, ◌≤◌, ℕ, true, List, length, map, slice_index}
+use Rattle.std.specs.List.{All}
+use Rattle.cube_point.specs.declared.point.Entry.{Entry}
+use Rattle.audit_points.specs.Kept.{Kept, points_of}
+use Rattle.page_fmt.specs.Taking.{ascend, entry_before}
+use Rattle.page_fmt.specs.Writing.{FitsLeaf}
+use Rattle.spec_points.specs.Entries.{pair_of}
+use Rattle.spec_points.specs.Points.{View, padded}
+use Rattle.spec_points.specs.RollUp.{projected, rolled_up}
+use Rattle.spec_points.specs.Weights.{count_in, weight}
+
+-- the coarser view's points are the finer view's, grouped by its attributes, with their cells joined
+abbrev pub RollsUp : View → View → List Entry → List Entry → Type 0
+RollsUp fine coarse es cs = rolled_up fine coarse (map pair_of es) ≡ map pair_of cs
+
+-- the counts of the points add up to so many facts
+abbrev pub AddUp : ℕ → List Entry → Type 0
+AddUp facts es = weight count_in (map pair_of es) ≡ facts
+
+-- the coordinates in these dimensions, in this order, as a place
+abbrev pub projected_at : List ℕ → List ℕ → List ℕ
+projected_at dims place = padded (map (λ d. slice_index place d) dims)
+
+-- the dimensions of the finer view in which the attributes of the coarser one stand, in the coarser view's order
+pub record AreDims (fine coarse : View) (dims : List ℕ) : Type 0 where
+  pub few : length dims ≤ 8
+  pub place : (place : List ℕ) → length place ≡ 8 → projected fine coarse place ≡ projected_at dims place
+
+-- points of a view as they are read of accepted pages: in order, each as a leaf may hold it
+pub record AreRead (kept : Kept) : Type 0 where
+  pub order : ascend entry_before (points_of kept) ≡ true
+  pub good : All (FitsLeaf kept.shape) (points_of kept)

@@ -1,0 +1,19 @@
+-- The levels of a packer by their numbers of children, and the leaves among the pages written.
+use Rattle.std.specs.Prelude.{ℕ, zero, suc, ◌+◌, ◌/◌, ◌%◌, true, false, ◌==◌, List, [], ◌∷◌}
+use Rattle.spec_tree.specs.Tree.{Page, Leaf, Inner}
+
+-- how many children each level holds after so many leaves, lowest first
+abbrev pub digits : ℕ → ℕ → ℕ → List ℕ
+digits k zero n = []
+digits k (suc d) n = (n % k) ∷ digits k d (n / k)
+
+-- the levels by their numbers of children, with all that are due closed
+abbrev pub settled : ℕ → ℕ → List ℕ → List ℕ
+settled k carry [] = []
+settled k carry (n ∷ ns) = elim (carry + n == k) [ true ↦ 0 ∷ settled k 1 ns | false ↦ (carry + n) ∷ settled k 0 ns ]
+
+-- how many of the pages are leaves
+abbrev pub leaf_count : {E C : Type 0} → List (Page E C) → ℕ
+leaf_count [] = 0
+leaf_count (Leaf entries ∷ pages) = 1 + leaf_count pages
+leaf_count (Inner children ∷ pages) = leaf_count pages

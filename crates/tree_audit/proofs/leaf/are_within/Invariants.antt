@@ -1,9 +1,0 @@
-use Rattle.std.proofs.Common.{take}
-use Rattle.std.specs.List.{All}
-use Rattle.page_fmt.specs.Taking.{entries}
-use Rattle.tree_audit.specs.Packed.{IsWithin}
-use Rattle.tree_audit.proofs.leaf.are_within.Given as goal
-
--- the first points are within
-abbrev pub invariant-loop-index : goal.invariant-loop-index
-invariant-loop-index l = All (IsWithin l.limits) (take l.index (entries l.shape l.page))

@@ -1,7 +1,0 @@
-use Rattle.std.proofs.Common.{◌≡◌, take}
-use Rattle.page_fmt.specs.Taking.{entries}
-use Rattle.tree_audit.proofs.leaf.push_all.Given as goal
-
--- the first points are pushed
-abbrev pub invariant-loop-index : goal.invariant-loop-index
-invariant-loop-index l = l.packer.at ≡ record l.fn.packer.at { buffer = take l.index (entries l.shape l.page) }

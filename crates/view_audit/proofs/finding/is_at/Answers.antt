@@ -1,7 +1,0 @@
-use Rattle.std.proofs.Common.{arith, sym, ◌∙◌}
-use Rattle.kept_points.specs.Kept.{points_of}
-use Rattle.view_audit.proofs.Order.{equal-stands}
-use Rattle.view_audit.proofs.finding.is_at.Goals as goal
-
-pub returns-in-Equal : goal.returns-in-Equal
-returns-in-Equal c = λ _. equal-stands (points_of c.args.view.now) c.args.point.now.at c.point.result c.args.index c.point.ensures.point (omega arith) (sym c.compare.ensures ∙ c.in-Equal.is)

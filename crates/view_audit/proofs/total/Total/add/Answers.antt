@@ -1,9 +1,0 @@
-use Rattle.std.proofs.Common.{Some, subst, sym, arith}
-use Rattle.view_audit.specs.Totals.{HoldsSum, plus}
-use Rattle.view_audit.proofs.Exact.{first-holds}
-use Rattle.view_audit.proofs.total.Total.add.Goals as goal
-
-pub returns-then-self-eq0-clause-joined : goal.returns-then-self-eq0-clause-joined
-returns-then-self-eq0-clause-joined c = λ measures sum measured holds _.
-    subst (HoldsSum measures (plus sum (Some c.args.cell.now))) (sym c.of.ensures)
-    (first-holds measures sum c.args.cell.now c.args.self.now measured c.have_four.ensures.four (omega arith) (omega arith) holds)
