@@ -62,6 +62,8 @@ read-next r m z x i n f b all lt so_far this =
     ap (λ (l : List _). set l i x) so_far ∙ (set-next (many r m i (drop f b)) z x i n (many-long r m i (drop f b)) lt
     ∙ ap (λ (l : List _). l ++ replicate (n - (i + 1)) z) (ap (λ (y : _). many r m i (drop f b) ++ y ∷ []) (this ∙ ap r (sym (drop-drop (i * m) f b))) ∙ sym (many-more r m i (drop f b))))
 
+-- what is read of a leaf
+
 pub entries-are : (shape : Shape) (b : List ℕ) (n : ℕ) → n ≡ page_count b → entries shape b ≡ many (entry_of (page_arity b) shape) (entry_size (page_arity b) shape) n (drop 8 b)
 unfolding entries
 entries-are shape b n e = ap (λ (k : ℕ). many (entry_of (page_arity b) shape) (entry_size (page_arity b) shape) k (drop 8 b)) (sym e)

@@ -1,5 +1,5 @@
 -- The bytes of an entry.
-use Rattle.std.specs.Prelude.{ℕ, Bool, if◌then◌else◌, List, ◌++◌, ◌+◌, ◌-◌, ◌*◌, take, flat_map, replicate}
+use Rattle.std.specs.Prelude.{ℕ, Bool, if◌then◌else◌, List, ◌++◌, ◌+◌, ◌*◌, take, flat_map, replicate}
 use Rattle.be_numbers.specs.Numbers.{coded, signed_coded}
 use Rattle.fact_model.specs.declared.cell.Part.{Part}
 use Rattle.cube_point.specs.declared.point.Entry.{Entry}

@@ -1,5 +1,5 @@
 -- What the bytes of a leaf say, and the rules of an entry.
-use Rattle.std.specs.Prelude.{ℕ, pos, Bool, true, List, [], ◌∷◌, ◌++◌, ◌+◌, ◌-◌, ◌*◌, ◌&&◌, not, nat_lt, take, drop, replicate, slice_index, ◌≤◌}
+use Rattle.std.specs.Prelude.{ℕ, pos, Bool, true, List, [], ◌∷◌, ◌++◌, ◌-◌, ◌*◌, ◌&&◌, not, nat_lt, take, drop, replicate, slice_index, ◌≤◌}
 use Rattle.std.specs.List.{list_all}
 use Rattle.be_numbers.specs.Numbers.{number, signed}
 use Rattle.page_entry.specs.declared.size.TheConstants.{HEADER, COUNT, VALUE, PART, PAGE}

@@ -1,4 +1,4 @@
-use Rattle.std.proofs.Common.{◌≡◌, ◌≤◌, ◌*◌, ℕ, List, false, drop, sym, subst, ap, ◌∙◌, arith}
+use Rattle.std.proofs.Common.{◌≡◌, ◌≤◌, ◌*◌, ℕ, List, false, drop, sym, ◌∙◌, arith}
 use Rattle.be_numbers.specs.Formats.{many}
 use Rattle.cube_point.specs.declared.point.Shape.{Shape}
 use Rattle.page_entry.specs.Bytes.{entry_size}
