@@ -7,12 +7,11 @@ use Rattle.std.specs.declared.alloc.Global.{Global}
 use Rattle.std.specs.declared.boxed.Box.{Box}
 use Rattle.cube_point.specs.declared.point.Entry.{Entry}
 use Rattle.cube_point.specs.declared.point.Shape.{Shape}
-use Rattle.page_fmt.specs.Lawful.{HasEntries}
+use Rattle.page_entry.specs.Entries.{HasEntries, entries, page_arity, page_count}
 use Rattle.be_numbers.specs.Formats.{many}
 use Rattle.be_numbers.specs.Numbers.{number}
-use Rattle.page_fmt.specs.Pages.{entry_size, width, zeros}
-use Rattle.page_fmt.specs.Taking.{entries, page_arity, page_count}
-use Rattle.page_fmt.proofs.Loops.{entry-read, many-long}
+use Rattle.page_entry.specs.Bytes.{entry_size, width, zeros}
+use Rattle.page_entry.proofs.Loops.{entry-read, many-long}
 use Rattle.audit_points.specs.Kept.{AreLeaves, IsLeafBefore, bytes_of, entries_in}
 
 -- a leaf has as many points as it says

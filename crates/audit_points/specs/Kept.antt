@@ -5,8 +5,7 @@ use Rattle.std.specs.declared.alloc.Global.{Global}
 use Rattle.std.specs.declared.boxed.Box.{Box}
 use Rattle.cube_point.specs.declared.point.Entry.{Entry}
 use Rattle.cube_point.specs.declared.point.Shape.{Shape}
-use Rattle.page_fmt.specs.Lawful.{HasEntries}
-use Rattle.page_fmt.specs.Taking.{entries, page_count}
+use Rattle.page_entry.specs.Entries.{HasEntries, entries, page_count}
 use Rattle.page_fmt.specs.Trees.{room_of}
 
 -- what is kept of a view

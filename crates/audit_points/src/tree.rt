@@ -1,15 +1,15 @@
 //! The leaves of the views of a tree.
 
 ghost use Rattle.std.specs.Prelude.{◌≡◌, ◌≤◌, ◌<◌, ◌+◌, ◌++◌, ◌^◌, [], ◌∷◌, IfOk, OnErr, OnOk, get_or, length, set};
-ghost use Rattle.page_fmt.specs.Lawful.{HasEntries};
-ghost use Rattle.page_fmt.specs.Taking.{page_count};
+ghost use Rattle.page_entry.specs.Entries.{HasEntries, page_count};
 ghost use Rattle.page_fmt.specs.Trees.{room_of};
 ghost use Rattle.audit_points.specs.Kept.{AreFresh, AreFull, Kept, first_or, points_of};
 
 use crate::view::ViewPoints;
 use cube_point::Shape;
 use fact_model::Memory;
-use page_fmt::{ARITIES, PAGE};
+use page_entry::PAGE;
+use page_fmt::ARITIES;
 use std::alloc::Global;
 use std::marker::Model;
 

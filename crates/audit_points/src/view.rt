@@ -1,14 +1,13 @@
 //! The leaves of a view.
 
 ghost use Rattle.std.specs.Prelude.{◌≡◌, ◌≤◌, ◌<◌, ◌+◌, ◌++◌, ◌^◌, [], ◌∷◌, Some, None, OnErr, OnOk, get_or, length};
-ghost use Rattle.page_fmt.specs.Lawful.{HasEntries};
-ghost use Rattle.page_fmt.specs.Taking.{page_count};
+ghost use Rattle.page_entry.specs.Entries.{HasEntries, page_count};
 ghost use Rattle.page_fmt.specs.Trees.{room_of};
 ghost use Rattle.audit_points.specs.Kept.{AreFull, Kept, first_or, no_points, points_of};
 
 use cube_point::Shape;
 use fact_model::Memory;
-use page_fmt::{Coded, HEADER, PAGE, lent_entry, size_of_entry};
+use page_entry::{Coded, HEADER, PAGE, lent_entry, size_of_entry};
 use std::alloc::Global;
 use std::marker::Model;
 

@@ -6,7 +6,7 @@ use Rattle.cube_point.specs.declared.point.Shape.{Shape}
 use Rattle.leaf_pack.specs.Leaf.{arity_of}
 use Rattle.spec_tree.specs.Levels.{children_at, full_level}
 use Rattle.page_fmt.specs.Pages.{inner_bytes, leaf_bytes}
-use Rattle.page_fmt.specs.Taking.{entries}
+use Rattle.page_entry.specs.Entries.{entries}
 use Rattle.page_fmt.specs.Trees.{fanout_of, room_of}
 use Rattle.page_fmt.specs.Writing.{leaf_arity}
 use Rattle.tree_pack.specs.Moving.{Moving, with_inner, with_leaf}

@@ -13,9 +13,9 @@ use Rattle.leaf_pack.specs.Leaf.{arity_of}
 use Rattle.spec_tree.specs.Leaves.{HaveArity}
 use Rattle.page_fmt.specs.declared.page.Place.{Place}
 use Rattle.page_fmt.specs.InFiles.{page_at}
-use Rattle.page_fmt.specs.Taking.{entries, page_count}
+use Rattle.page_entry.specs.Entries.{entries, page_count}
 use Rattle.page_fmt.specs.Trees.{room_of}
-use Rattle.page_fmt.specs.Writing.{FitsLeaf}
+use Rattle.page_entry.specs.Stored.{FitsLeaf}
 use Rattle.tree_scan.specs.Scanning.{leaf_entries}
 use Rattle.tree_scan.specs.Streaming.{first_of}
 use Rattle.audit_tree.specs.Broken.{AreFew}

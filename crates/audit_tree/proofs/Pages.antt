@@ -5,14 +5,14 @@ use Rattle.std.specs.List.{range_with_len}
 use Rattle.std.proofs.lemmas.List.{append_cancel_left, length-map, map-append, take_at}
 use Rattle.std.proofs.lemmas.List.FromFn.{length-range_with_len}
 use Rattle.be_numbers.proofs.Format.{is_number}
-use Rattle.page_fmt.proofs.Loops.{many-long}
+use Rattle.page_entry.proofs.Loops.{many-long}
 use Rattle.cube_point.specs.declared.point.Entry.{Entry}
 use Rattle.cube_point.specs.declared.point.Shape.{Shape}
 use Rattle.page_fmt.specs.declared.page.Child.{Child}
 use Rattle.page_fmt.specs.declared.page.Place.{Place}
 use Rattle.page_fmt.specs.InFiles.{page_at}
 use Rattle.page_fmt.specs.Pages.{inner_bytes, inner_kind, leaf_bytes, leaf_kind}
-use Rattle.page_fmt.specs.Taking.{entries, page_count}
+use Rattle.page_entry.specs.Entries.{entries, page_count}
 use Rattle.tree_pack.specs.Pages.{PointPage, page_bytes}
 use Rattle.tree_scan.specs.Scanning.{leaf_entries}
 use Rattle.audit_tree.specs.Packed.{pages_in}

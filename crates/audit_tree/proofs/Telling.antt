@@ -6,7 +6,7 @@ use Rattle.cube_point.specs.declared.point.Shape.{Shape}
 use Rattle.spec_tree.specs.Levels.{full_level, rest_level}
 use Rattle.page_fmt.specs.declared.page.Place.{Place}
 use Rattle.page_fmt.specs.InFiles.{IsPageOf, page_at}
-use Rattle.page_fmt.specs.Pages.{entry_size}
+use Rattle.page_entry.specs.Bytes.{entry_size}
 use Rattle.page_fmt.specs.Trees.{fanout_of, room_of}
 use Rattle.page_fmt.specs.Writing.{IsShape}
 use Rattle.page_fmt.proofs.Rooms.{room-some}

@@ -3,7 +3,7 @@ use Rattle.std.proofs.Common.{◌≡◌, ◌<◌, ◌+◌, ℕ, true, List, [], 
 use Rattle.std.proofs.lemmas.List.{take-append-drop, take_more}
 use Rattle.cube_point.specs.declared.point.Entry.{Entry}
 use Rattle.leaf_pack.specs.Kept.{comes_after}
-use Rattle.page_fmt.specs.Taking.{ascend, entry_before}
+use Rattle.page_entry.specs.Entries.{ascend, entry_before}
 use Rattle.tree_pack.proofs.Runs.{ascend-front}
 use Rattle.tree_pack.proofs.Taken.{comes-next}
 

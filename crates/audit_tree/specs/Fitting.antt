@@ -5,8 +5,7 @@ use Rattle.cube_point.specs.declared.point.Shape.{Shape}
 use Rattle.leaf_pack.specs.Leaf.{arity_of}
 use Rattle.spec_tree.specs.Levels.{children_at, full_level, rest_level}
 use Rattle.page_fmt.specs.Pages.{inner_bytes, leaf_bytes}
-use Rattle.page_fmt.specs.Lawful.{HasEntries}
-use Rattle.page_fmt.specs.Taking.{entries, page_count}
+use Rattle.page_entry.specs.Entries.{HasEntries, entries, page_count}
 use Rattle.page_fmt.specs.Writing.{AreEntries, leaf_arity}
 use Rattle.page_fmt.specs.Trees.{fanout_of, room_of}
 use Rattle.tree_pack.specs.Moving.{Moving, with_inner, with_leaf}

@@ -7,7 +7,7 @@ use Rattle.audit_points.specs.Kept.{AreFull, Kept, first_or, points_of}
 use Rattle.leaf_pack.specs.Leaf.{arity_of}
 use Rattle.page_fmt.specs.declared.page.Place.{Place}
 use Rattle.page_fmt.specs.InFiles.{page_at}
-use Rattle.page_fmt.specs.Writing.{FitsLeaf}
+use Rattle.page_entry.specs.Stored.{FitsLeaf}
 use Rattle.tree_scan.specs.Scanning.{leaf_entries}
 use Rattle.tree_scan.specs.Streaming.{first_of}
 use Rattle.audit_tree.specs.Packed.{points_in}

@@ -3,8 +3,7 @@
 ghost use Rattle.std.specs.Prelude.{◌≡◌, ◌↔◌, ◌<◌, ◌≤◌, ◌-◌, ℕ, [], IsTrue, IfNone, IfSome, get_or, length, min, slice_index};
 ghost use Rattle.std.specs.List.{All};
 ghost use Rattle.leaf_pack.specs.Leaf.{arity_of};
-ghost use Rattle.page_fmt.specs.Lawful.{HasEntries};
-ghost use Rattle.page_fmt.specs.Taking.{entries, page_count};
+ghost use Rattle.page_entry.specs.Entries.{HasEntries, entries, page_count};
 ghost use Rattle.page_fmt.specs.Trees.{room_of};
 ghost use Rattle.page_fmt.specs.Writing.{AreEntries};
 ghost use Rattle.audit_tree.specs.Fitting.{IsNextArity, due};
@@ -12,7 +11,8 @@ ghost use Rattle.audit_tree.specs.Numbers.{arities};
 ghost use Rattle.audit_tree.specs.Packed.{IsWithin};
 
 use cube_point::Shape;
-use page_fmt::{ARITIES, Coded, HEADER, PAGE, lent_entry, size_of_entry};
+use page_entry::{Coded, HEADER, PAGE, lent_entry, size_of_entry};
+use page_fmt::ARITIES;
 use tree_pack::Packer;
 
 /// The least arity of which points are left.

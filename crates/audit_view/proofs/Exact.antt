@@ -5,7 +5,7 @@ use Rattle.std.proofs.lemmas.Int.{ints}
 use Rattle.fact_model.specs.declared.cell.Cell.{Cell}
 use Rattle.fact_model.specs.declared.cell.Part.{Part}
 use Rattle.fact_model.specs.Cell.{each_joined, join_parts}
-use Rattle.page_fmt.specs.Taking.{no_part}
+use Rattle.page_entry.specs.Entries.{no_part}
 use Rattle.audit_view.specs.declared.total.ExactPart.{ExactPart}
 use Rattle.audit_view.specs.declared.total.Total.{Total}
 use Rattle.audit_view.specs.Totals.{HoldsCell, HoldsSum, IsCell, exact_part, exact_sum, part_in, plus, total_of, zero_part}

@@ -8,8 +8,8 @@ use Rattle.std.proofs.lemmas.List.{get_or_default}
 use Rattle.cube_point.specs.declared.point.Entry.{Entry}
 use Rattle.cube_point.specs.Points.{point_cmp}
 use Rattle.cube_point.proofs.PointOrder.{point-only, point-total}
-use Rattle.page_fmt.specs.Taking.{ascend, entry_before}
-use Rattle.page_fmt.proofs.Laws.{and-both}
+use Rattle.page_entry.specs.Entries.{ascend, entry_before}
+use Rattle.page_entry.proofs.Tests.{and-both}
 use Rattle.row_fold.specs.Ascends.{Ascends, Below}
 use Rattle.row_fold.proofs.Groups.{below-through, greater-from_less, less-from_greater}
 use Rattle.spec_points.specs.Entries.{pair_of}

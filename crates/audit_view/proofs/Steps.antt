@@ -12,8 +12,8 @@ use Rattle.cube_point.proofs.PointOrder.{point-only, point-total}
 use Rattle.fact_model.specs.declared.cell.Cell.{Cell}
 use Rattle.fact_model.specs.Groups.{is}
 use Rattle.cube_point.specs.declared.point.Shape.{Shape}
-use Rattle.page_fmt.specs.Taking.{ascend, entry_before}
-use Rattle.page_fmt.specs.Writing.{FitsLeaf}
+use Rattle.page_entry.specs.Entries.{ascend, entry_before}
+use Rattle.page_entry.specs.Stored.{FitsLeaf}
 use Rattle.row_fold.proofs.Groups.{equal-from_is}
 use Rattle.spec_points.specs.Entries.{pair_of}
 use Rattle.audit_view.specs.declared.total.Total.{Total}

@@ -3,8 +3,8 @@ use Rattle.std.specs.Prelude.{◌≡◌, ◌<◌, ◌≤◌, ℕ, true, List, le
 use Rattle.std.specs.List.{All}
 use Rattle.cube_point.specs.declared.point.Entry.{Entry}
 use Rattle.audit_points.specs.Kept.{Kept, points_of}
-use Rattle.page_fmt.specs.Taking.{ascend, entry_before}
-use Rattle.page_fmt.specs.Writing.{FitsLeaf}
+use Rattle.page_entry.specs.Entries.{ascend, entry_before}
+use Rattle.page_entry.specs.Stored.{FitsLeaf}
 use Rattle.spec_points.specs.Entries.{pair_of}
 use Rattle.spec_points.specs.Points.{View, padded}
 use Rattle.spec_points.specs.RollUp.{projected, rolled_up}

@@ -7,7 +7,7 @@ use Rattle.fact_model.specs.declared.cell.Cell.{Cell}
 use Rattle.fact_model.specs.declared.cell.Part.{Part}
 use Rattle.fact_model.specs.Cell.{join}
 use Rattle.fact_model.specs.Groups.{is}
-use Rattle.page_fmt.specs.Taking.{no_part}
+use Rattle.page_entry.specs.Entries.{no_part}
 use Rattle.spec_points.specs.Entries.{pair_of}
 use Rattle.spec_points.specs.Points.{PlacedCell}
 use Rattle.audit_view.specs.declared.total.ExactPart.{ExactPart}

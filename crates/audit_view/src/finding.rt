@@ -3,7 +3,7 @@
 ghost use Rattle.std.specs.Prelude.{◌≡◌, ◌↔◌, ◌≤◌, ◌<◌, true, IsTrue, IfNone, IfSome, get_or, length};
 ghost use Rattle.cube_point.specs.declared.point.Entry as points;
 ghost use Rattle.audit_points.specs.Kept.{points_of};
-ghost use Rattle.page_fmt.specs.Taking.{ascend, entry_before};
+ghost use Rattle.page_entry.specs.Entries.{ascend, entry_before};
 ghost use Rattle.audit_view.specs.Totals.{IsNowhere, StandsAt};
 
 use audit_points::ViewPoints;

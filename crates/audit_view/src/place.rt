@@ -5,7 +5,7 @@ ghost use Rattle.std.specs.List.{All};
 ghost use Rattle.audit_view.specs.Rolling.{projected_at};
 
 use cube_point::Point;
-use page_fmt::Coded;
+use page_entry::Coded;
 
 /// The point of the coarser view, whose attributes stand in these dimensions of the finer one.
 pub(crate) fn projected(entry: &Coded<'_>, dims: &[usize]) -> Point

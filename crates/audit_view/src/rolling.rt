@@ -3,7 +3,7 @@
 ghost use Rattle.std.specs.Prelude.{◌≡◌, ◌↔◌, ◌<◌, ◌≤◌, ◌⊎◌, ℕ, Option, true, IfNone, IfOk, IfSome, IsTrue, get_or, length};
 ghost use Rattle.fact_model.specs.declared.cell.Cell as cells;
 ghost use Rattle.audit_points.specs.Kept.{points_of};
-ghost use Rattle.page_fmt.specs.Taking.{ascend, entry_before};
+ghost use Rattle.page_entry.specs.Entries.{ascend, entry_before};
 ghost use Rattle.spec_points.specs.Points.{View};
 ghost use Rattle.audit_view.specs.Rolling.{AreDims, AreRead, RollsUp, projected_at};
 ghost use Rattle.audit_view.specs.Totals.{AllSteady, AreCells, AreNone, HoldsSum, IsNowhere, IsOver, IsTakenIn};
@@ -14,7 +14,7 @@ use crate::place::projected;
 use crate::total::Total;
 use audit_points::ViewPoints;
 use fact_model::Memory;
-use page_fmt::Coded;
+use page_entry::Coded;
 use std::alloc::Global;
 
 /// Whether the points of a coarser view are those of a finer one, grouped by the attributes of the coarser view, which stand in these

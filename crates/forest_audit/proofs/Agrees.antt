@@ -11,8 +11,8 @@ use Rattle.cube_point.specs.Points.{point_cmp}
 use Rattle.cube_schema.specs.declared.schema.Schema.{Schema}
 use Rattle.forest_root.specs.declared.body.Body.{Body}
 use Rattle.audit_points.specs.Kept.{Kept, points_of}
-use Rattle.page_fmt.specs.Taking.{ascend, entry_before}
-use Rattle.page_fmt.specs.Writing.{FitsLeaf}
+use Rattle.page_entry.specs.Entries.{ascend, entry_before}
+use Rattle.page_entry.specs.Stored.{FitsLeaf}
 use Rattle.row_fold.specs.Ascends.{Ascends, Below}
 use Rattle.select_map.specs.Views.{arity_at, tree_number}
 use Rattle.audit_tree.specs.Kept.{IsKept, IsViewOf, has_arity}

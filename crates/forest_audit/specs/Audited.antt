@@ -9,7 +9,7 @@ use Rattle.forest_open.specs.Opening.{Place as At}
 use Rattle.forest_root.specs.declared.body.Body.{Body}
 use Rattle.forest_root.specs.Forest.{counts_of, pages_of, pages_of_all, shape_of}
 use Rattle.page_fmt.specs.declared.page.Place.{Place}
-use Rattle.page_fmt.specs.declared.page.TheConstants.{PAGE}
+use Rattle.page_entry.specs.declared.size.TheConstants.{PAGE}
 use Rattle.select_map.specs.declared.mapping.Tree.{Tree}
 use Rattle.select_map.specs.Selection.{tree_of}
 use Rattle.select_map.specs.Views.{arity_at, selected, tree_number}

@@ -10,7 +10,7 @@ use Rattle.forest_root.specs.Live.{IsLiveBody, NoneRaised}
 use Rattle.forest_audit.specs.declared.verdict.Verdict.{Verdict}
 use Rattle.forest_audit.specs.declared.verdict.Verdict.TheVariants as verdicts
 use Rattle.forest_audit.specs.Audited.{BreaksAudit, IsAudited, first_page, offset_of, side_file}
-use Rattle.page_fmt.specs.declared.page.TheConstants.{PAGE}
+use Rattle.page_entry.specs.declared.size.TheConstants.{PAGE}
 
 -- the files are opened with this live body, this schema and these names
 pub record OpensAs (files : Files) (body : Body) (schema : Schema) (names : Book) : Type 0 where

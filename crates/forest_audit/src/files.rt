@@ -20,7 +20,7 @@ use audit_points::TreePoints;
 use audit_tree::{TreeAudit, TreeStop};
 use forest_open::{OpenStop, open_store};
 use forest_root::Store;
-use page_fmt::PAGE;
+use page_entry::PAGE;
 use site_core::{SIDES, Site};
 use std::alloc::Global;
 use text_hash::Seed;

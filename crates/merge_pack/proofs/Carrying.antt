@@ -3,7 +3,7 @@ use Rattle.std.proofs.Common.{◌≡◌, ◌≤◌, ◌+◌, ◌*◌, ℕ, true,
 use Rattle.cube_point.specs.declared.point.Entry.{Entry}
 use Rattle.cube_point.specs.declared.point.Shape.{Shape}
 use Rattle.page_fmt.specs.declared.page.Place.{Place}
-use Rattle.page_fmt.specs.declared.page.TheConstants.{PAGE}
+use Rattle.page_entry.specs.declared.size.TheConstants.{PAGE}
 use Rattle.tree_scan.specs.Streaming.{Scanned}
 use Rattle.merge_pack.specs.declared.side.Advance.TheVariants as advances
 use Rattle.merge_pack.specs.Building.{IsBuilding}

@@ -10,9 +10,9 @@ use Rattle.cube_point.specs.declared.point.Entry.{Entry}
 use Rattle.cube_point.specs.declared.point.Point.{Point}
 use Rattle.cube_point.specs.declared.point.Shape.{Shape}
 use Rattle.spec_tree.specs.Levels.{full_level}
-use Rattle.page_fmt.proofs.Laws.{and-both}
-use Rattle.page_fmt.specs.Runs.{Precedes}
-use Rattle.page_fmt.specs.Taking.{ascend, entry_before}
+use Rattle.page_entry.proofs.Tests.{and-both}
+use Rattle.page_entry.specs.Runs.{Precedes}
+use Rattle.page_entry.specs.Entries.{ascend, entry_before}
 use Rattle.page_fmt.specs.Trees.{fanout_of, room_of}
 use Rattle.page_fmt.specs.Writing.{leaf_arity}
 use Rattle.leaf_pack.specs.Leaf.{MayAdd, MayAddAll, is_full}

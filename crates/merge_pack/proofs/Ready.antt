@@ -8,7 +8,7 @@ use Rattle.cube_point.specs.declared.point.Entry.{Entry}
 use Rattle.cube_point.specs.declared.point.Point.{Point}
 use Rattle.cube_point.specs.declared.point.Shape.{Shape}
 use Rattle.delta_agg.specs.declared.join.DoesNotJoin.{DoesNotJoin}
-use Rattle.page_fmt.specs.Runs.{Precedes}
+use Rattle.page_entry.specs.Runs.{Precedes}
 use Rattle.page_fmt.specs.Writing.{leaf_arity}
 use Rattle.tree_pack.specs.Moving.{Moving}
 use Rattle.tree_scan.specs.Streaming.{Scanned}

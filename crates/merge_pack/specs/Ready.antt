@@ -4,7 +4,7 @@ use Rattle.std.specs.List.{All}
 use Rattle.cube_point.specs.declared.point.Entry.{Entry}
 use Rattle.cube_point.specs.declared.point.Point.{Point}
 use Rattle.spec_tree.specs.Levels.{full_level}
-use Rattle.page_fmt.specs.Runs.{Precedes}
+use Rattle.page_entry.specs.Runs.{Precedes}
 use Rattle.page_fmt.specs.Trees.{fanout_of, room_of}
 use Rattle.page_fmt.specs.Writing.{leaf_arity}
 use Rattle.tree_pack.specs.Moving.{Moving}

@@ -2,7 +2,7 @@
 
 ghost use Rattle.std.specs.Prelude.{◌≡◌, ◌<◌, ◌≤◌, true, drop, length, take};
 ghost use Rattle.leaf_pack.specs.Leaf.{MayAddAll};
-ghost use Rattle.page_fmt.specs.Taking.{ascend, entry_before};
+ghost use Rattle.page_entry.specs.Entries.{ascend, entry_before};
 ghost use Rattle.page_fmt.specs.Writing.{leaf_arity};
 ghost use Rattle.tree_pack.specs.Moving.{with_points};
 ghost use Rattle.merge_pack.specs.Merging.{turns_at};

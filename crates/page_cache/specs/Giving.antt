@@ -2,7 +2,7 @@
 use Rattle.std.specs.Prelude.{◌==◌, ◌&&◌, ◌≡◌, ℕ, ◌+◌, ◌*◌, ◌<◌, ◌≤◌, Bool, List, ◌∷◌, length, take, Some, is_some, IsOk}
 use Rattle.std.specs.Map.{lookup, remove_entry}
 use Rattle.cube_point.specs.declared.point.Shape.{Shape}
-use Rattle.page_fmt.specs.declared.page.TheConstants.{PAGE}
+use Rattle.page_entry.specs.declared.size.TheConstants.{PAGE}
 use Rattle.page_fmt.specs.InFiles.{page_at}
 use Rattle.page_fmt.specs.Taking.{taken}
 use Rattle.page_cache.specs.declared.cache.CacheStop.{CacheStop}

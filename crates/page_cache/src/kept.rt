@@ -4,7 +4,8 @@ ghost use Rattle.std.specs.Prelude.{◌≡◌, ◌≤◌, Ok};
 ghost use Rattle.page_fmt.specs.Taking.{taken};
 
 use cube_point::Shape;
-use page_fmt::{BadPage, Head, PAGE, take_page};
+use page_entry::PAGE;
+use page_fmt::{BadPage, Head, take_page};
 
 /// A page that was accepted, and the shape and the number under which this is its head.
 #[derive(Drop)]

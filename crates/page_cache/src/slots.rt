@@ -3,7 +3,7 @@ ghost use Rattle.std.specs.Prelude.{◌≡◌, IsSome, max};
 
 use crate::kept::Kept;
 use lru::LruCache;
-use page_fmt::PAGE;
+use page_entry::PAGE;
 
 /// The pages of a cache, by file and number, and room for one more.
 #[derive(Drop)]

@@ -12,9 +12,9 @@ use Rattle.cube_point.specs.declared.bounds.Region.{Region}
 use Rattle.cube_point.specs.declared.point.Entry.{Entry}
 use Rattle.cube_point.specs.declared.point.Shape.{Shape}
 use Rattle.cube_point.proofs.PointOrder.{chain, cmp-down, cmp_down, point-total}
-use Rattle.page_fmt.specs.Taking.{ascend, entry_before}
+use Rattle.page_entry.specs.Entries.{ascend, entry_before}
 use Rattle.page_fmt.specs.Writing.{AreEntries}
-use Rattle.page_fmt.proofs.Laws.{and-both}
+use Rattle.page_entry.proofs.Tests.{and-both}
 use Rattle.range_scan.specs.Ends.{TellAll}
 use Rattle.range_scan.specs.Meeting.{is_inside}
 use Rattle.range_scan.proofs.Tests.{inside-from}

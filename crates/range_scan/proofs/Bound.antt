@@ -5,9 +5,9 @@ use Rattle.cube_point.specs.Boxes.{IsInside}
 use Rattle.cube_point.specs.declared.bounds.Region.{Region}
 use Rattle.cube_point.specs.declared.point.Entry.{Entry}
 use Rattle.cube_point.specs.declared.point.Shape.{Shape}
-use Rattle.page_fmt.specs.Pages.{entry_size}
-use Rattle.page_fmt.specs.Taking.{entries, entry_of, page_arity, page_count, point_of}
-use Rattle.page_fmt.proofs.Loops.{entry-read}
+use Rattle.page_entry.specs.Bytes.{entry_size}
+use Rattle.page_entry.specs.Entries.{entries, entry_of, page_arity, page_count, point_of}
+use Rattle.page_entry.proofs.Loops.{entry-read}
 use Rattle.range_scan.specs.Meeting.{is_inside}
 use Rattle.range_scan.proofs.Lists.{skips}
 use Rattle.range_scan.proofs.Tests.{inside-told}

@@ -11,9 +11,10 @@ use Rattle.cube_point.specs.declared.point.Shape.{Shape}
 use Rattle.page_fmt.specs.declared.page.Child.{Child}
 use Rattle.page_fmt.specs.declared.page.Place.{Place}
 use Rattle.page_fmt.specs.Pages.{child_size}
-use Rattle.page_fmt.specs.Taking.{ascend, child_of, children, page_before, page_count}
+use Rattle.page_entry.specs.Entries.{ascend, page_count}
+use Rattle.page_fmt.specs.Taking.{child_of, children, page_before}
 use Rattle.page_fmt.specs.Writing.{IsBox}
-use Rattle.page_fmt.proofs.Laws.{and-both}
+use Rattle.page_entry.proofs.Tests.{and-both}
 use Rattle.page_fmt.proofs.Loops.{child-read}
 use Rattle.range_scan.specs.Meeting.{HoldsSome, is_met}
 use Rattle.range_scan.specs.Steps.{AreAhead}

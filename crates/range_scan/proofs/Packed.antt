@@ -19,7 +19,7 @@ use Rattle.spec_tree.proofs.Runs.{length-runs_of}
 use Rattle.spec_tree.proofs.Tops.{every-top}
 use Rattle.page_fmt.specs.declared.page.Child.{Child}
 use Rattle.page_fmt.specs.declared.page.Place.{Place}
-use Rattle.page_fmt.specs.declared.page.TheConstants.{PAGE}
+use Rattle.page_entry.specs.declared.size.TheConstants.{PAGE}
 use Rattle.page_fmt.specs.Trees.{fanout_of, room_of}
 use Rattle.page_fmt.specs.Writing.{IsShape}
 use Rattle.page_fmt.proofs.Rooms.{fanout-many}

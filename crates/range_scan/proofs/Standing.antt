@@ -4,7 +4,7 @@ use Rattle.std.specs.Prelude.{IsOk, flat_map, is_ok}
 use Rattle.std.proofs.lemmas.List.{drop-drop, drop-take, drop_at, length-drop, length-take, take-take, take_at}
 use Rattle.cube_point.specs.declared.point.Shape.{Shape}
 use Rattle.spec_tree.specs.Tree.{Leaf, Inner}
-use Rattle.page_fmt.specs.declared.page.TheConstants.{PAGE}
+use Rattle.page_entry.specs.declared.size.TheConstants.{PAGE}
 use Rattle.page_fmt.specs.Lawful.{IsLawful, content_bytes, content_head}
 use Rattle.page_fmt.specs.Taking.{taken}
 use Rattle.page_fmt.specs.Writing.{IsShape, leaf_arity}

@@ -9,7 +9,7 @@ use Rattle.cube_point.specs.Boxes.{IsInside, ShareAPlace}
 use Rattle.cube_point.specs.declared.bounds.Bounds.{Bounds}
 use Rattle.cube_point.specs.declared.bounds.Region.{Region}
 use Rattle.cube_point.specs.declared.point.Entry.{Entry}
-use Rattle.page_fmt.proofs.Laws.{and-both}
+use Rattle.page_entry.proofs.Tests.{and-both}
 use Rattle.range_scan.specs.Meeting.{is_inside, is_met, lies_between, lies_within}
 
 -- a test of each number of a range

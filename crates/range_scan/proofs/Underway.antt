@@ -15,7 +15,8 @@ use Rattle.page_fmt.specs.declared.page.Node.{Node}
 use Rattle.page_fmt.specs.declared.page.Node.TheVariants as nodes
 use Rattle.page_fmt.specs.declared.page.Place.{Place}
 use Rattle.page_fmt.specs.Taking.{children, taken}
-use Rattle.page_fmt.proofs.Laws.{and-both, children-fall}
+use Rattle.page_entry.proofs.Tests.{and-both}
+use Rattle.page_fmt.proofs.Laws.{children-fall}
 use Rattle.page_fmt.specs.InFiles.{page_at}
 use Rattle.page_cache.specs.Giving.{Cache}
 use Rattle.page_cache.specs.Keeping.{HasRoom, unkept}

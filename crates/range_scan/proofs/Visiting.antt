@@ -12,8 +12,9 @@ use Rattle.page_fmt.specs.declared.page.Child.{Child}
 use Rattle.page_fmt.specs.declared.page.Head.{Head}
 use Rattle.page_fmt.specs.declared.page.Node.TheVariants as nodes
 use Rattle.page_fmt.specs.declared.page.Place.{Place}
-use Rattle.page_fmt.specs.Taking.{children, entries, taken}
-use Rattle.page_fmt.specs.Lawful.{HasChildren, HasEntries, HasKind, IsHead}
+use Rattle.page_entry.specs.Entries.{entries, HasEntries}
+use Rattle.page_fmt.specs.Taking.{children, taken}
+use Rattle.page_fmt.specs.Lawful.{HasChildren, HasKind, IsHead}
 use Rattle.page_fmt.specs.Writing.{IsInnerPage, IsLeafPage, IsShape}
 use Rattle.page_fmt.proofs.Again.{again}
 use Rattle.page_fmt.proofs.Loops.{heads}

@@ -4,7 +4,7 @@ use Rattle.cube_point.specs.Boxes.{IsInside}
 use Rattle.cube_point.specs.declared.bounds.Region.{Region}
 use Rattle.cube_point.specs.declared.point.Entry.{Entry}
 use Rattle.cube_point.specs.declared.point.Point.{Point}
-use Rattle.page_fmt.specs.Lawful.{IsCoordinate}
+use Rattle.page_entry.specs.Stored.{IsCoordinate}
 
 -- in each dimension before this one the region holds every used coordinate of a page of this width
 abbrev pub IsOpenBefore : Bool → ℕ → Region → Type 0

@@ -2,7 +2,7 @@
 use Rattle.std.specs.Prelude.{◌≡◌, ℕ, ◌*◌, List, length, take, drop, flat_map}
 use Rattle.cube_point.specs.declared.point.Entry.{Entry}
 use Rattle.page_fmt.specs.declared.page.Place.{Place}
-use Rattle.page_fmt.specs.declared.page.TheConstants.{PAGE}
+use Rattle.page_entry.specs.declared.size.TheConstants.{PAGE}
 use Rattle.tree_pack.specs.Packing.{AreTreeViews}
 use Rattle.tree_pack.specs.Pages.{Views, page_bytes, pages_of}
 use Rattle.range_scan.specs.declared.walk.SearchStop.{SearchStop}

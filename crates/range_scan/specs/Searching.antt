@@ -6,7 +6,7 @@ use Rattle.cube_point.specs.declared.point.Entry.{Entry}
 use Rattle.spec_tree.specs.Tree.{Leaf, Inner}
 use Rattle.page_fmt.specs.declared.page.Child.{Child}
 use Rattle.page_fmt.specs.declared.page.Place.{Place}
-use Rattle.page_fmt.specs.declared.page.TheConstants.{PAGE}
+use Rattle.page_entry.specs.declared.size.TheConstants.{PAGE}
 use Rattle.page_fmt.specs.Taking.{taken}
 use Rattle.tree_pack.specs.Pages.{PointPage}
 use Rattle.page_fmt.specs.InFiles.{page_at}

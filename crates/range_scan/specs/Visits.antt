@@ -10,7 +10,8 @@ use Rattle.page_fmt.specs.declared.page.Head.{Head}
 use Rattle.page_fmt.specs.declared.page.Node.{Node}
 use Rattle.page_fmt.specs.declared.page.Node.TheVariants as nodes
 use Rattle.page_fmt.specs.declared.page.Place.{Place}
-use Rattle.page_fmt.specs.Taking.{children, entries, taken}
+use Rattle.page_entry.specs.Entries.{entries}
+use Rattle.page_fmt.specs.Taking.{children, taken}
 use Rattle.tree_pack.specs.Pages.{PointPage}
 use Rattle.page_fmt.specs.InFiles.{page_at}
 use Rattle.range_scan.specs.Meeting.{is_inside, is_met}

@@ -3,10 +3,11 @@
 ghost use Rattle.std.specs.Prelude.{◌≡◌, ◌↔◌, ◌<◌, ◌≤◌, ◌+◌, ◌++◌, IsTrue, OnOk, IfOk, drop, length, reverse};
 ghost use Rattle.std.specs.List.{All};
 ghost use Rattle.page_fmt.specs.declared.page.Child.{Child};
-ghost use Rattle.page_fmt.specs.declared.page.TheConstants.{PAGE};
+ghost use Rattle.page_entry.specs.declared.size.TheConstants.{PAGE};
 ghost use Rattle.page_fmt.specs.Lawful.{HasChildren};
 ghost use Rattle.page_fmt.specs.Pages.{child_size};
-ghost use Rattle.page_fmt.specs.Taking.{child_of, children, page_count};
+ghost use Rattle.page_entry.specs.Entries.{page_count};
+ghost use Rattle.page_fmt.specs.Taking.{child_of, children};
 ghost use Rattle.page_fmt.specs.Writing.{AreChildren, IsBox};
 ghost use Rattle.range_scan.specs.Meeting.{HoldsSome, is_met};
 ghost use Rattle.range_scan.specs.Steps.{AreAhead};
@@ -15,7 +16,8 @@ ghost use Rattle.range_scan.specs.Visits.{met};
 use crate::walk::Query;
 use cube_point::{Region, Shape};
 use fact_model::Memory;
-use page_fmt::{HEADER, PAGE, child_page_at, ends_at, size_of_child};
+use page_entry::{HEADER, PAGE};
+use page_fmt::{child_page_at, ends_at, size_of_child};
 
 /// Puts the children of an inner page whose boxes meet the region behind the others, the first child last, since the last
 /// page ahead is visited next. False, where a child stands before the tree's first page.
@@ -72,7 +74,7 @@ fn holds_some(region: &Region, dims: u8) -> bool
 /// Puts the children that meet the region behind the others, the first child last. It stands apart, so that its loops have all registers, and
 /// asks once whether the ends are wide.
 #[inline(never)]
-#[tactic(auto, using(page_fmt::proofs::Widths::as_it_is))]
+#[tactic(auto, using(page_entry::proofs::Widths::as_it_is))]
 fn take_met(
     page: &[u8; PAGE],
     shape: &Shape,

@@ -1,14 +1,14 @@
 //! Whether a leaf lies whole in the region, by its first and its last point.
 
 ghost use Rattle.std.specs.Prelude.{◌≡◌, ◌≢◌, ◌↔◌, ◌<◌, ◌≤◌, ◌+◌, ℕ, IsTrue, filter, length, slice_index};
-ghost use Rattle.page_fmt.specs.Lawful.{HasEntries, IsCoordinate};
-ghost use Rattle.page_fmt.specs.Taking.{entries, page_count};
+ghost use Rattle.page_entry.specs.Entries.{HasEntries, entries, page_count};
+ghost use Rattle.page_entry.specs.Stored.{IsCoordinate};
 ghost use Rattle.page_fmt.specs.Writing.{AreEntries};
 ghost use Rattle.range_scan.specs.Ends.{DoEndsTellAll, IsOpenBefore, TellAll};
 ghost use Rattle.range_scan.specs.Meeting.{is_inside};
 
 use cube_point::{Point, Region, Shape, inside};
-use page_fmt::{PAGE, lent_entry};
+use page_entry::{PAGE, lent_entry};
 
 /// Whether the ends of an accepted leaf tell that all its points lie in the region.
 pub(crate) fn is_whole(page: &[u8; PAGE], shape: &Shape, count: u16, region: &Region) -> bool

@@ -5,10 +5,10 @@ ghost use Rattle.std.specs.Result.{IsErrOf};
 ghost use Rattle.cube_point.specs.Boxes.{IsInside};
 ghost use Rattle.cube_point.specs.declared.point.Entry as points;
 ghost use Rattle.page_fmt.specs.InFiles.{IsPageOf};
-ghost use Rattle.page_fmt.specs.Lawful.{HasEntries};
-ghost use Rattle.page_fmt.specs.Pages.{width};
-ghost use Rattle.page_fmt.specs.Taking.{entries, page_arity, page_count, point_of, taken};
-ghost use Rattle.page_fmt.specs.declared.page.TheConstants.{PAGE};
+ghost use Rattle.page_entry.specs.Entries.{HasEntries, entries, page_arity, page_count, point_of};
+ghost use Rattle.page_entry.specs.Bytes.{width};
+ghost use Rattle.page_fmt.specs.Taking.{taken};
+ghost use Rattle.page_entry.specs.declared.size.TheConstants.{PAGE};
 ghost use Rattle.page_fmt.specs.Writing.{AreEntries, IsShape};
 ghost use Rattle.range_scan.specs.Meeting.{is_inside};
 ghost use Rattle.range_scan.specs.Searching.{NamesPage};
@@ -20,7 +20,8 @@ use crate::ends::{first_bound, is_whole};
 use crate::walk::{Query, SearchStop};
 use cube_point::{Region, Shape};
 use fact_model::Memory;
-use page_fmt::{HEADER, Head, Node, PAGE, Taker, coordinate_at, lent_entry, size_of_entry};
+use page_entry::{HEADER, PAGE, coordinate_at, lent_entry, size_of_entry};
+use page_fmt::{Head, Node, Taker};
 
 /// Takes the points or the children of the page with this number, which was accepted with this head.
 pub(crate) fn take_contents<G: Taker>(
@@ -101,7 +102,7 @@ fn take_all<G: Taker>(
 /// Gives the points of a leaf that lie in the region to the taker, each tested. It stands apart, so that its loops have all registers, and asks once
 /// whether coordinates are wide.
 #[inline(never)]
-#[tactic(auto, using(page_fmt::proofs::Widths::as_it_is))]
+#[tactic(auto, using(page_entry::proofs::Widths::as_it_is))]
 fn take_inside<G: Taker>(
     page: &[u8; PAGE],
     query: &Query<'_>,

@@ -31,11 +31,11 @@ use Rattle.spec_points.proofs.Members.{every-from_All}
 use Rattle.page_fmt.specs.declared.page.Place.{Place}
 use Rattle.page_fmt.specs.Trees.{room_of}
 use Rattle.page_fmt.specs.Formats.{is_wide}
-use Rattle.page_fmt.specs.Writing.{FitsLeaf, IsShape}
-use Rattle.page_fmt.specs.Lawful.{IsCoordinate}
-use Rattle.page_fmt.specs.Pages.{width}
+use Rattle.page_entry.specs.Stored.{FitsLeaf, IsCoordinate}
+use Rattle.page_fmt.specs.Writing.{IsShape}
+use Rattle.page_entry.specs.Bytes.{width}
 use Rattle.page_fmt.proofs.Rooms.{room-many}
-use Rattle.page_fmt.proofs.Widths.{fits-wide}
+use Rattle.page_entry.proofs.Widths.{fits-wide}
 use Rattle.tree_pack.specs.Packing.{max_first}
 use Rattle.spec_forest.specs.Storable.{AreStorable}
 use Rattle.spec_forest.proofs.Leaves.{entries-fit}

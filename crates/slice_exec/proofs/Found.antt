@@ -22,10 +22,9 @@ use Rattle.spec_points.specs.Points.{Names, PlacedCell, View, points_by}
 use Rattle.spec_points.proofs.Members.{every-from_All, every-map, filter-same}
 use Rattle.attr_dict.specs.Book.{shown_names}
 use Rattle.page_fmt.specs.Formats.{wide_format}
-use Rattle.page_fmt.specs.Lawful.{IsCoordinate}
-use Rattle.page_fmt.specs.Pages.{width}
-use Rattle.page_fmt.specs.Writing.{FitsLeaf}
-use Rattle.page_fmt.proofs.Widths.{fits-wide}
+use Rattle.page_entry.specs.Stored.{IsCoordinate, FitsLeaf}
+use Rattle.page_entry.specs.Bytes.{width}
+use Rattle.page_entry.proofs.Widths.{fits-wide}
 use Rattle.spec_forest.specs.Storable.{AreStorable}
 use Rattle.spec_forest.proofs.Leaves.{entries-fit}
 use Rattle.forest_root.specs.declared.forest.Store.{Store}

@@ -22,8 +22,8 @@ use Rattle.spec_points.proofs.Cells.{one_cell}
 use Rattle.spec_points.proofs.Entries.{point-entry}
 use Rattle.spec_points.proofs.Members.{every-both, every-map, every-filter, every-from_All, All-from_every}
 use Rattle.page_fmt.specs.Formats.{is_wide}
-use Rattle.page_fmt.specs.Taking.{entry_before, ascend}
-use Rattle.page_fmt.specs.Writing.{FitsLeaf}
+use Rattle.page_entry.specs.Entries.{entry_before, ascend}
+use Rattle.page_entry.specs.Stored.{FitsLeaf}
 use Rattle.spec_forest.specs.Storable.{HasCodesFor, AreStorable}
 use Rattle.spec_forest.proofs.Cells.{IsCellOf, cells-of, each-point, fewer}
 use Rattle.spec_forest.proofs.Parts.{part-fits, part-lawful, part-none, four-used, four-unused, four-lawful}

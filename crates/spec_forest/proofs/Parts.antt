@@ -14,8 +14,8 @@ use Rattle.fact_model.specs.declared.cell.Part.{Part}
 use Rattle.fact_model.specs.Fact.{numbers_at, mass_limit}
 use Rattle.fact_model.specs.Numbers.{total, least, greatest}
 use Rattle.fact_model.specs.Cell.{part_of}
-use Rattle.page_fmt.specs.Taking.{no_part, is_part}
-use Rattle.page_fmt.specs.Lawful.{IsPart}
+use Rattle.page_entry.specs.Entries.{no_part, is_part}
+use Rattle.page_entry.specs.Stored.{IsPart}
 
 total-size : (zs : List ℤ) → nat_abs (total zs) ≤ sum_by nat_abs zs
 total-size [] = omega arith

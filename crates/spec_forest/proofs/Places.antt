@@ -9,8 +9,8 @@ use Rattle.spec_points.specs.Points.{Names, View, coord, place_of}
 use Rattle.spec_points.specs.Agree.{IsCoded}
 use Rattle.spec_points.proofs.Arities.{place-arity}
 use Rattle.page_fmt.specs.Formats.{is_wide}
-use Rattle.page_fmt.specs.Lawful.{IsCoordinate}
-use Rattle.page_fmt.proofs.Widths.{narrow-fits}
+use Rattle.page_entry.specs.Stored.{IsCoordinate}
+use Rattle.page_entry.proofs.Widths.{narrow-fits}
 use Rattle.spec_forest.specs.Storable.{HasCodesFor}
 
 -- eight coordinates within their bits, of which the first are used

@@ -19,9 +19,9 @@ use Rattle.spec_forest.proofs.Joined.{points-few}
 use Rattle.leaf_pack.specs.Leaf.{arity_of}
 use Rattle.spec_tree.specs.Leaves.{AreViews, HaveArity, Rise}
 use Rattle.page_fmt.specs.Formats.{is_wide}
-use Rattle.page_fmt.specs.Taking.{ascend, entry_before}
+use Rattle.page_entry.specs.Entries.{ascend, entry_before}
 use Rattle.page_fmt.specs.Trees.{room_of}
-use Rattle.page_fmt.specs.Writing.{FitsLeaf}
+use Rattle.page_entry.specs.Stored.{FitsLeaf}
 use Rattle.page_fmt.proofs.Rooms.{room-some}
 use Rattle.tree_pack.specs.Packing.{AreTreePoints}
 use Rattle.tree_pack.specs.Pages.{Views, joined}

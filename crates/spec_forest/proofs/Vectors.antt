@@ -1,7 +1,7 @@
 -- The forest of a worked example, byte by byte: one tree of three views, in four pages.
 use Rattle.std.proofs.Common.{◌≡◌, ◌-◌, ◌/◌, ◌%◌, ℕ, List, [], ◌∷◌, ◌++◌, length, replicate, refl}
 use Rattle.std.specs.Prelude.{codes}
-use Rattle.page_fmt.specs.Pages.{width}
+use Rattle.page_entry.specs.Bytes.{width}
 use Rattle.be_numbers.specs.Numbers.{coded, signed_coded}
 use Rattle.cube_schema.specs.declared.schema.Schema.{Schema}
 use Rattle.cube_schema.specs.declared.schema.Kind.TheVariants.{Word, Number}

@@ -6,7 +6,7 @@ use Rattle.fact_model.specs.Fact.{value_at, mass, mass_limit}
 use Rattle.spec_points.specs.Points.{Names, coord}
 use Rattle.spec_points.specs.Agree.{IsCoded}
 use Rattle.page_fmt.specs.Formats.{is_wide}
-use Rattle.page_fmt.specs.Lawful.{IsCoordinate}
+use Rattle.page_entry.specs.Stored.{IsCoordinate}
 
 -- the codes of the fact are coordinates in pages of this format
 abbrev pub HasCodesFor : ℕ → Names → Fact → Type 0

@@ -7,7 +7,7 @@ use Rattle.std.specs.List.{AllByRecursion, list_any}
 use Rattle.cube_point.specs.declared.bounds.Region.{Region}
 use Rattle.cube_point.specs.declared.point.Entry.{Entry}
 use Rattle.cube_point.specs.declared.point.Shape.{Shape}
-use Rattle.page_fmt.specs.Writing.{FitsLeaf}
+use Rattle.page_entry.specs.Stored.{FitsLeaf}
 use Rattle.leaf_pack.specs.Cover.{box_of, coordinates, greatest, least}
 use Rattle.range_scan.specs.Meeting.{is_inside, is_met}
 use Rattle.range_scan.proofs.Tests.{inside-from, met-told}

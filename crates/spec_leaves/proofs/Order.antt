@@ -11,8 +11,8 @@ use Rattle.cube_point.specs.Points.{point_cmp}
 use Rattle.cube_point.specs.declared.point.Entry.{Entry}
 use Rattle.cube_point.specs.declared.point.Shape.{Shape}
 use Rattle.cube_point.proofs.PointOrder.{chain, cmp-down, cmp_down}
-use Rattle.page_fmt.specs.Taking.{ascend, entry_before}
-use Rattle.page_fmt.specs.Writing.{FitsLeaf}
+use Rattle.page_entry.specs.Entries.{ascend, entry_before}
+use Rattle.page_entry.specs.Stored.{FitsLeaf}
 use Rattle.spec_leaves.proofs.Touched.{Sorted, every-map}
 
 -- the first does not come after the second

@@ -21,10 +21,11 @@ use Rattle.spec_tree.proofs.Runs.{joined as run_joined, joined-runs, length-runs
 use Rattle.spec_tree.proofs.Tops.{every-runs, every-top}
 use Rattle.page_fmt.specs.declared.page.Child.{Child}
 use Rattle.page_fmt.specs.declared.page.Place.{Place}
-use Rattle.page_fmt.specs.declared.page.TheConstants.{PAGE}
-use Rattle.page_fmt.specs.Taking.{ascend, entry_before}
+use Rattle.page_entry.specs.declared.size.TheConstants.{PAGE}
+use Rattle.page_entry.specs.Entries.{ascend, entry_before}
 use Rattle.page_fmt.specs.Trees.{fanout_of, room_of}
-use Rattle.page_fmt.specs.Writing.{FitsLeaf, IsShape}
+use Rattle.page_entry.specs.Stored.{FitsLeaf}
+use Rattle.page_fmt.specs.Writing.{IsShape}
 use Rattle.page_fmt.proofs.Rooms.{fanout-many}
 use Rattle.leaf_pack.specs.Cover.{box_of}
 use Rattle.leaf_pack.specs.Leaf.{arity_of}

@@ -23,7 +23,7 @@ use Rattle.delta_agg.proofs.Rising.{views-rise}
 use Rattle.spec_tree.specs.Moves.{KeepsTo, Move, written}
 use Rattle.spec_tree.specs.Tree.{Leaf, Inner, entries_in}
 use Rattle.spec_tree.proofs.Tops.{every-map}
-use Rattle.page_fmt.specs.Writing.{FitsLeaf}
+use Rattle.page_entry.specs.Stored.{FitsLeaf}
 use Rattle.forest_root.specs.Forest.{pages_of_all, shape_of}
 use Rattle.tree_pack.specs.Packing.{AreTreePoints, AreTreeViews, max_first}
 use Rattle.tree_pack.specs.Pages.{PointPage, page_bytes, pages_of}

@@ -26,8 +26,8 @@ use Rattle.spec_points.specs.Light.{KeepMasses}
 use Rattle.spec_forest.specs.Storable.{AreStorable, HasCodesFor}
 use Rattle.forest_root.specs.Body.{max_facts}
 use Rattle.page_fmt.specs.Formats.{is_wide, wide_format}
-use Rattle.page_fmt.specs.Lawful.{IsCoordinate}
-use Rattle.page_fmt.proofs.Widths.{narrow-fits, wide-is}
+use Rattle.page_entry.specs.Stored.{IsCoordinate}
+use Rattle.page_entry.proofs.Widths.{narrow-fits, wide-is}
 use Rattle.fact_model.specs.Fact.{value_at}
 use Rattle.spec_store.specs.Held.{FitsFormat, HasNarrowNumbers, AreAccepted}
 

@@ -2,7 +2,7 @@
 ghost use Rattle.std.specs.Prelude.{◌≡◌, ◌<◌, ◌≤◌, ◌++◌, ◌∷◌, [], All, IfErr, OnErr, OnOk, get_or, length, map, set};
 ghost use Rattle.cube_point.specs.declared.point.Entry as entries;
 ghost use Rattle.fact_model.specs.Cell.{join, part_of};
-ghost use Rattle.page_fmt.specs.Cells.{EndsInZeros};
+ghost use Rattle.page_entry.specs.Cells.{EndsInZeros};
 ghost use Rattle.spec_points.specs.Answer.{column_of};
 ghost use Rattle.spec_points.specs.Entries.{both};
 ghost use Rattle.view_rows.specs.Bare.{bare};
@@ -15,7 +15,7 @@ use crate::lists::NO_PART;
 use crate::stop::RowsStop;
 use cube_point::{Entry, Point};
 use fact_model::{Cell, Column, Memory, Part};
-use page_fmt::Coded;
+use page_entry::Coded;
 use std::alloc::Global;
 use std::marker::Model;
 

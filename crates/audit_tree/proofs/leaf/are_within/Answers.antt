@@ -6,7 +6,7 @@ use Rattle.std.proofs.lemmas.List.{take_all, take_more}
 use Rattle.std.proofs.lemmas.List.Elements.{All-append, All-cons, All-nil}
 use Rattle.cube_point.specs.declared.point.Entry.{Entry}
 use Rattle.leaf_pack.specs.Leaf.{arity_of}
-use Rattle.page_fmt.specs.Taking.{entries}
+use Rattle.page_entry.specs.Entries.{entries}
 use Rattle.audit_tree.specs.Packed.{IsWithin}
 use Rattle.audit_tree.proofs.leaf.are_within.Goals as goal
 

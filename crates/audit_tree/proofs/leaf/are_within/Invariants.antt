@@ -1,6 +1,6 @@
 use Rattle.std.proofs.Common.{take}
 use Rattle.std.specs.List.{All}
-use Rattle.page_fmt.specs.Taking.{entries}
+use Rattle.page_entry.specs.Entries.{entries}
 use Rattle.audit_tree.specs.Packed.{IsWithin}
 use Rattle.audit_tree.proofs.leaf.are_within.Given as goal
 

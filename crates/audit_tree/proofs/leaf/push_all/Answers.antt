@@ -1,7 +1,7 @@
 use Rattle.std.proofs.Common.{◌≡◌, ◌<◌, List, true, length, sym, ap, subst, arith}
 use Rattle.cube_point.specs.declared.point.Entry.{Entry}
 use Rattle.leaf_pack.specs.Leaf.{is_after}
-use Rattle.page_fmt.specs.Taking.{entries}
+use Rattle.page_entry.specs.Entries.{entries}
 use Rattle.tree_pack.specs.Moving.{Moving}
 use Rattle.audit_tree.proofs.Within.{after-front}
 use Rattle.audit_tree.proofs.leaf.push_all.Goals as goal

@@ -1,6 +1,6 @@
 use Rattle.std.proofs.Common.{◌≡◌, ◌≤◌, ◌-◌, true, length}
 use Rattle.audit_points.specs.Kept.{points_of}
-use Rattle.page_fmt.specs.Taking.{ascend, entry_before}
+use Rattle.page_entry.specs.Entries.{ascend, entry_before}
 use Rattle.audit_view.proofs.Order.{IsAbove, IsBelow}
 use Rattle.audit_view.proofs.finding.halve.Given as goal
 

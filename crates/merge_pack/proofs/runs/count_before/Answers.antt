@@ -3,8 +3,8 @@ use Rattle.std.specs.List.{All}
 use Rattle.std.proofs.lemmas.List.{length-take-le, take-take}
 use Rattle.cube_point.specs.declared.point.Entry.{Entry}
 use Rattle.cube_point.specs.declared.point.Point.{Point}
-use Rattle.page_fmt.specs.Runs.{Precedes}
-use Rattle.page_fmt.specs.Taking.{ascend, entry_before}
+use Rattle.page_entry.specs.Runs.{Precedes}
+use Rattle.page_entry.specs.Entries.{ascend, entry_before}
 use Rattle.merge_pack.specs.Ready.{ComeBefore}
 use Rattle.merge_pack.proofs.OneByOne.{take-ascends}
 use Rattle.merge_pack.proofs.runs.count_before.Goals as goal

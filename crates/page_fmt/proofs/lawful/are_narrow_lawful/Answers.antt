@@ -1,9 +1,10 @@
-use Rattle.std.proofs.Common.{◌≡◌, ◌≤◌, ◌*◌, ℕ, List, false, drop, sym, subst, ap, ◌∙◌, arith}
+use Rattle.std.proofs.Common.{◌≡◌, ◌≤◌, ◌*◌, ℕ, List, false, drop, sym, ◌∙◌, arith}
 use Rattle.be_numbers.specs.Formats.{many}
 use Rattle.cube_point.specs.declared.point.Shape.{Shape}
-use Rattle.page_fmt.specs.Pages.{entry_size}
-use Rattle.page_fmt.specs.Taking.{are_lawful_points, entry_of}
-use Rattle.page_fmt.proofs.Widths.{as_it_is}
+use Rattle.page_entry.specs.Bytes.{entry_size}
+use Rattle.page_entry.specs.Entries.{entry_of}
+use Rattle.page_fmt.specs.Taking.{are_lawful_points}
+use Rattle.page_entry.proofs.Widths.{as_it_is}
 use Rattle.page_fmt.proofs.lawful.are_narrow_lawful.Goals as goal
 
 -- the leaf's points, by the number of coordinates and the width that they have

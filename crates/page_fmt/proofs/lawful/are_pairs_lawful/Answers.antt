@@ -1,11 +1,11 @@
 use Rattle.std.proofs.Common.{◌≡◌, ◌≤◌, ◌<◌, ◌+◌, ◌*◌, ◌-◌, ℕ, suc, true, drop, refl, sym, ap, ◌∙◌, subst, arith}
 use Rattle.std.specs.Prelude.{◌&&◌}
 use Rattle.std.proofs.Math.Nat.{mul-le-mul_right}
-use Rattle.page_fmt.specs.Pages.{entry_size}
-use Rattle.page_fmt.specs.Taking.{entry_of, entry_before, is_positive}
-use Rattle.page_fmt.proofs.Following.{passed-before}
-use Rattle.page_fmt.proofs.Loops.{all-done, ascend-done}
-use Rattle.page_fmt.proofs.Passes.{next-place}
+use Rattle.page_entry.specs.Bytes.{entry_size}
+use Rattle.page_entry.specs.Entries.{entry_of, entry_before, is_positive}
+use Rattle.page_fmt.proofs.Passes.{passed-before}
+use Rattle.page_entry.proofs.Loops.{all-done, next-place}
+use Rattle.page_fmt.proofs.Loops.{ascend-done}
 use Rattle.page_fmt.proofs.Passing.{ascends, fails, first-test, next-test, positive}
 use Rattle.page_fmt.proofs.lawful.are_pairs_lawful.Goals as goal
 

@@ -3,7 +3,8 @@ use Rattle.std.specs.List.{All}
 use Rattle.page_fmt.specs.declared.page.Child.{Child}
 use Rattle.page_fmt.specs.declared.page.Place.{Place}
 use Rattle.page_fmt.specs.Pages.{child_size}
-use Rattle.page_fmt.specs.Taking.{ascend, child_of, children, page_before, page_count}
+use Rattle.page_entry.specs.Entries.{ascend, page_count}
+use Rattle.page_fmt.specs.Taking.{child_of, children, page_before}
 use Rattle.range_scan.proofs.Meetings.{ahead-met, from-first, none-met, there}
 use Rattle.range_scan.proofs.children.take_children.Goals as goal
 

@@ -1,7 +1,8 @@
 use Rattle.std.proofs.Common.{Vec, Global, ◌≡◌, ◌<◌, ◌+◌, ◌-◌, ◌*◌, ◌++◌, ◌∙◌, ℕ, [], ◌∷◌, drop, length, reverse, subst, sym, ap, arith}
 use Rattle.page_fmt.specs.declared.page.Child.{Child}
 use Rattle.page_fmt.specs.Pages.{child_size}
-use Rattle.page_fmt.specs.Taking.{child_of, children, page_count}
+use Rattle.page_entry.specs.Entries.{page_count}
+use Rattle.page_fmt.specs.Taking.{child_of, children}
 use Rattle.page_fmt.specs.Writing.{IsBox}
 use Rattle.range_scan.specs.Visits.{met}
 use Rattle.range_scan.proofs.Lists.{goes_on, passes_by}

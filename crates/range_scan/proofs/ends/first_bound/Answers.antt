@@ -1,7 +1,7 @@
 use Rattle.std.proofs.Common.{◌≡◌, ◌≤◌, inl, inr, ℕ, subst, arith}
 use Rattle.std.specs.Prelude.{slice_index}
 use Rattle.std.proofs.lemmas.Bool.{cases_lt}
-use Rattle.page_fmt.specs.Lawful.{IsCoordinate}
+use Rattle.page_entry.specs.Stored.{IsCoordinate}
 use Rattle.range_scan.proofs.ends.first_bound.Goals.{then-region-i-gt1-via-then-region-i-gt1, then-region-i-gt1-via-else-region-i-gt1+then-region-i}
 use Rattle.range_scan.proofs.ends.first_bound.Goals as goal
 

@@ -1,6 +1,6 @@
 use Rattle.std.proofs.Common.{◌≡◌, ◌<◌, ◌^◌, ℕ, Bool, true, false, arith}
-use Rattle.page_fmt.specs.Lawful.{IsCoordinate}
-use Rattle.page_fmt.specs.Pages.{width}
+use Rattle.page_entry.specs.Stored.{IsCoordinate}
+use Rattle.page_entry.specs.Bytes.{width}
 use Rattle.range_scan.proofs.ends.greatest_coordinate.Goals as goal
 
 wide-fits : (wide : Bool) (n : ℕ) → wide ≡ true → n < 2 ^ 64 → IsCoordinate wide n

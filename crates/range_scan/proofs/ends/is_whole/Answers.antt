@@ -2,7 +2,7 @@ use Rattle.std.proofs.Common.{◌≡◌, ◌-◌, ◌<◌, ◌∙◌, ap, get_or
 use Rattle.std.proofs.lemmas.List.{get_or_default}
 use Rattle.cube_point.specs.declared.point.Entry.{Entry}
 use Rattle.cube_point.specs.declared.point.Point.{Point}
-use Rattle.page_fmt.specs.Taking.{entries}
+use Rattle.page_entry.specs.Entries.{entries}
 use Rattle.range_scan.specs.Ends.{TellAll}
 use Rattle.range_scan.proofs.Between.{all-inside}
 use Rattle.range_scan.proofs.ends.is_whole.Goals as goal

@@ -1,7 +1,7 @@
 use Rattle.std.proofs.Common.{◌≡◌, [], ◌∷◌, ◌++◌, ◌+◌, ◌<◌, ◌∙◌, length, take, append_assoc, sym, ap, subst, arith}
 use Rattle.std.proofs.lemmas.List.{take_more}
 use Rattle.cube_point.specs.declared.point.Entry.{Entry}
-use Rattle.page_fmt.specs.Taking.{entries}
+use Rattle.page_entry.specs.Entries.{entries}
 use Rattle.range_scan.proofs.page.take_all.Goals as goal
 
 pub loop-index-preserved : goal.loop-index-preserved

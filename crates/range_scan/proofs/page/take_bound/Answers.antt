@@ -1,9 +1,9 @@
 use Rattle.std.proofs.Common.{◌≡◌, ◌<◌, ◌≤◌, ◌+◌, ◌*◌, ◌++◌, ◌∙◌, ℕ, List, filter, length, take, refl, subst, sym, ap, arith}
 use Rattle.cube_point.specs.declared.point.Entry.{Entry}
-use Rattle.page_fmt.specs.Pages.{entry_size, width}
-use Rattle.page_fmt.specs.Taking.{entries, page_arity}
-use Rattle.page_fmt.proofs.Lent.{lent-inside}
-use Rattle.page_fmt.proofs.Widths.{coordinate-inside}
+use Rattle.page_entry.specs.Bytes.{entry_size, width}
+use Rattle.page_entry.specs.Entries.{entries, page_arity}
+use Rattle.page_entry.proofs.Lent.{lent-inside}
+use Rattle.page_entry.proofs.Widths.{coordinate-inside}
 use Rattle.range_scan.specs.Meeting.{is_inside}
 use Rattle.range_scan.proofs.Bound.{passed}
 use Rattle.range_scan.proofs.Lists.{keeps, skips}

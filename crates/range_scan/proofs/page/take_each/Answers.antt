@@ -1,6 +1,6 @@
 use Rattle.std.proofs.Common.{◌++◌, ◌+◌, ◌<◌, ◌∙◌, List, filter, length, take, refl, subst, sym, arith}
 use Rattle.cube_point.specs.declared.point.Entry.{Entry}
-use Rattle.page_fmt.specs.Taking.{entries}
+use Rattle.page_entry.specs.Entries.{entries}
 use Rattle.range_scan.specs.Meeting.{is_inside}
 use Rattle.range_scan.proofs.Lists.{keeps, skips}
 use Rattle.range_scan.proofs.Tests.{inside-is}

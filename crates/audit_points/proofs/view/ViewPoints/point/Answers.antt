@@ -1,7 +1,6 @@
 use Rattle.std.proofs.Common.{rules, ◌≡◌, ◌<◌, ◌/◌, ◌%◌, ℕ, List, ap, arith, get_or, map, subst, sym, ◌∙◌}
 use Rattle.std.proofs.lemmas.List.{length-map}
-use Rattle.page_fmt.specs.Lawful.{HasEntries}
-use Rattle.page_fmt.specs.Taking.{entries, page_count}
+use Rattle.page_entry.specs.Entries.{HasEntries, entries, page_count}
 use Rattle.audit_points.specs.Kept.{Kept, bytes_of, entries_in, points_of}
 use Rattle.audit_points.proofs.Leaves.{page-is, read-eight, read-measured, stands-at}
 use Rattle.audit_points.proofs.view.ViewPoints.point.Goals as goal

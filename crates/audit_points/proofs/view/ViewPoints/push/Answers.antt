@@ -1,8 +1,7 @@
 use Rattle.std.proofs.Common.{rules, ◌≡◌, ◌≤◌, ◌++◌, ℕ, List, [], ◌∷◌, ap, arith, length, length-append, map, subst, sym, ◌∙◌}
 use Rattle.std.specs.List.{All}
 use Rattle.std.proofs.lemmas.List.{map-append}
-use Rattle.page_fmt.specs.Lawful.{HasEntries}
-use Rattle.page_fmt.specs.Taking.{entries, page_count}
+use Rattle.page_entry.specs.Entries.{HasEntries, entries, page_count}
 use Rattle.page_fmt.specs.Trees.{room_of}
 use Rattle.audit_points.specs.Kept.{AreFull, AreLeaves, Kept, bytes_of, entries_in}
 use Rattle.audit_points.proofs.Leaves.{entries-long, one-more, points-more}

@@ -3,13 +3,11 @@ use Rattle.std.specs.List.{All}
 use Rattle.std.proofs.lemmas.Bool.{true≢false}
 use Rattle.cube_point.specs.declared.point.Entry.{Entry}
 use Rattle.leaf_pack.specs.Leaf.{arity_of}
-use Rattle.page_fmt.specs.Taking.{entries}
+use Rattle.page_entry.specs.Entries.{entries, HasEntries, page_count}
 use Rattle.page_fmt.specs.Trees.{room_of}
 use Rattle.page_fmt.proofs.Rooms.{room-some}
 use Rattle.audit_tree.specs.Fitting.{due}
 use Rattle.audit_tree.specs.Packed.{IsWithin}
-use Rattle.page_fmt.specs.Lawful.{HasEntries}
-use Rattle.page_fmt.specs.Taking.{page_count}
 use Rattle.tree_scan.specs.Scanning.{leaf_entries}
 use Rattle.audit_tree.proofs.Due.{due-leaf, due-own, leaf-within}
 use Rattle.audit_tree.proofs.tree.TreeAudit.is_leaf.Goals as goal

@@ -4,13 +4,12 @@ use Rattle.std.specs.List.{All}
 use Rattle.cube_point.specs.declared.point.Entry.{Entry}
 use Rattle.cube_point.specs.declared.point.Shape.{Shape}
 use Rattle.audit_points.specs.Kept.{Kept, first_or}
-use Rattle.page_fmt.specs.Taking.{entries}
+use Rattle.page_entry.specs.Entries.{entries, HasEntries, page_count}
 use Rattle.page_fmt.specs.Trees.{room_of}
-use Rattle.page_fmt.specs.Writing.{AreEntries, FitsLeaf}
+use Rattle.page_entry.specs.Stored.{FitsLeaf}
+use Rattle.page_fmt.specs.Writing.{AreEntries}
 use Rattle.page_fmt.proofs.Rooms.{room-some}
 use Rattle.audit_tree.specs.Fitting.{due}
-use Rattle.page_fmt.specs.Lawful.{HasEntries}
-use Rattle.page_fmt.specs.Taking.{page_count}
 use Rattle.tree_pack.specs.Moving.{HasRoomIn, Moving, with_leaf}
 use Rattle.tree_scan.specs.Scanning.{leaf_entries}
 use Rattle.audit_tree.proofs.Safe.{safe-room}

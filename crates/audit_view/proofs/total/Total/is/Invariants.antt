@@ -1,5 +1,5 @@
 use Rattle.std.proofs.Common.{◌≡◌, ◌<◌, ℕ, get_or}
-use Rattle.page_fmt.specs.Taking.{no_part}
+use Rattle.page_entry.specs.Entries.{no_part}
 use Rattle.audit_view.specs.Totals.{part_in, zero_part}
 use Rattle.audit_view.proofs.total.Total.is.Given as goal
 

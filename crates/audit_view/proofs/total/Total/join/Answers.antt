@@ -1,6 +1,6 @@
 use Rattle.std.proofs.Common.{rules, ◌≡◌, ◌≤◌, ◌+◌, [], ◌∷◌, List, get_or, arith}
 use Rattle.fact_model.specs.Cell.{join_parts}
-use Rattle.page_fmt.specs.Taking.{no_part}
+use Rattle.page_entry.specs.Entries.{no_part}
 use Rattle.audit_view.specs.declared.total.ExactPart.{ExactPart}
 use Rattle.audit_view.specs.declared.total.Total.{Total}
 use Rattle.audit_view.specs.Totals.{part_in, zero_part}

@@ -3,7 +3,7 @@ use Rattle.std.specs.Prelude.{OnOk, IfErr}
 use Rattle.std.proofs.lemmas.Result.{on_ok_weaker}
 use Rattle.cube_point.specs.declared.point.Entry.{Entry}
 use Rattle.fact_model.specs.Cell.{join}
-use Rattle.page_fmt.specs.Cells.{EndsInZeros}
+use Rattle.page_entry.specs.Cells.{EndsInZeros}
 use Rattle.view_rows.specs.Grouped.{Joins}
 use Rattle.view_rows.specs.declared.stop.RowsStop.TheVariants as stops
 use Rattle.view_rows.proofs.FlatLists.{all-long, closed-places, in-closed, in-recent, joined-closed, joined-recent, recent-places}

@@ -1,0 +1,12 @@
+pub mod Carried
+pub mod CellParts
+pub mod Coordinates
+pub mod Fields
+pub mod Following
+pub mod Lent
+pub mod Loops
+pub mod Pairs
+pub mod Runs
+pub mod Tests
+pub mod Widths
+pub mod Writes

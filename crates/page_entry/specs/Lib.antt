@@ -1,0 +1,5 @@
+pub mod Bytes
+pub mod Cells
+pub mod Entries
+pub mod Runs
+pub mod Stored
