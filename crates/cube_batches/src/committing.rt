@@ -18,8 +18,9 @@ pub enum Told {
     Upgraded,
 }
 
-/// Commits a refresh, empties the page cache, and replies with `told`. The session then has the store of all facts. A stop at any moment
-/// leaves the files with the facts of the batch or without them, and so does an error: a file failed, a page is damaged, or memory ran out.
+/// Commits a refresh, empties the page cache, and returns the reply for `told`. The session then has the store of all facts. A stop at any
+/// moment leaves the files with the facts of the batch or without them, and so does an error: a file failed, a page is damaged, or memory
+/// ran out.
 pub fn commit<T: Site>(
     alloc: Global,
     pages: &mut Pages,

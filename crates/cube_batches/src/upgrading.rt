@@ -16,8 +16,8 @@ use site_core::Site;
 use std::alloc::Global;
 
 /// Rewrites all pages in the greatest format, in which numbers are not limited to 32 bits, or refuses if no schema is declared or a batch is
-/// pending. If the pages already have that format, no file is called. A stop at any moment leaves the facts as they were, in one format or the
-/// other, and so does an error, which ends the session: a file failed, a page is damaged, or memory ran out. The commit empties the page cache.
+/// pending. If the pages already have that format, it makes no call on a file. A stop at any moment leaves the facts as they were, in one format or
+/// the other, and so does an error, which ends the session: a file failed, a page is damaged, or memory ran out. The commit empties the page cache.
 pub fn upgrade<T: Site>(
     alloc: Global,
     pages: &mut Pages,

@@ -17,8 +17,8 @@ use script_lang::Block;
 use std::alloc::Global;
 use text_hash::Seed;
 
-/// Appends the level `name` over the attribute `attr`, or refuses it for the first reason against it. No file is called. An error means out
-/// of memory.
+/// Appends the level `name` over the attribute `attr`, or refuses it for the first reason against it. Makes no call on a file. An error
+/// means out of memory.
 pub fn level(
     alloc: Global,
     state: &State,

@@ -1,4 +1,4 @@
--- How many reads and writes of files a run of calls may make.
+-- How many reads and writes of files a run of calls may request.
 use Rattle.std.specs.Prelude.{◌≤◌, ◌+◌, ℕ}
 use Rattle.site_core.specs.declared.site.Site.{Ghosts}
 
@@ -13,7 +13,7 @@ free = record { reads = 0; writes = 0 }
 abbrev pub both : Cost → Cost → Cost
 both one other = record { reads = one.reads + other.reads; writes = one.writes + other.writes }
 
--- no more reads and writes were made
+-- no more reads and writes were requested
 pub record Spends {S : Type 0} (T : Ghosts S) (cost : Cost) (old new : S) : Type 0 where
   pub reads : T.reads new ≤ T.reads old + cost.reads
   pub writes : T.writes new ≤ T.writes old + cost.writes

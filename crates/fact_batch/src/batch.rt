@@ -61,7 +61,7 @@ impl Batch {
         slots_within(&self.slots, limit)
     }
 
-    /// The measures of fact `at`, counted from 0.
+    /// The numbers of fact `at`, one for each measure. Facts are counted from 0.
     pub fn numbers(&self, at: usize) -> &[i128]
         requires { at < length self.now }
         ensures { result.now ≡ get_or (measures_in self.now) at [] }
