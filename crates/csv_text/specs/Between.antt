@@ -6,15 +6,15 @@ use Rattle.csv.specs.Writing.{default_writer, with_flexible, writer_setup, field
 use Rattle.csv.specs.declared.writer.Writer.{Writer}
 use Rattle.csv.specs.declared.record.ByteRecord.{ByteRecord}
 
--- the text that was written
+-- the text written
 abbrev pub text_of : Writer (Vec ℕ Global) → List ℕ
 text_of writer = (writer_under writer).items ++ writer_pending writer
 
 pub record IsBetween (writer : Writer (Vec ℕ Global)) (row : ByteRecord) : Type 0 where
-  -- rows may have different numbers of fields
+  -- rows may differ in their number of fields
   pub setup : writer_setup writer ≡ with_flexible default_writer true
   -- no row has begun in the writer
   pub fields : fields_written writer ≡ 0
   pub wrote : has_written writer ≡ false
-  -- the last field of the row is whole
+  -- the last field of the row is complete
   pub whole : partial_of row ≡ []

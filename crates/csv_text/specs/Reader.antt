@@ -7,7 +7,7 @@ use Rattle.csv.specs.declared.parser.State.{State}
 use Rattle.csv.specs.declared.reader.Reader.{Reader}
 use Rattle.csv.specs.declared.reader.Trim.TheVariants as trim
 
--- the bytes of the block that it has not read, if it reads on
+-- the unread bytes of the block, if the reader still reads
 abbrev pub unread_by : Reader (Bor (List ℕ)) → Option (List ℕ)
 unread_by reader = source_of (λ s. Some s.now) reader
 
@@ -23,15 +23,15 @@ left_by reader = records_left (reader_state reader) (unread_by reader)
 pub record IsBlockReader (reader : Reader (Bor (List ℕ))) : Type 0 where
   pub config : reader_config reader ≡ default_config
   pub trim : reader_trim reader ≡ trim.None
-  -- records may have different numbers of fields
+  -- records may differ in their number of fields
   pub flexible : is_flexible reader ≡ true
-  -- no header row is taken
+  -- no header row is read
   pub ready : Ready reader
   pub bytes : List ℕ
   pub known : unread_by reader ≡ Some bytes
   pub between : ends_at_end (reader_state reader) ≡ false
 
--- these fields are of the next record, or there is none
+-- these are the fields of the next record, or there is none
 abbrev pub IsNext : List (List (List ℕ)) → List (List (List ℕ)) → List (List ℕ) → Bool → Type 0
 IsNext left rest fields true = left ≡ fields ∷ rest
 IsNext left rest fields false = left ≡ []

@@ -11,28 +11,28 @@ abbrev pub value_text : Value → List ℕ
 value_text (Word text) = text
 value_text (Number n) = decimal n
 
--- the fields of a row of an answer: its values, and its numbers in decimal
+-- the fields of an answer row: its values, then its numbers in decimal
 abbrev pub row_fields : Row → List (List ℕ)
 row_fields row = map value_text row.key ++ map signed_decimal row.numbers
 
--- rows as text, each as `csv` writes a record with its default settings
+-- rows as text, written as `csv` writes records with its default settings
 abbrev pub rows_text : List (List (List ℕ)) → List ℕ
 rows_text rows = flat_map (row_text default_writer) rows
 
 pub record Written : Type 0 where
-  -- the text of the rows that have ended
+  -- the text of the rows that have been ended
   pub text : List ℕ
-  -- the fields of the row that has begun
+  -- the fields of the current row
   pub fields : List (List ℕ)
 
 abbrev pub nothing_written : Written
 nothing_written = record { text = []; fields = [] }
 
--- one field more
+-- with one more field
 abbrev pub with_field : Written → List ℕ → Written
 with_field written field = record { text = written.text; fields = written.fields ++ field ∷ [] }
 
--- these fields more
+-- with these fields added
 abbrev pub with_fields : Written → List (List ℕ) → Written
 with_fields written fields = record { text = written.text; fields = written.fields ++ fields }
 
@@ -40,10 +40,10 @@ with_fields written fields = record { text = written.text; fields = written.fiel
 abbrev pub with_end : Written → Written
 with_end written = record { text = written.text ++ row_text default_writer written.fields; fields = [] }
 
--- these rows more
+-- with these rows added
 abbrev pub with_rows : Written → List (List (List ℕ)) → Written
 with_rows written rows = record { text = written.text ++ rows_text rows; fields = written.fields }
 
--- a text of rows, and then a line with their number
+-- the text of rows, followed by a line with their number
 abbrev pub with_count : List ℕ → ℕ → List ℕ
 with_count text count = text ++ (codes "rows " ++ (decimal count ++ 10 ∷ []))

@@ -8,7 +8,7 @@ use csv::{ByteRecord, Reader, ReaderBuilder};
 use fact_model::Memory;
 use std::alloc::Global;
 
-/// A reader of the records of a block, which has no header row and whose records may have different numbers of fields.
+/// A reader of the records of a block. The block has no header row, and records may differ in their number of fields.
 pub fn block_reader(alloc: Global, block: &[u8]) -> Reader<&[u8]>
     ensures reader { IsBlockReader result }
     ensures all { left_by result ≡ records_of block.now }
@@ -19,15 +19,15 @@ pub fn block_reader(alloc: Global, block: &[u8]) -> Reader<&[u8]>
         .from_reader(alloc, block)
 }
 
-/// Reads the next record of a block into a record that is filled anew, and tells whether there was one. After `Memory` the reader
-/// gives no more.
+/// Reads the next record of a block into `fields`, which it overwrites, and returns whether there was one. After `Memory` the
+/// reader gives no more records.
 pub fn read_record(reader: &mut Reader<&[u8]>, fields: &mut ByteRecord) -> Result<bool, Memory>
     requires { IsBlockReader reader.old }
     ensures next { IfOk result (λ found. IsNext (left_by reader.old) (left_by reader.new) (fields_of fields.new) found) }
     ensures reader { IfOk result (λ found. found ≡ true → IsBlockReader reader.new) }
 {
     let Ok(found) = reader.read_byte_record(fields) else {
-        // Over memory `csv` fails for want of memory alone.
+        // When it reads from memory, `csv` fails only if memory runs out.
         return Err(Memory);
     };
     Ok(found)

@@ -12,8 +12,8 @@ use itoa::Buffer;
 use std::alloc::Global;
 use std::marker::Model;
 
-/// Rows that are written as text, field by field, through one record that is filled anew. After `Memory` all that was
-/// written is dropped, and the writer is as a new one.
+/// Writes rows as text, field by field, through one record that is reused. After `Memory` everything written is
+/// discarded, and the writer is like a new one.
 #[derive(Drop)]
 pub struct RowWriter {
     alloc: Global,
@@ -34,7 +34,7 @@ impl Model for RowWriter {
 }
 
 impl RowWriter {
-    /// Nothing is written. It takes no memory.
+    /// A writer with nothing written. Does not allocate.
     pub fn new(alloc: Global) -> RowWriter
         ensures { result ≡ nothing_written }
     {
@@ -75,7 +75,7 @@ impl RowWriter {
         self.push_field(Buffer::new().format(number).as_bytes())
     }
 
-    /// Ends the row. A row of no field, or of one that is empty, is written as two quotes.
+    /// Ends the row. A row without fields, or with one empty field, is written as two quotes.
     pub fn end_row(&mut self) -> Result<(), Memory>
         ensures ended { OnOk result (self.new ≡ with_end self.old) }
         ensures dropped { OnErr result (self.new ≡ nothing_written) }
@@ -89,19 +89,19 @@ impl RowWriter {
         }
     }
 
-    /// The text of the rows that have ended.
+    /// The text of the rows that have been ended.
     pub fn into_text(self) -> Result<Vec<u8>, Memory>
         ensures { IfOk result (λ text. text.items ≡ self.text) }
     {
         let RowWriter { writer, .. } = self;
         match writer.into_inner() {
             Ok(text) => Ok(text),
-            // Over memory `csv` fails for want of memory alone.
+            // When it writes to memory, `csv` fails only if memory runs out.
             Err(_) => Err(Memory),
         }
     }
 
-    /// The text of the rows that have ended, and then a line with their number, which is `count`.
+    /// The text of the rows that have been ended, followed by a line with their number, which is `count`.
     pub fn into_answer(self, count: u64) -> Result<Vec<u8>, Memory>
         ensures { IfOk result (λ text. text.items ≡ with_count self.text count) }
     {
@@ -112,7 +112,7 @@ impl RowWriter {
     }
 }
 
-/// Writes the record, and empties it.
+/// Writes the record and empties it.
 fn write_record(writer: &mut Writer<Vec<u8>>, row: &mut ByteRecord) -> Result<(), Memory>
     requires { IsBetween writer.old row.old }
     ensures between { OnOk result (IsBetween writer.new row.new) }
@@ -126,7 +126,7 @@ fn write_record(writer: &mut Writer<Vec<u8>>, row: &mut ByteRecord) -> Result<()
     Ok(())
 }
 
-/// A writer of rows that may have different numbers of fields.
+/// A writer of rows that may differ in their number of fields.
 fn new_writer(alloc: Global) -> Writer<Vec<u8>>
     ensures setup { writer_setup result ≡ with_flexible default_writer true }
     ensures fields { fields_written result ≡ 0 }
@@ -138,8 +138,7 @@ fn new_writer(alloc: Global) -> Writer<Vec<u8>>
         .from_writer(Vec::new(alloc))
 }
 
-/// Drops all that was written. A function pays at its entry for the room of its locals, and this one has a new writer: so it stands apart,
-/// and no row pays for it.
+/// Discards everything written. It is a separate function because its stack frame holds a new writer: so no row pays for that frame.
 #[cold]
 #[inline(never)]
 fn start_anew(alloc: Global, writer: &mut Writer<Vec<u8>>, row: &mut ByteRecord)

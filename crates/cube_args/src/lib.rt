@@ -1,4 +1,4 @@
-//! The words of the program: the one option that it takes, read by `clap`.
+//! The command line of the program: its only option, read by `clap`.
 #![tactic(auto)]
 
 mod words;

@@ -1,4 +1,4 @@
-//! The words after the program's name, and the number of pages that they ask the cache to hold.
+//! The arguments after the program's name, and the number of pages that they let the cache hold.
 ghost use Rattle.std.specs.Prelude.{◌≡◌, ◌≤◌, IfErr, IfOk, OnOk, map, string_bytes};
 ghost use Rattle.clap.specs.Simple.{app_of};
 ghost use Rattle.cube_args.specs.Words.{AreValid, IsCapacity, cache_app};
@@ -8,17 +8,18 @@ use clap::error::ErrorKind;
 use clap::{Arg, ArgAction, Command};
 use std::alloc::{AllocError, Global};
 
-/// Why the words give no capacity.
+/// Why the arguments give no capacity.
 #[derive(Clone, Copy, Debug, PartialEq, Eq)]
 pub enum WordsStop {
-    /// Another option or another word stands there, the option twice, or with it no number from 0 to 4096.
+    /// There is another option or argument, the option is given twice, or its value is not a number from 0 to 4096.
     Usage,
-    /// Memory ran out.
+    /// Out of memory.
     Memory,
 }
 
-/// The number of pages that the cache may hold, as the words after the program's name say: N of `--cache N` or `--cache=N`, and 64
-/// where the option is not given. `WordsStop::Usage` comes only of words that the program does not take, `WordsStop::Memory` of any.
+/// The number of pages that the cache may hold, by the arguments after the program's name: N of `--cache N` or `--cache=N`, and 64
+/// without the option. `WordsStop::Usage` is returned only for arguments that the program does not accept, `WordsStop::Memory` for
+/// any.
 pub fn cache_of(alloc: Global, words: &[String]) -> Result<u32, WordsStop>
     ensures valid { OnOk result (AreValid (map string_bytes words.now)) }
     ensures value { IfOk result (IsCapacity (map string_bytes words.now)) }
@@ -32,7 +33,7 @@ pub fn cache_of(alloc: Global, words: &[String]) -> Result<u32, WordsStop>
     match command.try_get_matches_from(words) {
         Ok(matches) => match matches.get_one::<u32>("cache") {
             Some(pages) => Ok(pages),
-            // The option has a default value, and a `u32` holds each number that it takes.
+            // The option has a default value, and a `u32` holds every number that it accepts.
             None => unreachable!(),
         },
         Err(error) if error.kind() == ErrorKind::OutOfMemory => Err(WordsStop::Memory),
@@ -40,7 +41,7 @@ pub fn cache_of(alloc: Global, words: &[String]) -> Result<u32, WordsStop>
     }
 }
 
-/// The command that takes the option alone: its flags for help and the version are off, so that their words are refused as any other.
+/// The command with this option only. Its help and version flags are off, so they are refused like any other option.
 fn cache_command<'a>(alloc: Global) -> Result<Command<'a>, AllocError>
     ensures command { IfOk result (λ command. app_of command ≡ cache_app) }
 {

@@ -1,4 +1,4 @@
--- That a refresh which has begun is committed, and a reply alone.
+-- The commit of a refresh that has begun, and commands that only reply.
 use Rattle.std.specs.Prelude.{◌≡◌, ◌≤◌, ◌+◌, ◌++◌, ℕ, List, length, IsTrue, None, Some, Ok, Err}
 use Rattle.site_core.specs.Disk.{DiffersPast, Files}
 use Rattle.site_core.specs.declared.site.Site.{Ghosts}
@@ -41,37 +41,37 @@ fact_count (Idle store) = store.forest.body.facts
 fact_count (Hollow store) = store.forest.body.facts
 fact_count (Pending refresh) = refresh.store.forest.body.facts
 
--- what is told of a refresh that has ended, by the number of facts
+-- the reply after a refresh has ended, by the number of facts
 abbrev pub text_of : Told → ℕ → List ℕ
 text_of Committed count = committed_text count
 text_of Upgraded count = line upgraded_text
 
--- this is replied, or memory runs out
+-- the reply is this text, or memory runs out
 abbrev pub SaysOnly : List ℕ → Reply → Type 0
 SaysOnly text (Ok reply) = reply.items ≡ text
 SaysOnly text (Err stop) = stop ≡ stops.Memory
 
 -- ---- a commit
 
--- damage leaves all files but the side of the next generation
+-- damage changes no file but the side of the next generation
 abbrev pub SparesOthers : Body → Files → Files → Stop → Type 0
 SparesOthers live old new (stops.Damaged file offset) = DiffersPast (next_side live) 0 old new
 SparesOthers live old new stops.Disk = Unit {0}
 SparesOthers live old new stops.Output = Unit {0}
 SparesOthers live old new stops.Memory = Unit {0}
 
--- the batch is accepted, and so much is told
+-- the batch is accepted, and this is the reply
 abbrev pub ended_with : Told → World → Warehouse → List Fact → ℕ → Answer
 ended_with told world warehouse batch last = ((committed world warehouse batch last).0, text_of told (length (warehouse.facts ++ batch)))
 
--- of a world the command accepts the batch of the refresh
+-- in this world the command accepts the batch of the refresh
 pub record EndsFor {S : Type 0} (T : Ghosts S) (told : Told) (command : Command) (state : State) (refresh : Begun) (old mid : S) (world : World) : Type 0 where
   pub warehouse : Warehouse
   pub batch : List Fact
   pub last : ℕ
   pub attends : AttendsAs last refresh (T.disk mid) warehouse batch
   pub kept : world.kept ≡ Some warehouse
-  -- no format is left again
+  -- the format never goes down
   pub later : refresh.store.forest.body.format ≤ refresh.next.format
   pub acts : act world command ≡ ended_with told world warehouse batch last
   pub any_moment : (new : S) → Between (format_of state) (T.disk mid) (T.disk new) world (act world command).0 → Between (format_of state) (T.disk old) (T.disk new) world (act world command).0
@@ -81,7 +81,7 @@ pub record EndsFor {S : Type 0} (T : Ghosts S) (told : Told) (command : Command)
       → Spends T (commit_cost (forest_moves (format_of state) refresh.next.format warehouse.schema warehouse.facts batch) refresh.progress.taken) mid new
       → T.reads new ≤ T.reads mid + page_count (format_of state) warehouse.schema warehouse.facts → Spends T cost old new
 
--- the command ends with the commit of a refresh, which stands from mid on
+-- the command ends with the commit of a refresh that has begun by mid
 pub record Ends {S : Type 0} (T : Ghosts S) (told : Told) (command : Command) (state : State) (refresh : Begun) (old mid : S) : Type 0 where
   pub none_asked : (schema : Schema) (levels : List Level) → asked_by schema levels command ≡ None
   pub writes : MayWrite command
@@ -99,7 +99,7 @@ pub record Ends {S : Type 0} (T : Ghosts S) (told : Told) (command : Command) (s
   pub live : live_of state ≡ Some refresh.store.forest.body
   pub schema : schema_of state ≡ Some refresh.store.forest.schema
 
--- each command that ends so is carried out
+-- each command that ends like this is carried out
 abbrev pub Commits : {S : Type 0} (T : Ghosts S) (told : Told) (refresh : Begun) (next : State) (mid new : S) (before after : Cache) (result : Reply) → Type 0
 Commits {S} T told refresh next mid new before after result =
     (command : Command) (state : State) (old : S) → Ends T told command state refresh old mid → CarriesOut T command state next old new before after result

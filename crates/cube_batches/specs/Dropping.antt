@@ -1,4 +1,4 @@
--- What a session has where an empty batch begins, and where the pending batch is dropped.
+-- The state of a session after an empty batch begins, and after the pending batch is discarded.
 use Rattle.std.specs.Prelude.{◌≡◌, List}
 use Rattle.site_core.specs.Disk.{Files}
 use Rattle.fact_model.specs.declared.fact.Fact.{Fact}
@@ -8,7 +8,7 @@ use Rattle.spec_store.specs.Stored.{IsStoreOf, IsWhole}
 use Rattle.cube_state.specs.declared.state.State.{State}
 use Rattle.cube_state.specs.declared.state.State.TheVariants.{Empty, Idle, Hollow, Pending}
 
--- an empty batch is pending where none was
+-- an empty batch is pending if none was
 abbrev pub hollow_of : State → State
 hollow_of Empty = Empty
 hollow_of (Idle store) = Hollow store
@@ -21,7 +21,7 @@ pub record IsWithout (refresh : Begun) (store : Store) : Type 0 where
   pub forest : store.forest ≡ refresh.store.forest
   pub whole : IsWhole store
 
--- no batch is pending, and the rest is as before
+-- no batch is pending, and everything else is as before
 abbrev pub IsDropped : State → State → Type 0
 IsDropped Empty next = next ≡ Empty
 IsDropped (Idle store) next = next ≡ Idle store

@@ -1,4 +1,4 @@
-//! A batch is read from a block of rows, or made by the generator.
+//! A batch, read from a block of rows or made by the generator.
 ghost use Rattle.std.specs.Prelude.{◌≡◌, ℕ, IfOk, IfErr};
 ghost use Rattle.cube_schema.specs.Lawful.{IsSchema};
 ghost use Rattle.spec_machine.specs.Machine.{batch_from, block_read, generated_within, in_turn, with_last, with_number};
@@ -16,13 +16,13 @@ use std::alloc::Global;
 /// What a source gives.
 #[derive(Drop)]
 pub enum Read {
-    /// These facts, and the number of the batch, where it has one.
+    /// These facts, and the number of the batch, if it has one.
     Batch(Batch, Option<u64>),
-    /// None, and the reply that says why.
+    /// No batch. The reply says why.
     Refused(Vec<u8>),
 }
 
-/// The batch of a source by the schema and the number of the last numbered batch. An error is want of memory.
+/// The batch of a source, for the schema and the number of the last numbered batch. An error means out of memory.
 pub fn read_source(
     alloc: Global,
     schema: &Schema,
@@ -40,7 +40,7 @@ pub fn read_source(
     }
 }
 
-/// The facts of a block by the schema, as a batch without a number.
+/// The facts of a block, as a batch without a number.
 fn read_block(alloc: Global, schema: &Schema, block: Block) -> Result<Read, Stop>
     ensures read { (last : ℕ) → IfOk result (IsRead schema.now last (with_last last (block_read schema.now block))) }
     ensures memory { IfErr result (λ stop. stop ≡ Stop.Memory) }
@@ -58,7 +58,7 @@ fn read_block(alloc: Global, schema: &Schema, block: Block) -> Result<Read, Stop
     }
 }
 
-/// The batch of a block with this number, where it is the next one behind the last.
+/// The batch of a block with this number, if it is the number after the last.
 fn read_next(
     alloc: Global,
     schema: &Schema,
@@ -88,7 +88,7 @@ fn read_next(
     Ok(Read::Batch(batch, Some(number)))
 }
 
-/// So many facts of the schema from a start, unless they are too many for a batch.
+/// Makes `rows` facts of the schema, from the generator state `start`, unless they are too many for a batch.
 fn make_batch(alloc: Global, schema: &Schema, start: u64, rows: u64) -> Result<Read, Stop>
     requires lawful { IsSchema schema.now }
     ensures read { (last : ℕ) → IfOk result (IsRead schema.now last (with_last last (generated_within schema.now start rows))) }

@@ -1,4 +1,4 @@
-//! A refresh that has begun is committed, and acknowledged.
+//! Commits a refresh that has begun, and acknowledges it.
 ghost use Rattle.std.specs.Prelude.{◌≡◌, IsTrue};
 ghost use Rattle.forest_refresh.specs.Begun.{IsGoing, IsReady};
 ghost use Rattle.cube_batches.specs.Committing.{Commits, SaysOnly, fact_count, text_of};
@@ -9,7 +9,7 @@ use page_cache::Pages;
 use site_core::Site;
 use std::alloc::Global;
 
-/// What is told of a refresh that has ended.
+/// The reply after a refresh has ended.
 #[derive(Clone, Copy, Debug, PartialEq, Eq)]
 pub enum Told {
     /// Its batch is accepted.
@@ -18,8 +18,8 @@ pub enum Told {
     Upgraded,
 }
 
-/// Commits a refresh, forgets the kept pages, and acknowledges it so. The session has the store of all facts then. A stop at any
-/// moment leaves the files with the facts of the batch or without them, and so does an error: a file failed, a page is not sound, or memory
+/// Commits a refresh, empties the page cache, and returns the reply for `told`. The session then has the store of all facts. A stop at any
+/// moment leaves the files with the facts of the batch or without them, and so does an error: a file failed, a page is damaged, or memory
 /// ran out.
 pub fn commit<T: Site>(
     alloc: Global,
@@ -34,13 +34,13 @@ pub fn commit<T: Site>(
     ensures commits { Commits T.Site told refresh state.new site.old site.new pages.old pages.new result }
 {
     let store = refresh.finish(site)?;
-    // They are of the side that was live until now.
+    // They belong to the side that was live until now.
     pages.clear();
     state.set(State::Idle(store));
     acknowledge(alloc, state, told)
 }
 
-/// Acknowledges what is accepted.
+/// The reply about what is accepted.
 pub fn acknowledge(alloc: Global, state: &State, told: Told) -> Result<Vec<u8>, Stop>
     ensures { SaysOnly (text_of told (fact_count state.now)) result }
 {
@@ -50,7 +50,7 @@ pub fn acknowledge(alloc: Global, state: &State, told: Told) -> Result<Vec<u8>, 
     })
 }
 
-/// How many facts are accepted.
+/// The number of accepted facts.
 fn facts(state: &State) -> u64
     ensures { result ≡ fact_count state.now }
 {

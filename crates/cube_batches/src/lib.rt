@@ -1,5 +1,5 @@
-//! The commands of a batch, over what a session has: `load`, `load N` and `generate` take one in at once; `begin`, `step`, `finish` and `abandon` let
-//! slices go on between. `upgrade` makes the pages anew without one.
+//! The commands for batches, over the state of a session. `load`, `load N` and `generate` add a batch at once; `begin`, `step`, `finish` and
+//! `abandon` allow slices in between. `upgrade` rewrites the pages without a batch.
 #![tactic(auto)]
 
 mod batch;

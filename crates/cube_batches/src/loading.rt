@@ -10,10 +10,10 @@ use site_core::Site;
 use spec_machine::BatchSource;
 use std::alloc::Global;
 
-/// Takes in the batch of a source at once and acknowledges it, or refuses it and writes nothing. A numbered batch that was taken in before is
-/// only acknowledged again, and one that is not the next is refused. A stop at any moment leaves the files with the batch and its number or
-/// without both, and so does an error, which ends the session: a file failed, a page is not sound, or memory ran out. No page is kept over the
-/// commit; a batch that is refused or empty leaves the kept pages as they are.
+/// Adds the batch of a source at once and acknowledges it, or refuses it and writes nothing. A numbered batch that was accepted before is only
+/// acknowledged again, and one that is not the next is refused. A stop at any moment leaves the files with the batch and its number or without
+/// both, and so does an error, which ends the session: a file failed, a page is damaged, or memory ran out. The commit empties the page cache;
+/// a batch that is refused or empty leaves it as it is.
 pub fn load<T: Site>(
     alloc: Global,
     pages: &mut Pages,

@@ -1,4 +1,4 @@
-//! The commands `begin`, `step`, `finish` and `abandon`, over a batch that is pending.
+//! The commands `begin`, `step`, `finish` and `abandon`, for a pending batch.
 ghost use Rattle.std.specs.Prelude.{◌≡◌};
 ghost use Rattle.reply_text.specs.Replies.{line};
 ghost use Rattle.script_lang.specs.declared.command.Command.TheVariants as says;
@@ -18,8 +18,8 @@ use spec_machine::BatchSource;
 use std::alloc::Global;
 use std::mem::replace;
 
-/// Makes the facts of a block pending, or refuses them. It takes one write at most, and none where the batch is empty or refused. A stop at
-/// any moment leaves the files with the facts that they had, and so does an error, which ends the session: a file failed, or memory ran out.
+/// Makes the facts of a block pending, or refuses them. It makes at most one write, and none if the batch is empty or refused. A stop at any
+/// moment leaves the files with the facts that they had, and so does an error, which ends the session: a file failed, or memory ran out.
 pub fn begin<T: Site>(
     alloc: Global,
     state: &mut State,
@@ -42,7 +42,7 @@ pub fn begin<T: Site>(
     }
 }
 
-/// An empty batch is pending where none was.
+/// Makes an empty batch pending if no batch was.
 fn hollow(state: &mut State)
     ensures { state.new ≡ hollow_of state.old }
 {
@@ -53,9 +53,9 @@ fn hollow(state: &mut State)
     state.set(next);
 }
 
-/// Makes so many moves of the pending batch, or all that are left where these are fewer, or refuses where no batch is pending. An empty batch
-/// takes none. A move is a read of an old page, a write of a new one, or a point; slices see nothing of them. A stop at any moment leaves the
-/// files with the facts that they had, and so does an error, which ends the session: a file failed, a page is not sound, or memory ran out.
+/// Makes up to `moves` moves of the pending batch, or refuses if no batch is pending. An empty batch has no moves. A move is a read of an old
+/// page, a write of a new one, or a point; slices do not see its effects. A stop at any moment leaves the files with the facts that they had,
+/// and so does an error, which ends the session: a file failed, a page is damaged, or memory ran out.
 pub fn step<T: Site>(
     alloc: Global,
     state: &mut State,
@@ -69,13 +69,13 @@ pub fn step<T: Site>(
     let State::Pending(refresh) = state else {
         return Ok(reply);
     };
-    // Where it lies: a refresh is too large to be handed from call to call for each move.
+    // In place: a refresh is too large to be passed from call to call for each move.
     refresh.step(site, moves)?;
     Ok(reply)
 }
 
-/// Commits the pending batch and acknowledges it, or refuses where there is none. A stop at any moment leaves the files with the facts of the
-/// batch or without them, and so does an error, which ends the session: a file failed, a page is not sound, or memory ran out.
+/// Commits the pending batch and acknowledges it, or refuses if there is none. A stop at any moment leaves the files with the facts of the
+/// batch or without them, and so does an error, which ends the session: a file failed, a page is damaged, or memory ran out.
 pub fn finish<T: Site>(
     alloc: Global,
     pages: &mut Pages,
@@ -99,7 +99,7 @@ pub fn finish<T: Site>(
     }
 }
 
-/// Drops the pending batch, without a call on a file, or refuses where there is none. An error is want of memory.
+/// Discards the pending batch, without a call on a file, or refuses if there is none. An error means out of memory.
 pub fn abandon<T: Site>(alloc: Global, state: &mut State, site: &T) -> Result<Vec<u8>, Stop>
     requires runs { RunsOn T.Site site.now state.old }
     ensures carried { CarriesOutAlone T.Site says.Abandon state.old state.new site.now site.now result }
@@ -109,7 +109,7 @@ pub fn abandon<T: Site>(alloc: Global, state: &mut State, site: &T) -> Result<Ve
     Ok(reply)
 }
 
-/// No batch is pending.
+/// Discards the pending batch, if there is one.
 fn drop_batch(state: &mut State)
     ensures { IsDropped state.old state.new }
 {
@@ -120,7 +120,7 @@ fn drop_batch(state: &mut State)
     }
 }
 
-/// The reply where nothing is pending, or where a batch is.
+/// The reply if no batch is pending, or `text` if one is.
 fn pending_reply(alloc: Global, state: &State, text: &'static str) -> Result<Vec<u8>, Stop>
     ensures { SaysOnly (pending_line state.now text.now) result }
 {

@@ -1,4 +1,4 @@
-//! A batch is taken in: it is refused, or it begins.
+//! Takes in a batch: it is refused, or it begins.
 ghost use Rattle.std.specs.Prelude.{◌≡◌, ◌<◌, IfOk, IfErr, Ok, Some, length};
 ghost use Rattle.cube_state.specs.Batches.{given_to, refusal_text};
 ghost use Rattle.cube_state.specs.Frames.{RunsOn};
@@ -18,19 +18,19 @@ use spec_machine::BatchSource;
 use std::alloc::Global;
 use std::mem::replace;
 
-/// What becomes of the batch of a source.
+/// The outcome for the batch of a source.
 #[derive(Drop)]
 pub enum Taken {
-    /// It is refused with this reply, and the session has what it had.
+    /// It is refused with this reply, and the session is unchanged.
     Refused(Vec<u8>),
-    /// It has no fact, and the session has what it had.
+    /// It has no facts, and the session is unchanged.
     Empty,
-    /// It has begun: the store is out of the state, and in the refresh.
+    /// It has begun: the store has moved from the state to the refresh.
     Begun(Refresh),
 }
 
-/// Begins to take in the batch of a source, or refuses it: without a schema, while another is pending, by what is wrong with its rows or its
-/// number, or by the first limit that it would pass. It takes one write at most, and none where the batch is empty or refused. A stop at any
+/// Begins to add the batch of a source, or refuses it: without a schema, while another batch is pending, for a fault in its rows or its
+/// number, or for the first limit that it would exceed. It makes at most one write, and none if the batch is empty or refused. A stop at any
 /// moment leaves the files with the facts that they had, and so does an error: a file failed, or memory ran out.
 pub fn take_in<T: Site>(
     alloc: Global,
@@ -59,7 +59,7 @@ pub fn take_in<T: Site>(
     }
 }
 
-/// A refusal that asks nothing of the batch.
+/// A refusal that does not depend on the batch.
 fn refused(alloc: Global, text: &'static str) -> Result<Taken, Stop>
     ensures { OnlyRefuses text.now result }
 {
@@ -67,7 +67,7 @@ fn refused(alloc: Global, text: &'static str) -> Result<Taken, Stop>
     Ok(Taken::Refused(reply))
 }
 
-/// The store, out of a state in which nothing is pending.
+/// Moves the store out of a state in which no batch is pending.
 pub(crate) fn take_store(state: &mut State) -> Store
     requires idle { IsIdle state.old }
     ensures { state.old ≡ State.Idle result }
@@ -78,7 +78,7 @@ pub(crate) fn take_store(state: &mut State) -> Store
     }
 }
 
-/// Begins with a batch that has a fact, for a store that is out of its state.
+/// Begins with a batch that has a fact. The store has been moved out of the state.
 fn start<T: Site>(
     alloc: Global,
     state: &mut State,
@@ -103,7 +103,7 @@ fn start<T: Site>(
     }
 }
 
-/// The refusal of a batch by the first limit that it would pass. Where no limit is why it has not begun, the session stops.
+/// The refusal of a batch by the first limit that it would exceed. If no limit was the cause, the session stops.
 fn refuse(alloc: Global, schema: &Schema, why: BeginStop) -> Result<Vec<u8>, Stop>
     ensures reply { IfOk result (λ reply. refusal_text schema.now why ≡ Some reply.items) }
     ensures stop { IfErr result (λ stop. stop ≡ begin_stop why) }

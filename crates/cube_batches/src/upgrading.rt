@@ -15,9 +15,9 @@ use page_cache::Pages;
 use site_core::Site;
 use std::alloc::Global;
 
-/// Makes all pages anew in the greatest format, in which a number is not limited to 32 bits, or refuses where no schema is declared or a batch is
-/// pending. Where the pages have that format no file is called. A stop at any moment leaves the facts as they were, in one format or the other, and
-/// so does an error, which ends the session: a file failed, a page is not sound, or memory ran out. No page is kept over the commit.
+/// Rewrites all pages in the greatest format, in which numbers are not limited to 32 bits, or refuses if no schema is declared or a batch is
+/// pending. If the pages already have that format, it makes no call on a file. A stop at any moment leaves the facts as they were, in one format or
+/// the other, and so does an error, which ends the session: a file failed, a page is damaged, or memory ran out. The commit empties the page cache.
 pub fn upgrade<T: Site>(
     alloc: Global,
     pages: &mut Pages,
@@ -39,7 +39,7 @@ pub fn upgrade<T: Site>(
     remake(alloc, pages, state, store, site)
 }
 
-/// Makes the pages of a store anew that is out of its state.
+/// Rewrites the pages of a store that has been moved out of the state.
 fn remake<T: Site>(
     alloc: Global,
     pages: &mut Pages,
@@ -57,7 +57,7 @@ fn remake<T: Site>(
     }
 }
 
-/// Why the session stops where an upgrade has not begun, which no limit refuses.
+/// Why the session stops if an upgrade has not begun. No limit refuses an upgrade.
 fn stop_of(why: BeginStop) -> Stop
     ensures { result ≡ begin_stop why }
 {

@@ -1,4 +1,4 @@
--- What the parts of the command promise.
+-- The contracts of the parts of the commands.
 use Rattle.std.specs.Prelude.{◌≡◌, ◌⊎◌, ◌+◌, ◌%◌, ℕ, cond, List, Option, Some, None, Result, Ok, Err, IfOk, MatchResult}
 use Rattle.std.specs.List.{All}
 use Rattle.cube_schema.specs.Kinds.{arity}
@@ -23,7 +23,7 @@ use Rattle.cube_state.specs.declared.state.State.{State}
 use Rattle.cube_state.specs.declared.stop.Stop.{Stop}
 use Rattle.cube_state.specs.declared.stop.Stop.TheVariants as stops
 
--- the command is carried out by a session that has this store
+-- the command is carried out by a session with this store
 abbrev pub CarriesOutAs : {S : Type 0} (T : Ghosts S) (command : Command) (store : Store) (old new : S) (before after : Cache) (result : Reply) → Type 0
 CarriesOutAs T command store old new before after result =
     (state : State) → store_of state ≡ Some store → IsReadyFor T old before state → CarriesOut T command state state old new before after result
@@ -38,7 +38,7 @@ answer_reply (Err answers.Disk) = None
 answer_reply (Err (answers.Damaged file offset)) = None
 answer_reply (Err answers.Memory) = None
 
--- why a command stops that has this answer: where it has a reply, for want of memory
+-- why a command with this answer stops: out of memory, if the answer has a reply
 abbrev pub answer_stop : Result (List Row) AnswerStop → Stop
 answer_stop (Ok rows) = stops.Memory
 answer_stop (Err answers.NotCovered) = stops.Memory
@@ -46,25 +46,25 @@ answer_stop (Err answers.Disk) = stops.Disk
 answer_stop (Err (answers.Damaged file offset)) = stops.Damaged file offset
 answer_stop (Err answers.Memory) = stops.Memory
 
--- the reply is told, or the stop
+-- the result is the reply, or the stop
 abbrev pub Tells : Result (List Row) AnswerStop → Reply → Type 0
 Tells answer result = MatchResult result (λ reply. answer_reply answer ≡ Some reply.items) (λ stop. stop ≡ answer_stop answer)
 
--- ---- what folds the rows of its slice
+-- ---- commands that fold the rows of a slice
 
--- rows that add up are told as this text; other rows are no rows of facts, for which the front of the live side is named
+-- rows that add up give this text; other rows are not rows of facts, and the damage is reported at offset 0 of the live side
 abbrev pub RowsTell : Store → List Row → List ℕ → Reply → Type 0
 RowsTell store rows text (Ok reply) = AddUp rows × (reply.items ≡ text)
 RowsTell store rows text (Err stop) = (stop ≡ stops.Memory) ⊎ ((AddUp rows → ⊥) × (stop ≡ stops.Damaged (2 + store.forest.body.generation % 2) 0))
 
--- the rows are told as the text that is made of them, or that no view covers the slice, or why the command stops
+-- the result is the text made from the rows, that no view covers the slice, or why the command stops
 abbrev pub FoldTold : Store → (List Row → List ℕ) → Result (List Row) AnswerStop → Reply → Type 0
 FoldTold store text (Ok rows) result = RowsTell store rows (text rows) result
 FoldTold store text (Err stop) result = Tells (Err stop) result
 
 -- ---- rollup
 
--- with these levels the command is carried out by a session that has this store
+-- with these levels, the command is carried out by a session with this store
 abbrev pub CarriesOutOver : {S : Type 0} (T : Ghosts S) (levels : List Level) (command : Command) (store : Store) (old new : S) (before after : Cache) (result : Reply) → Type 0
 CarriesOutOver T levels command store old new before after result =
     (state : State) → store_of state ≡ Some store → IsReadyFor T old before state → CarriesOutWith T levels command state state old new before after result
@@ -73,7 +73,7 @@ CarriesOutOver T levels command store old new before after result =
 abbrev pub AreBase : Slice → Result (List Row) AnswerStop → Type 0
 AreBase b answer = IfOk answer (All (HasForm b))
 
--- base rows, rolled up, as text
+-- the text of base rows after roll-up
 abbrev pub rolled_text : Store → List Level → Slice → List Row → List ℕ
 rolled_text store levels s rows = answer_text (rolled_up (arity store.forest.schema) levels s rows)
 
@@ -83,6 +83,6 @@ rolled_text store levels s rows = answer_text (rolled_up (arity store.forest.sch
 abbrev pub AreWide : Plan → Result (List Row) AnswerStop → Type 0
 AreWide p answer = IfOk answer (All (IsWide p.slice.columns))
 
--- this text, where some view covers the slice
+-- this text, if some view covers the slice
 abbrev pub where_covered : Store → Slice → List ℕ → List ℕ
 where_covered store s text = cond (is_covered store.forest.schema s) text (line not_covered)

@@ -11,8 +11,8 @@ use reply_text::{picked, plain, refused_slice};
 use slice_lang::read_slice;
 use std::alloc::Global;
 
-/// Which view the text of a slice is answered from, and how its points lie there; or the first rule that the text breaks. The files are
-/// not asked. An error is want of memory.
+/// Which view answers the slice in the text, and how its points lie there; or the first rule that the text breaks. Makes no call on a
+/// file. An error means out of memory.
 pub fn explain(alloc: Global, state: &State, text: &[u8]) -> Result<Vec<u8>, Stop>
     ensures said { IfOk result (λ reply. reply.items ≡ explain_text (store_of state.now) text.now) }
     ensures memory { IfErr result (λ stop. stop ≡ Stop.Memory) }
@@ -23,7 +23,7 @@ pub fn explain(alloc: Global, state: &State, text: &[u8]) -> Result<Vec<u8>, Sto
     }
 }
 
-/// The reply of a session that has this store.
+/// The reply of a session with this store.
 fn explained(alloc: Global, store: &Store, text: &[u8]) -> Result<Vec<u8>, Memory>
     ensures { IfOk result (λ reply. reply.items ≡ explain_text (Some store.now) text.now) }
 {

@@ -17,8 +17,8 @@ use script_lang::Block;
 use std::alloc::Global;
 use text_hash::Seed;
 
-/// Puts the level of this name, over the attribute of that name, behind the others, or refuses it by the first reason against it. The files
-/// are not asked. An error is want of memory.
+/// Appends the level `name` over the attribute `attr`, or refuses it for the first reason against it. Makes no call on a file. An error
+/// means out of memory.
 pub fn level(
     alloc: Global,
     state: &State,
@@ -42,7 +42,7 @@ pub fn level(
     }
 }
 
-/// The same over a schema. A block that is too long is refused where the name and the attribute are not.
+/// The same, for a schema. A block that is too long is refused if the name and the attribute are not.
 fn level_over(
     alloc: Global,
     seed: Seed,
@@ -66,7 +66,7 @@ fn level_over(
     add_level(alloc, seed, schema, levels, name, attr, text.as_bytes())
 }
 
-/// The same by the bytes of a block.
+/// The same, for the bytes of a block.
 fn add_level(
     alloc: Global,
     seed: Seed,

@@ -21,9 +21,8 @@ use sql_slice::{Plan, plan, sql_text};
 use std::alloc::Global;
 use view_rows::SliceRows;
 
-/// Answers the text of a query over the accepted facts, or refuses it by the first rule that it breaks. What the session has stays as it
-/// was, and nothing is written. An error ends the session: a file failed, a page is not sound, the rows of the slice do not add up, or
-/// memory ran out.
+/// Answers a query over the accepted facts, or refuses its text for the first rule that it breaks. The session is unchanged, and nothing
+/// is written. An error ends the session: a file failed, a page is damaged, the rows of the slice do not add up, or memory ran out.
 pub fn sql<T: Site>(
     alloc: Global,
     pages: &mut Pages,
@@ -40,7 +39,7 @@ pub fn sql<T: Site>(
     }
 }
 
-/// The reply to the text of a query: its records, or the first rule that the text breaks.
+/// The reply to the text of a query: its records, or the first rule that it breaks.
 fn reply_to<T: Site>(
     alloc: Global,
     pages: &mut Pages,
@@ -56,7 +55,7 @@ fn reply_to<T: Site>(
     }
 }
 
-/// The reply to the query that a text says.
+/// The reply to a query that was read.
 fn answered<T: Site>(
     alloc: Global,
     pages: &mut Pages,
@@ -82,7 +81,7 @@ fn answered<T: Site>(
     )
 }
 
-/// The reply where no fact can meet the tests: no records, or that no view covers the query.
+/// The reply if no fact can pass the tests: no records, or that no view covers the query.
 fn without_rows(alloc: Global, store: &Store, query: &Query, plan: &Plan) -> Result<Vec<u8>, Memory>
     ensures { IfOk result (λ reply. reply.items ≡ where_covered store.now plan.now.slice (query_text query.now plan.now [])) }
 {
@@ -93,7 +92,7 @@ fn without_rows(alloc: Global, store: &Store, query: &Query, plan: &Plan) -> Res
     }
 }
 
-/// What is told of the answer to the slice of a query.
+/// The reply, by the answer to the query's slice.
 fn told(
     alloc: Global,
     store: &Store,
@@ -110,7 +109,7 @@ fn told(
     }
 }
 
-/// The records of the rows of its slice, or that the rows do not add up, as rows of facts do.
+/// The records from the rows of the query's slice, or damage if the rows do not add up, as rows of facts do.
 fn records(
     alloc: Global,
     store: &Store,

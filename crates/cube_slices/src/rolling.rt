@@ -23,9 +23,9 @@ use slice_lang::read_slice;
 use std::alloc::Global;
 use view_rows::SliceRows;
 
-/// Answers the text of a slice that may name levels, over the accepted facts with their parents, or refuses it by the first rule that it
-/// breaks. What the session has stays as it was, and nothing is written. An error ends the session: a file failed, a page is not sound, the
-/// rows of the base slice do not add up, or memory ran out.
+/// Answers a slice that may name levels, over the accepted facts with their parents, or refuses its text for the first rule that it breaks.
+/// The session is unchanged, and nothing is written. An error ends the session: a file failed, a page is damaged, the rows of the base
+/// slice do not add up, or memory ran out.
 pub fn rollup<T: Site>(
     alloc: Global,
     pages: &mut Pages,
@@ -44,7 +44,7 @@ pub fn rollup<T: Site>(
     }
 }
 
-/// The reply to the text of a roll-up: its rows, or the first rule that the text breaks.
+/// The reply to the text of a roll-up: its rows, or the first rule that it breaks.
 fn reply_to<T: Site>(
     alloc: Global,
     pages: &mut Pages,
@@ -63,7 +63,7 @@ fn reply_to<T: Site>(
     }
 }
 
-/// The reply to the slice that a text says, from the rows of its base slice.
+/// The reply to a slice that was read, from the rows of its base slice.
 fn rolled<T: Site>(
     alloc: Global,
     pages: &mut Pages,
@@ -88,7 +88,7 @@ fn rolled<T: Site>(
     )
 }
 
-/// What is told of the answer to a base slice.
+/// The reply, by the answer to a base slice.
 fn told(
     alloc: Global,
     store: &Store,
@@ -107,7 +107,7 @@ fn told(
     }
 }
 
-/// The rows of a base slice, rolled up, or that they do not add up, as rows of facts do.
+/// The rows of a base slice, rolled up, or damage if they do not add up, as rows of facts do.
 fn folded(
     alloc: Global,
     store: &Store,

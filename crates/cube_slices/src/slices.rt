@@ -14,8 +14,8 @@ use slice_lang::read_slice;
 use std::alloc::Global;
 use view_rows::SliceRows;
 
-/// Answers the text of a slice over the accepted facts, or refuses it by the first rule that it breaks. What the session has stays as it
-/// was, and nothing is written. An error ends the session: a file failed, a page is not sound, or memory ran out.
+/// Answers a slice over the accepted facts, or refuses its text for the first rule that it breaks. The session is unchanged, and nothing
+/// is written. An error ends the session: a file failed, a page is damaged, or memory ran out.
 pub fn slice<T: Site>(
     alloc: Global,
     pages: &mut Pages,
@@ -32,7 +32,7 @@ pub fn slice<T: Site>(
     }
 }
 
-/// The reply to the text of a slice: its rows, or the first rule that the text breaks.
+/// The reply to the text of a slice: its rows, or the first rule that it breaks.
 fn reply_to<T: Site>(
     alloc: Global,
     pages: &mut Pages,
@@ -51,7 +51,7 @@ fn reply_to<T: Site>(
     }
 }
 
-/// What is told of an answer: its rows, that no view covers the slice, or why the command stops.
+/// The reply, by an answer: its rows, that no view covers the slice, or why the command stops.
 fn told(alloc: Global, answer: Result<SliceRows<'_>, AnswerStop>) -> Result<Vec<u8>, Stop>
     ensures { Tells answer.entry result }
 {
@@ -61,7 +61,7 @@ fn told(alloc: Global, answer: Result<SliceRows<'_>, AnswerStop>) -> Result<Vec<
     }
 }
 
-/// What is told where a slice has no answer: that no view covers it, or why the command stops.
+/// The reply if a slice has no answer: that no view covers it, or why the command stops.
 pub(crate) fn unanswered(alloc: Global, stop: AnswerStop) -> Result<Vec<u8>, Stop>
     ensures { Tells (Err stop) result }
 {
@@ -73,7 +73,7 @@ pub(crate) fn unanswered(alloc: Global, stop: AnswerStop) -> Result<Vec<u8>, Sto
     }
 }
 
-/// Why a command stops that folds rows which do not add up, as rows of facts do: the front of the live side is named.
+/// Why a command stops if the rows it folds do not add up, as rows of facts do: damage at offset 0 of the live side.
 pub(crate) fn spoilt(store: &Store) -> Stop
     ensures { result ≡ Stop.Damaged (2 + store.now.forest.body.generation % 2) 0 }
 {

@@ -1,4 +1,4 @@
--- What the commands of a batch reply, whatever the files hold: damage that is there is no reply.
+-- What the commands for batches reply, for any files. Damage is not a reply.
 use Rattle.std.specs.Prelude.{◌≡◌, ◌⊎◌, ◌<◌, ℕ, List, [], ◌∷◌, Option, Some, None, Ok, Err}
 use Rattle.site_core.specs.Disk.{Files}
 use Rattle.attr_dict.specs.Admitting.{names_with}
@@ -26,7 +26,7 @@ given_to store source = batch_from store.forest.schema store.forest.body.last so
 
 -- ---- limits
 
--- the refusal where a limit is why a batch has not begun
+-- the refusal, if a limit is the reason that a batch has not begun
 abbrev pub refusal_text : Schema → BeginStop → Option (List ℕ)
 refusal_text schema begins.FactsFull = Some (line too_many_facts)
 refusal_text schema (begins.NamesFull a) = Some (full_text (name_at schema a))
@@ -34,7 +34,7 @@ refusal_text schema (begins.Mass m) = Some (mass_text (measure_name_at schema m)
 refusal_text schema begins.Memory = None
 refusal_text schema begins.Disk = None
 
--- a limit is why a batch is refused
+-- the reply is a refusal by a limit
 abbrev pub IsRefused : Store → List ℕ → Type 0
 IsRefused store reply = (why : BeginStop) × (refusal_text store.forest.schema why ≡ Some reply)
 
@@ -46,7 +46,7 @@ pub record IsTakenIn (store : Store) (files : Files) (batch : List Fact) (reply 
   pub count : ℕ
   pub said : reply ≡ committed_text count
 
--- an empty batch is acknowledged; another is refused, or taken in
+-- an empty batch is acknowledged; any other is refused or taken in
 abbrev pub GivesBatch : Store → Files → List Fact → List ℕ → Type 0
 GivesBatch store files [] reply = reply ≡ committed_text store.forest.body.facts
 GivesBatch store files (x ∷ xs) reply = IsRefused store reply ⊎ IsTakenIn store files (x ∷ xs) reply
@@ -64,7 +64,7 @@ LoadGives (Pending refresh) files source reply = IsLine is_pending reply
 
 -- ---- begin
 
--- a batch that was read is refused, or begins
+-- a batch that was read is refused, or it begins
 abbrev pub GivesBegun : Store → Given → List ℕ → Type 0
 GivesBegun store (Err text) reply = reply ≡ text
 GivesBegun store (Ok given) reply = IsRefused store reply ⊎ IsLine begun_text reply
@@ -77,14 +77,14 @@ BeginGives (Pending refresh) block reply = IsLine is_pending reply
 
 -- ---- step, finish and abandon
 
--- the reply where nothing is pending, or where a batch is
+-- the reply if no batch is pending, or this text if one is
 abbrev pub pending_line : State → List ℕ → List ℕ
 pending_line Empty text = line none_pending
 pending_line (Idle store) text = line none_pending
 pending_line (Hollow store) text = line text
 pending_line (Pending refresh) text = line text
 
--- a refresh is acknowledged so, by the number of facts, and all trees in these files are whole for its points
+-- a refresh is acknowledged with this text and the number of facts, and all trees in these files are whole for its points
 pub record IsEnded (text : ℕ → List ℕ) (refresh : Begun) (files : Files) (reply : List ℕ) : Type 0 where
   pub whole : AreAllWhole refresh.store.forest files refresh.deltas
   pub said : reply ≡ text refresh.next.facts
@@ -93,7 +93,7 @@ pub record IsEnded (text : ℕ → List ℕ) (refresh : Begun) (files : Files) (
 abbrev pub IsFinished : Begun → Files → List ℕ → Type 0
 IsFinished refresh files reply = IsEnded committed_text refresh files reply
 
--- the reply at the end of a pending batch
+-- the reply to `finish`
 abbrev pub FinishGives : State → Files → List ℕ → Type 0
 FinishGives Empty files reply = IsLine none_pending reply
 FinishGives (Idle store) files reply = IsLine none_pending reply
@@ -102,7 +102,7 @@ FinishGives (Pending refresh) files reply = IsFinished refresh files reply
 
 -- ---- upgrade
 
--- where pages of an earlier format were made anew all trees in these files are whole
+-- if pages of an earlier format were rewritten, all trees in these files are whole
 pub record IsUpgraded (store : Store) (files : Files) (reply : List ℕ) : Type 0 where
   pub whole : store.forest.body.format < wide_format → AreAllWhole store.forest files (deltas_by (names_with store.dicts []) store.forest.schema [])
   pub said : IsLine upgraded_text reply

@@ -1,4 +1,4 @@
--- That a function carries out a command of the plain machine, said once.
+-- What it means that a function carries out a command of the plain machine.
 use Rattle.std.specs.Prelude.{◌≡◌, ℕ, Bool, IsTrue, true, false, cond, List, Option, Some, None, Result, IfOk, IfErr, OnOk}
 use Rattle.std.specs.declared.alloc.Global.{Global}
 use Rattle.std.specs.declared.vec.Vec.{Vec}
@@ -26,7 +26,7 @@ use Rattle.cube_state.specs.Session.{Between, IsAnswer, Stands}
 use Rattle.cube_state.specs.Stops.{IsNoDamage}
 use Rattle.cube_state.specs.Visits.{GoesTo, asks_pages, schema_of}
 
--- a session may carry out a command: it has this on a site, whatever the files hold, and the kept pages fit
+-- a session may carry out a command: it is in this state on a site, for any files, and the cached pages fit
 pub record IsReadyFor {S : Type 0} (T : Ghosts S) (site : S) (cache : Cache) (state : State) : Type 0 where
   pub runs : RunsOn T site state
   pub fits : IsTrue T.tells → Fits state (T.disk site).files cache
@@ -38,18 +38,18 @@ pub record Effect : Type 0 where
   pub writes : Bool
   -- it writes nothing, but it syncs
   pub syncs : Bool
-  -- it makes moves that the pending batch tells
+  -- it makes moves that the pending batch counts
   pub moves : Bool
-  -- behind it no batch is pending
+  -- afterwards no batch is pending
   pub ends : Bool
-  -- what is live may be another then
+  -- the live side may change
   pub renews : Bool
-  -- it may tell damage
+  -- it may report damage
   pub tells : Bool
-  -- what it replies is by what the files hold, or by a world alone
+  -- its reply depends on what the files hold, or on a world only
   pub looks : Bool
 
--- it only answers, by what the session has
+-- it only replies, from the state of the session
 abbrev pub answers : Effect
 answers = record { writes = false; syncs = false; moves = false; ends = false; renews = false; tells = false; looks = false }
 
@@ -57,7 +57,7 @@ answers = record { writes = false; syncs = false; moves = false; ends = false; r
 abbrev pub asks : Effect
 asks = record answers { tells = true; looks = true }
 
--- it may write all points anew
+-- it may rewrite all points
 abbrev pub rewrites : Effect
 rewrites = record { writes = true; syncs = false; moves = false; ends = false; renews = true; tells = true; looks = true }
 
@@ -99,7 +99,7 @@ Syncs command = Does (effect_of command).syncs
 abbrev pub IsStep : Command → Type 0
 IsStep command = Does (effect_of command).moves
 
--- how many moves are made behind any other, where so many were before
+-- how many moves are made when any command but a step has ended, if `made` were before
 abbrev pub made_alone : Command → ℕ → ℕ
 made_alone command made = cond (effect_of command).ends 0 made
 
@@ -109,7 +109,7 @@ LeavesLive command = DoesNot (effect_of command).renews
 abbrev pub TellsNone : Command → Type 0
 TellsNone command = DoesNot (effect_of command).tells
 
--- its reply is one that the session gives, over whatever files
+-- for any files, its reply is one that the session gives
 abbrev pub RepliesAlone : Command → Type 0
 RepliesAlone command = DoesNot (effect_of command).looks
 
@@ -118,21 +118,21 @@ RepliesAlone command = DoesNot (effect_of command).looks
 abbrev pub Reply : Type 0
 Reply = Result (Vec ℕ Global) Stop
 
--- the world that it stood for before the command
+-- by the world that the session represented before the command
 pub record ByWorld {S : Type 0} (T : Ghosts S) (command : Command) (world : World) (state next : State) (old new : S) (before after : Cache) (result : Reply) : Type 0 where
-  -- it stands for what is known then, and the reply is the plain machine's
+  -- it represents the next world, and the reply is the plain machine's
   pub answer : IfOk result (λ reply. IsAnswer (T.disk new) (act world command) next reply.items)
-  -- a stop at any moment, and an error, leaves what was known before or is known then; nothing is told
+  -- a stop at any moment, or an error, leaves what was known before or what is known after; nothing is output
   pub any_moment : Between (format_of state) (T.disk old) (T.disk new) world (act world command).0
   pub undamaged : IfErr result IsNoDamage
   pub moved : OnOk result (reached_by next ≡ reached_behind world (reached_by state) command)
   pub cost : (cost : Cost) → Costs world (reached_by state) command cost → Spends T cost old new
   pub uncalled : MakesNoCall world (reached_by state) command → OnOk result (new ≡ old)
-  -- a slice reads of its pages those alone that are not kept, where there is room, and keeps them
+  -- if there is room, a slice reads only those of its pages that are not cached, and caches them
   pub saves : (numbers : List ℕ) → GoesTo (format_of state) world command numbers → Saves before (live_file (live_of state)) numbers (T.reads old) (T.reads new)
   pub keeps : (numbers : List ℕ) → GoesTo (format_of state) world command numbers → OnOk result (KeepsUp before after (live_file (live_of state)) numbers)
 
--- without a schema all files are the same, and with one the names and the live side
+-- without a schema all files are unchanged; with one, the names and the live side are
 abbrev pub SparesOf : Option Body → Files → Files → Type 0
 SparesOf None old new = new ≡ old
 SparesOf (Some live) old new = IsSpared live old new
@@ -144,23 +144,23 @@ Spares live old new stops.Disk = Unit {0}
 Spares live old new stops.Output = Unit {0}
 Spares live old new stops.Memory = Unit {0}
 
--- the files hold what they may
+-- for any files
 pub record OverAnyFiles {S : Type 0} (T : Ghosts S) (levels : List Level) (command : Command) (state next : State) (old new : S) (after : Cache) (result : Reply) : Type 0 where
-  -- damage that is told is there, and is no reply; it leaves what counts
+  -- damage that is reported exists, and is not a reply; it leaves what counts
   pub damage : IfErr result (TellsDamage levels state (T.disk old).files command)
   pub answered : IfOk result (λ reply. Gives levels state (T.disk old).files command reply.items)
   pub spared : IfErr result (Spares (live_of state) (T.disk old).files (T.disk new).files)
-  -- what writes nothing changes nothing, unless a sync of it fails
+  -- a command that writes nothing changes nothing, unless a sync fails
   pub looks : (MayWrite command → ⊥) → (Syncs command → ⊥) → Rests (T.disk old) (T.disk new)
   pub settles : (MayWrite command → ⊥) → Settles Stays (T.disk old) (T.disk new) result
   pub fits : OnOk result (Fits next (T.disk new).files after)
 
--- whatever the site tells
+-- whether or not the site reports its content
 pub record GoesOn {S : Type 0} (T : Ghosts S) (levels : List Level) (command : Command) (state next : State) (old new : S) (before after : Cache) (result : Reply) : Type 0 where
   pub runs : OnOk result (RunsOn T new next)
-  -- a schema that is declared stays
+  -- a declared schema stays
   pub schema : (declared : Schema) → schema_of state ≡ Some declared → OnOk result (schema_of next ≡ Some declared)
-  -- none is kept over a new generation, and no other command but a slice changes them
+  -- no page stays cached past a new generation; otherwise only a slice changes the cache
   pub cache : asks_pages levels state command ≡ false → OnOk result (after ≡ kept_over (live_of state) (live_of next) before)
   pub capacity : after.capacity ≡ before.capacity
   pub unwritten : (MayWrite command → ⊥) → T.writes new ≡ T.writes old
@@ -168,31 +168,31 @@ pub record GoesOn {S : Type 0} (T : Ghosts S) (levels : List Level) (command : C
 
 -- ---- what a command leaves alone
 
--- what holds of it although the site may tell nothing, and what stays in any files
+-- what holds whether or not the site reports its content, and what is unchanged for any files
 pub record LeavesAlone {S : Type 0} (T : Ghosts S) (levels : List Level) (command : Command) (state next : State) (old new : S) (before after : Cache) (result : Reply) : Type 0 where
   pub made : (IsStep command → ⊥) → OnOk result (moves_made next ≡ made_alone command (moves_made state))
   pub live : LeavesLive command → OnOk result (live_of next ≡ live_of state)
   pub harmless : TellsNone command → IfErr result IsNoDamage
   pub said : RepliesAlone command → (files : Files) → IfOk result (λ reply. Gives levels state files command reply.items)
-  -- no page is kept or let go but by a slice that is answered, and by what writes
+  -- only an answered slice, or a command that writes, adds or drops cached pages
   pub unasked : (MayWrite command → ⊥) → asks_pages levels state command ≡ false → after ≡ before
-  -- what only reads leaves kept pages that fit, however it ends
+  -- a command that only reads leaves cached pages that fit, however it ends
   pub fits : IsTrue T.tells → (MayWrite command → ⊥) → (Syncs command → ⊥) → Fits state (T.disk new).files after
   pub side : IsTrue T.tells → LeavesLive command → OnOk result (SideStays (live_of state) (T.disk old).files (T.disk new).files)
-  -- a step leaves the live side as it was however it ends
+  -- a step leaves the live side unchanged, however it ends
   pub step_side : IsTrue T.tells → IsStep command → SideStays (live_of state) (T.disk old).files (T.disk new).files
 
--- with these levels a command is carried out: what the session had, and has then, on a site as it was and is, with the kept pages
+-- with these levels a command is carried out: the state, the site and the cache before and after
 pub record CarriesOutWith {S : Type 0} (T : Ghosts S) (levels : List Level) (command : Command) (state next : State) (old new : S) (before after : Cache) (result : Reply) : Type 0 where
   pub by_world : IsTrue T.tells → (world : World) → world.levels ≡ levels → Stands state (T.disk old) world → ByWorld T command world state next old new before after result
   pub any_files : IsTrue T.tells → OverAnyFiles T levels command state next old new after result
   pub goes_on : GoesOn T levels command state next old new before after result
   pub leaves : LeavesAlone T levels command state next old new before after result
 
--- whatever the levels are
+-- for any levels
 abbrev pub CarriesOut : {S : Type 0} (T : Ghosts S) (command : Command) (state next : State) (old new : S) (before after : Cache) (result : Reply) → Type 0
 CarriesOut T command state next old new before after result = (levels : List Level) → CarriesOutWith T levels command state next old new before after result
 
--- the same of a command that leaves the kept pages as they are, whichever these are
+-- for any cached pages that fit, the command is carried out and leaves them as they are
 abbrev pub CarriesOutAlone : {S : Type 0} (T : Ghosts S) (command : Command) (state next : State) (old new : S) (result : Reply) → Type 0
 CarriesOutAlone T command state next old new result = (cache : Cache) → IsReadyFor T old cache state → CarriesOut T command state next old new cache cache result

@@ -1,4 +1,4 @@
--- Each command: what it costs, what it replies and where the damage lies that it tells.
+-- Each command: what it costs, what it replies, and the damage that it reports.
 use Rattle.std.specs.Prelude.{◌≡◌, ℕ, false, List, [], ◌∷◌, None, Option, Some}
 use Rattle.reply_text.specs.Replies.{is_declared, long_line, open_block, is_unknown, stepped_text, abandoned_text}
 use Rattle.site_core.specs.Disk.{Files}
@@ -35,7 +35,7 @@ load_of (Generator start rows) = says.Generate start rows
 
 -- ---- costs
 
--- where this is reached before it: a slice costs the pages that it goes to
+-- what a command costs after this was reached; a slice costs the pages it visits
 abbrev pub Costs : World → Reached → Command → Cost → Type 0
 Costs world reached (says.Slice text) cost = ReadsFor reached.format world (says.Slice text) cost
 Costs world reached (says.Schema block) cost = cost ≡ schema_cost world (says.Schema block)
@@ -57,20 +57,20 @@ Costs world reached says.LongLine cost = cost ≡ free
 Costs world reached says.OpenBlock cost = cost ≡ free
 Costs world reached says.Unknown cost = cost ≡ free
 
--- of commands one after another
+-- the cost of a sequence of commands
 pub data CostTogether : World → Reached → List Command → Cost → Type 0 where
   none_cost : {world : World} {reached : Reached} → CostTogether world reached [] free
   one_costs : {world : World} {reached : Reached} {command : Command} {rest : List Command} (one others : Cost) → Costs world reached command one
       → CostTogether (act world command).0 (reached_behind world reached command) rest others → CostTogether world reached (command ∷ rest) (both one others)
 
--- no batch is there, or an empty one
+-- no batch, or an empty one
 abbrev pub HasNoFact : Option (List Fact) → Type 0
 HasNoFact None = Unit {0}
 HasNoFact (Some []) = Unit {0}
 HasNoFact (Some (x ∷ xs)) = ⊥
 
--- What makes no call at all: a batch that is refused, empty or accepted before, a step or a finish where no row is pending, an upgrade that is
--- refused or of pages that have the greatest format, and what only answers. A slice makes none where it is refused, and an audit always makes one.
+-- Commands that make no call: a batch that is refused, empty or already accepted; a step or a finish without a pending fact; an upgrade that is
+-- refused, or whose pages have the greatest format; and commands that only reply. A slice makes none if it is refused; an audit always makes one.
 abbrev pub MakesNoCall : World → Reached → Command → Type 0
 MakesNoCall world reached (says.Slice text) = asked_slice world (says.Slice text) ≡ None
 MakesNoCall world reached (says.Schema block) = (act world (says.Schema block)).0.kept ≡ world.kept
@@ -92,16 +92,16 @@ MakesNoCall world reached says.LongLine = Unit {0}
 MakesNoCall world reached says.OpenBlock = Unit {0}
 MakesNoCall world reached says.Unknown = Unit {0}
 
--- ---- replies, whatever the files hold
+-- ---- replies, for any files
 
--- the reply where a schema is to be declared
+-- the reply when a schema is declared
 abbrev pub SchemaGives : State → Block → List ℕ → Type 0
 SchemaGives Empty block reply = reply ≡ (declare (bare None) block).1
 SchemaGives (Idle store) block reply = IsLine is_declared reply
 SchemaGives (Hollow store) block reply = IsLine is_declared reply
 SchemaGives (Pending refresh) block reply = IsLine is_declared reply
 
--- a session that has this and these levels, over these files, gives this reply to a command
+-- a session in this state, with these levels and over these files, gives this reply to a command
 abbrev pub Gives : List Level → State → Files → Command → List ℕ → Type 0
 Gives levels state files (says.Schema block) reply = SchemaGives state block reply
 Gives levels state files (says.Load block) reply = LoadGives state files (Rows block) reply
@@ -125,7 +125,7 @@ Gives levels state files says.Unknown reply = IsLine is_unknown reply
 
 -- ---- damage
 
--- damage that a command tells is there
+-- damage that a command reports exists
 abbrev pub TellsDamage : List Level → State → Files → Command → Stop → Type 0
 TellsDamage levels state files (says.Slice text) stop = SliceTells levels (store_of state) files (says.Slice text) stop
 TellsDamage levels state files (says.Load block) stop = LoadTells state files (Rows block) stop

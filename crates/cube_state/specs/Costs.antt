@@ -1,4 +1,4 @@
--- How many reads and writes of files calls may ask for.
+-- How many reads and writes of files a run of calls may request.
 use Rattle.std.specs.Prelude.{◌≤◌, ◌+◌, ℕ}
 use Rattle.site_core.specs.declared.site.Site.{Ghosts}
 
@@ -9,11 +9,11 @@ pub record Cost : Type 0 where
 abbrev pub free : Cost
 free = record { reads = 0; writes = 0 }
 
--- of one thing and of another together
+-- the sum of two costs
 abbrev pub both : Cost → Cost → Cost
 both one other = record { reads = one.reads + other.reads; writes = one.writes + other.writes }
 
--- no more were asked for
+-- no more reads and writes were requested
 pub record Spends {S : Type 0} (T : Ghosts S) (cost : Cost) (old new : S) : Type 0 where
   pub reads : T.reads new ≤ T.reads old + cost.reads
   pub writes : T.writes new ≤ T.writes old + cost.writes

@@ -1,4 +1,4 @@
--- The moves of a batch that is pending, and the pages that they write.
+-- The moves of a pending batch, and the pages that they write.
 use Rattle.std.specs.Prelude.{◌≡◌, ◌+◌, ◌-◌, ◌*◌, ◌++◌, ℕ, cond, List, [], ◌∷◌, length, min, nat_le, take, Option, Some, None}
 use Rattle.site_core.specs.Disk.{Files}
 use Rattle.fact_model.specs.declared.fact.Fact.{Fact}
@@ -25,7 +25,7 @@ pub record Reached : Type 0 where
   pub format : ℕ
   pub made : ℕ
 
--- before any move is made, where the live pages have this format
+-- before any move, with live pages of this format
 abbrev pub unmoved : ℕ → Reached
 unmoved format = record { format = format; made = 0 }
 
@@ -33,7 +33,7 @@ unmoved format = record { format = format; made = 0 }
 abbrev pub batch_moves : ℕ → Warehouse → List Fact → List Move
 batch_moves format warehouse batch = forest_moves format (format_for format batch) warehouse.schema warehouse.facts batch
 
--- all that the batch takes where the live pages have this format; an empty one takes none
+-- all moves of the batch, if the live pages have this format; an empty batch has none
 abbrev pub moves_over : ℕ → Kept → Option (List Fact) → List Move
 moves_over format None pending = []
 moves_over format (Some warehouse) None = []
@@ -43,22 +43,22 @@ moves_over format (Some warehouse) (Some (x ∷ xs)) = batch_moves format wareho
 abbrev pub pending_moves : ℕ → World → List Move
 pending_moves format world = moves_over format world.kept world.pending
 
--- the format of the live pages behind a batch, if one is committed
+-- the format of the live pages after a batch, if one is committed
 abbrev pub format_with : ℕ → Option Batch → ℕ
 format_with format None = format
 format_with format (Some batch) = format_for format batch.facts
 
--- behind a command that may commit one
+-- after a command that may commit one
 abbrev pub format_behind : World → ℕ → Command → ℕ
 format_behind world format command = cond (makes_stage world command) (format_with format (batch_by world command)) format
 
--- behind an upgrade, which is refused without a schema and while a batch is pending
+-- after an upgrade, which is refused without a schema and while a batch is pending
 abbrev pub format_upgraded : Kept → Option (List Fact) → ℕ → ℕ
 format_upgraded None pending format = format
 format_upgraded (Some warehouse) (Some batch) format = format
 format_upgraded (Some warehouse) None format = wide_format
 
--- What is reached behind a command: a step makes so many moves more, or all that are left; a commit and an upgrade may change the format. Files
+-- What is reached after a command: `step n` makes n more moves, or all that are left; a commit and an upgrade may change the format. Files
 -- without a schema count as format 1, in which a schema begins.
 abbrev pub reached_behind : World → Reached → Command → Reached
 reached_behind world reached (says.Schema block) = reached
@@ -81,19 +81,19 @@ reached_behind world reached says.LongLine = reached
 reached_behind world reached says.OpenBlock = reached
 reached_behind world reached says.Unknown = reached
 
--- and behind commands
+-- after a sequence of commands
 abbrev pub reached_from : World → Reached → List Command → Reached
 reached_from world reached [] = reached
 reached_from world reached (command ∷ rest) = reached_from (act world command).0 (reached_behind world reached command) rest
 
--- the format that is reached behind those commands whose whole reply stands among the first so many bytes
+-- the format reached after those commands whose whole reply is among the first `told` bytes
 abbrev pub format_told : World → Reached → List Command → ℕ → ℕ
 format_told world reached [] told = reached.format
 format_told world reached (command ∷ rest) told =
     cond (nat_le (length (act world command).1) told) (format_told (act world command).0 (reached_behind world reached command) rest (told - length (act world command).1)) reached.format
 
--- A stop leaves, with these bytes told before the commands, a front of their replies and no earlier format than these tell: so behind `upgraded`
--- it leaves the greatest.
+-- A stop leaves, after the output before the commands, a prefix of their replies, and no earlier format than these replies report: so after
+-- `upgraded` it leaves the greatest.
 pub record KeepsFormat (world : World) (reached : Reached) (commands : List Command) (before told : List ℕ) (files : Files) : Type 0 where
   pub front : List ℕ
   pub tells : told ≡ before ++ front
@@ -107,7 +107,7 @@ format_in (Some live) = live.format
 abbrev pub format_of : State → ℕ
 format_of state = format_in (live_of state)
 
--- how many moves it has made
+-- how many moves the session has made
 abbrev pub moves_made : State → ℕ
 moves_made Empty = 0
 moves_made (Idle store) = 0
@@ -117,13 +117,13 @@ moves_made (Pending refresh) = refresh.progress.taken
 abbrev pub reached_by : State → Reached
 reached_by state = record { format = format_of state; made = moves_made state }
 
--- this holds from where no move is made, in the format that these files have
+-- this holds before any move, in the format of these files
 pub record FromFormat (files : Files) (kept : Kept) (P : Reached → Type 0) : Type 0 where
   pub format : ℕ
   pub has : HasFormat files kept format
   pub holds : P (unmoved format)
 
--- the side that is not live begins with a page for each write among the moves made, as the forest over all facts does
+-- the side that is not live begins with one page for each write among the moves made, as in the forest over all facts
 pub record HasPages (files : Files) (warehouse : Warehouse) (batch : List Fact) (made : ℕ) : Type 0 where
   pub live : Body
   pub is_live : IsLiveBody live (files 0)
@@ -136,6 +136,6 @@ HasPagesOver files (Some warehouse) None made = Unit {0}
 HasPagesOver files (Some warehouse) (Some []) made = Unit {0}
 HasPagesOver files (Some warehouse) (Some (x ∷ xs)) made = HasPages files warehouse (x ∷ xs) made
 
--- the pages of the moves made of the pending batch stand there, if one is pending
+-- the pages of the pending batch's moves are written, if a batch is pending
 abbrev pub HasMovedTo : Files → World → ℕ → Type 0
 HasMovedTo files world made = HasPagesOver files world.kept world.pending made

@@ -1,4 +1,4 @@
--- A session that stands for a world, and what a command answers by it.
+-- A session that represents a world, and its replies by that world.
 use Rattle.std.specs.Prelude.{◌≡◌, ◌⊎◌, ℕ, ◌+◌, ◌<◌, ◌≤◌, List, [], length, None, Some}
 use Rattle.site_core.specs.Disk.{Files, Disk}
 use Rattle.site_core.specs.Moments.{HoldsNow, LeavesOnly}
@@ -15,7 +15,7 @@ use Rattle.spec_machine.specs.World.{Knows, Warehouse, World}
 use Rattle.cube_state.specs.declared.state.State.{State}
 use Rattle.cube_state.specs.declared.state.State.TheVariants.{Empty, Idle, Hollow, Pending}
 
--- the store is that of the warehouse which the files keep
+-- the store is that of the warehouse in the files
 pub record Belongs (store : Store) (disk : Disk) (warehouse : Warehouse) : Type 0 where
   pub lawful : IsLawful warehouse
   pub schema : store.forest.schema ≡ warehouse.schema
@@ -24,41 +24,41 @@ pub record Belongs (store : Store) (disk : Disk) (warehouse : Warehouse) : Type 
   pub stored : HoldsNow (IsStoreOf store warehouse.facts) disk
   pub opened : IsOpened store.forest.body disk
 
--- the refresh adds a batch to the warehouse which the files keep, behind which this is the last number
+-- the refresh adds a batch to the warehouse in the files, after which `number` is the last number
 pub record AttendsAs (number : ℕ) (r : Begun) (disk : Disk) (warehouse : Warehouse) (batch : List Fact) : Type 0 where
   pub lawful : IsLawful warehouse
   pub schema : r.store.forest.schema ≡ warehouse.schema
   pub last : r.store.forest.body.last ≡ warehouse.last
   pub next : r.next.last ≡ number
-  -- no more numbered batches than facts
+  -- there are no more numbered batches than facts
   pub counted : number ≤ length warehouse.facts + length batch
   -- as a read gives them, and as a stop now may leave them
   pub adds : HoldsNow (IsRefreshOf r warehouse.facts batch) disk
   pub ready : IsReady r disk
-  -- the pages of the moves made stand on the new side
+  -- the pages of the moves made are on the new side
   pub moved : StandsAt r warehouse.facts batch disk.files
 
--- a batch without a number, in pages of the format that its numbers need; an empty one needs no refresh
+-- the batch has no number, and goes into pages of the format that its numbers need; an empty batch needs no refresh
 pub record Attends (r : Begun) (disk : Disk) (warehouse : Warehouse) (batch : List Fact) : Type 0 where
   pub attends : AttendsAs warehouse.last r disk warehouse batch
   pub some : 0 < length batch
   pub format : r.next.format ≡ format_for r.store.forest.body.format batch
 
--- where no refresh has begun, slices know all names; where one has, its moves go on
+-- before a refresh begins, slices know all names; after that, its moves can continue
 abbrev pub IsRunning : State → Type 0
 IsRunning Empty = Unit {0}
 IsRunning (Idle store) = IsWhole store
 IsRunning (Hollow store) = IsWhole store
 IsRunning (Pending refresh) = IsGoing refresh
 
--- the files are those that it has opened, whatever they hold
+-- for any content, the files are those that the session has opened
 abbrev pub IsFit : State → Disk → Type 0
 IsFit Empty disk = IsEmpty disk
 IsFit (Idle store) disk = IsOpened store.forest.body disk
 IsFit (Hollow store) disk = IsOpened store.forest.body disk
 IsFit (Pending refresh) disk = IsReady refresh disk
 
--- it stands for this world
+-- the session represents this world
 abbrev pub Stands : State → Disk → World → Type 0
 Stands Empty disk world = Knows None None world × IsEmpty disk
 Stands (Idle store) disk world = (warehouse : Warehouse) × Knows (Some warehouse) None world × Belongs store disk warehouse
@@ -66,23 +66,23 @@ Stands (Hollow store) disk world = (warehouse : Warehouse) × Knows (Some wareho
 Stands (Pending refresh) disk world =
     (warehouse : Warehouse) × (batch : List Fact) × Knows (Some warehouse) (Some batch) world × Attends refresh disk warehouse batch
 
--- how many facts it knows
+-- the reply to `status`
 abbrev pub state_text : State → List ℕ
 state_text Empty = line unopened
 state_text (Idle store) = facts_text store.forest.body.facts
 state_text (Hollow store) = pending_text store.forest.body.facts 0
 state_text (Pending refresh) = pending_text refresh.store.forest.body.facts (batch_size refresh)
 
--- the files keep what this world has accepted, or that one
+-- the files keep what the first world has accepted, or what the second has
 abbrev pub KeepsEither : World → World → Files → Type 0
 KeepsEither world next files = Keeps files world.kept ⊎ Keeps files next.kept
 
--- nothing is told from old to new, and a stop at any moment there leaves files that keep what this world has accepted, or that one, in no earlier
--- format than this
+-- nothing is output from old to new, and a stop at any moment in between leaves files that keep what one of the two worlds has accepted, in no
+-- earlier format than this
 abbrev pub Between : ℕ → Disk → Disk → World → World → Type 0
 Between format old new world next = LeavesOnly old new (λ told files. (told ≡ old.told) × KeepsEither world next files × IsFrom format files)
 
--- the session stands for what is known behind a command, and the reply is the plain machine's
+-- the session represents the world after a command, and the reply is the plain machine's
 pub record IsAnswer (disk : Disk) (answer : Answer) (state : State) (reply : List ℕ) : Type 0 where
   pub stands : Stands state disk answer.0
   pub said : reply ≡ answer.1

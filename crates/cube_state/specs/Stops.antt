@@ -10,21 +10,21 @@ use Rattle.forest_refresh.specs.declared.stop.RefreshStop.TheVariants as refresh
 use Rattle.cube_state.specs.declared.stop.Stop.{Stop}
 use Rattle.cube_state.specs.declared.stop.Stop.TheVariants as stops
 
--- why a command stops so, by the counts of the files and of the output: what the stop names failed, and nothing else did
+-- the counts of faults fit the stop: what it names failed once, and nothing else failed
 abbrev pub StopCause : ℕ → ℕ → ℕ → ℕ → Stop → Type 0
 StopCause disk disk_now output output_now stops.Disk = RoseOnce disk disk_now × (output_now ≡ output)
 StopCause disk disk_now output output_now stops.Output = RoseOnce output output_now × (disk_now ≡ disk)
 StopCause disk disk_now output output_now (stops.Damaged file offset) = (disk_now ≡ disk) × (output_now ≡ output)
 StopCause disk disk_now output output_now stops.Memory = (disk_now ≡ disk) × (output_now ≡ output)
 
--- no file is said to be damaged
+-- the stop reports no damage
 abbrev pub IsNoDamage : Stop → Type 0
 IsNoDamage stops.Disk = Unit {0}
 IsNoDamage stops.Output = Unit {0}
 IsNoDamage (stops.Damaged file offset) = ⊥
 IsNoDamage stops.Memory = Unit {0}
 
--- the stops of the calls below as those of a session
+-- the stops of lower calls, as stops of a session
 abbrev pub open_stop : OpenStop → Stop
 open_stop opens.Disk = stops.Disk
 open_stop (opens.Damaged file offset) = stops.Damaged file offset

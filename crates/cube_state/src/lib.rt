@@ -1,4 +1,4 @@
-//! What a session has between two commands and the world that it stands for, what it is to carry out a command, and why it stops.
+//! The state of a session between two commands, the world that it represents, what it means to carry out a command, and why a session stops.
 #![tactic(auto)]
 
 mod state;

@@ -1,20 +1,20 @@
-//! What a session has between two commands.
+//! The state of a session between two commands.
 ghost use Rattle.std.specs.Prelude.{◌≡◌, option_copied};
 ghost use Rattle.cube_state.specs.Visits.{store_of};
 
 use forest_refresh::Refresh;
 use forest_root::Store;
 
-/// What a session has.
+/// The state of a session.
 #[derive(Drop)]
 pub enum State {
-    /// The files are opened, and keep no schema.
+    /// The files are open and hold no schema.
     Empty,
-    /// The files are opened, and keep this warehouse.
+    /// The files are open and hold this warehouse.
     Idle(Store),
-    /// The same, and an empty batch is pending.
+    /// As `Idle`, and an empty batch is pending.
     Hollow(Store),
-    /// The files keep the warehouse without the batch of this refresh, which is pending.
+    /// The files hold the warehouse without the batch of this refresh, which is pending.
     Pending(Refresh),
 }
 
@@ -30,7 +30,7 @@ impl State {
         }
     }
 
-    /// Puts another in its place, and lets this one go: the one function in which a state is dropped.
+    /// Replaces the state by `next` and drops the old one. This is the only function that drops a state.
     pub fn set(&mut self, next: State)
         ensures { self.new ≡ next }
     {

@@ -9,7 +9,7 @@ use forest_refresh::RefreshStop;
 pub enum Stop {
     /// A file failed.
     Disk,
-    /// The output failed. The first bytes of a reply may have been told.
+    /// The output failed. The first bytes of a reply may have been written.
     Output,
     /// A file does not hold what the warehouse writes, from this offset on.
     Damaged {
@@ -18,7 +18,7 @@ pub enum Stop {
         /// The offset in bytes.
         offset: u64,
     },
-    /// Want of memory.
+    /// Out of memory.
     Memory,
 }
 

@@ -6,13 +6,13 @@ use reply_fold::Fault;
 /// How a run ended.
 #[derive(Clone, Copy, Debug, PartialEq, Eq)]
 pub enum End {
-    /// The reply of the whole was told.
+    /// The reply of the whole was written.
     Done,
-    /// There are words. Nothing was read or told.
+    /// Arguments were given. Nothing was read or written.
     Usage,
-    /// The output failed. The first bytes of the reply may have been told.
+    /// The output failed. The first bytes of the reply may have been written.
     Output,
-    /// The input has no reply of the whole, for this reason. Nothing was told.
+    /// The input has no reply of the whole, for this reason. Nothing was written.
     Faulty(Fault),
 }
 

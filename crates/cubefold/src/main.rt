@@ -1,4 +1,4 @@
-//! The program: a schema, a slice and the replies of parts from standard input, the reply of the whole to standard output.
+//! The program: it reads a schema, a slice and the replies of parts from standard input, and writes the reply of the whole to standard output.
 #![tactic(auto)]
 
 mod end;
@@ -13,7 +13,7 @@ use std::io::{Print, Write};
 use std::process::ExitCode;
 use std::{env, io};
 
-/// Whether there are words behind the program's name, or they cannot be had.
+/// Whether there are arguments, or they cannot be read.
 fn has_words(rt: &HostRuntime) -> bool {
     match env::args(rt) {
         Ok(words) => words.count() > 1,
@@ -28,7 +28,7 @@ fn tell(rt: &HostRuntime, reply: &[u8]) -> io::Result<()> {
     output.flush()
 }
 
-/// Folds the replies, and tells the reply of the whole.
+/// Folds the replies, and writes the reply of the whole.
 fn fold_here(rt: &HostRuntime) -> End {
     if has_words(rt) {
         return End::Usage;
@@ -42,7 +42,7 @@ fn fold_here(rt: &HostRuntime) -> End {
     }
 }
 
-/// Writes a refusal to standard error, in the words of the reply.
+/// Writes a refusal to standard error, worded as in the reply.
 fn report_refusal(rt: &HostRuntime, reply: Result<Vec<u8>, Memory>) -> io::Result<()> {
     let Ok(reply) = reply else {
         return rt.eprintln("cubefold: out of memory");

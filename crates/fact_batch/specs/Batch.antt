@@ -1,4 +1,4 @@
--- The facts of a batch whose values and numbers lie one behind the other.
+-- The facts of a batch, with values and numbers in flat lists.
 use Rattle.std.specs.Prelude.{◌≡◌, ◌≤◌, ◌*◌, Bool, ℕ, ℤ, List, [], length, map, flat_map, drop}
 use Rattle.std.specs.List.{list_all, range_with_len}
 use Rattle.fact_model.specs.declared.fact.Fact.{Fact}
@@ -7,15 +7,15 @@ use Rattle.fact_batch.specs.declared.values.Slot.{Slot}
 use Rattle.fact_batch.specs.Rows.{row_at}
 use Rattle.fact_batch.specs.Values.{is_within, texts_len, values_of}
 
--- the fact at a place among values and numbers
+-- fact `at` among values and numbers
 abbrev pub fact_at : ℕ → ℕ → List Value → List ℤ → ℕ → Fact
 fact_at width measures values numbers at = record { values = row_at width values at; measures = row_at measures numbers at }
 
--- so many facts
+-- `rows` facts
 abbrev pub facts_of : ℕ → ℕ → ℕ → List Slot → List ℕ → List ℤ → List Fact
 facts_of width measures rows slots texts numbers = map (fact_at width measures (values_of slots texts) numbers) (range_with_len 0 rows)
 
--- there are as many slots, bytes and numbers as the facts have
+-- there are exactly as many slots, bytes and numbers as the facts need
 pub record IsFlat (width measures rows : ℕ) (slots : List Slot) (texts : List ℕ) (numbers : List ℤ) : Type 0 where
   pub slots_are : length slots ≡ width * rows
   pub texts_are : texts_len slots ≡ length texts
@@ -33,7 +33,7 @@ measures_in facts = map (λ (x : Fact). x.measures) facts
 abbrev pub are_within : ℕ → List Fact → Bool
 are_within limit facts = list_all (λ (x : Fact). list_all (is_within limit) x.values) facts
 
--- facts of so many values and numbers each, and the values and numbers of the next
+-- facts with this many values and numbers each, and the values and numbers of the next
 pub record Draft : Type 0 where
   pub width : ℕ
   pub measures : ℕ
@@ -41,14 +41,14 @@ pub record Draft : Type 0 where
   pub values : List Value
   pub numbers : List ℤ
 
--- between two facts of so many values and numbers each: nothing of the next is there
+-- between two facts: the next has no values or numbers yet
 pub record IsBetween (attrs numbers_each : ℕ) (draft : Draft) : Type 0 where
   pub width : draft.width ≡ attrs
   pub measures : draft.measures ≡ numbers_each
   pub values : draft.values ≡ []
   pub numbers : draft.numbers ≡ []
 
--- so many facts, and behind them the values and numbers of the next
+-- `rows` facts, then the values and numbers of the next
 abbrev pub draft_of : ℕ → ℕ → ℕ → List Slot → List ℕ → List ℤ → Draft
 draft_of width measures rows slots texts numbers = record {
   width = width;
@@ -58,7 +58,7 @@ draft_of width measures rows slots texts numbers = record {
   numbers = drop (measures * rows) numbers;
 }
 
--- there are at least as many slots and numbers as the facts have, and as many bytes as the slots
+-- there are at least as many slots and numbers as the facts need, and as many bytes as the slots need
 pub record IsDraft (width measures rows : ℕ) (slots : List Slot) (texts : List ℕ) (numbers : List ℤ) : Type 0 where
   pub slots_are : width * rows ≤ length slots
   pub texts_are : texts_len slots ≡ length texts

@@ -8,8 +8,8 @@ use crate::rows::{FlatRows, row_of};
 use crate::values::{Slot, Values};
 use std::marker::Model;
 
-/// The facts of a batch, which contracts see as the list of the facts. They have as many values and numbers each, which lie one behind the
-/// other, 16 bytes a value beside the bytes of the texts, and 16 bytes a number.
+/// The facts of a batch. Contracts see it as the list of facts. All facts have the same number of values and the same number of measures.
+/// They are stored contiguously: 16 bytes for each value plus the bytes of the texts, and 16 bytes for each measure.
 #[derive(Drop)]
 pub struct Batch {
     pub(crate) width: usize,
@@ -33,35 +33,35 @@ impl Model for Batch {
 }
 
 impl Batch {
-    /// How many facts there are.
+    /// The number of facts.
     pub fn len(&self) -> usize
         ensures { result ≡ length self.now }
     {
         self.rows
     }
 
-    /// Whether there is none.
+    /// Whether there are no facts.
     pub fn is_empty(&self) -> bool
         ensures { result ≡ (length self.now == 0) }
     {
         self.len() == 0
     }
 
-    /// The values of all facts, in order of fact and then of attribute. It takes no memory.
+    /// The values of all facts, in order of fact and then of attribute. Does not allocate.
     pub fn values(&self) -> Values<'_>
         ensures { result ≡ values_in self.now }
     {
         Values::new(self.slots.as_slice(), self.texts.as_slice())
     }
 
-    /// Whether all numbers among the values are at most this one. It takes no memory.
+    /// Whether all numbers among the values are at most `limit`. Does not allocate.
     pub fn all_within(&self, limit: u64) -> bool
         ensures { result ≡ are_within limit self.now }
     {
         slots_within(&self.slots, limit)
     }
 
-    /// The numbers of the fact at this place, counted from 0, one for each measure.
+    /// The numbers of fact `at`, one for each measure. Facts are counted from 0.
     pub fn numbers(&self, at: usize) -> &[i128]
         requires { at < length self.now }
         ensures { result.now ≡ get_or (measures_in self.now) at [] }
@@ -69,7 +69,7 @@ impl Batch {
         row_of(&self.numbers, self.measures, self.rows, at)
     }
 
-    /// The numbers of all facts alone; the values are given back. It takes no memory.
+    /// The numbers of all facts. The memory of the values is freed. Does not allocate.
     pub fn into_numbers(self) -> FlatRows<i128>
         ensures { result ≡ measures_in self }
     {
@@ -83,7 +83,7 @@ impl Batch {
     }
 }
 
-/// Whether all numbers among the values of these slots are at most this one.
+/// Whether all numbers among the values in these slots are at most `limit`.
 fn slots_within(slots: &[Slot], limit: u64) -> bool
     ensures { result ≡ list_all (is_slot_within limit) slots.now }
 {

@@ -1,4 +1,4 @@
-//! A batch that is being made, value by value.
+//! Builds a batch, value by value.
 ghost use Rattle.std.specs.Prelude.{◌≡◌, ◌≤◌, ◌<◌, ◌^◌, [], ◌∷◌, ◌++◌, length, OnOk};
 ghost use Rattle.fact_model.specs.declared.fact.Value.TheVariants.{Word, Number};
 ghost use Rattle.fact_batch.specs.Batch.{Draft, IsBetween};
@@ -9,7 +9,7 @@ use fact_model::Memory;
 use std::alloc::Global;
 use std::marker::Model;
 
-/// Facts that are whole, and the values and numbers of the next.
+/// Complete facts, and the values and numbers of the next.
 #[derive(Drop)]
 pub struct BatchBuilder {
     width: usize,
@@ -31,7 +31,7 @@ impl Model for BatchBuilder {
 }
 
 impl BatchBuilder {
-    /// No facts, which are to have so many values and numbers each. It takes no memory.
+    /// A builder without facts, each of which will have `width` values and `measures` numbers. Does not allocate.
     pub fn new(alloc: Global, width: usize, measures: usize) -> BatchBuilder
         ensures between { IsBetween width measures result }
         ensures none { result.facts ≡ [] }
@@ -46,7 +46,7 @@ impl BatchBuilder {
         }
     }
 
-    /// A text as the next value of the fact that is being made. After `Memory` nothing is said of that fact.
+    /// Adds a text as the next value of the current fact. After `Memory` the content of that fact is unspecified.
     pub fn push_text(&mut self, bytes: &[u8]) -> Result<(), Memory>
         requires short { length bytes.now ≤ 255 }
         ensures { OnOk result (self.new ≡ record self.old { values = self.old.values ++ Word bytes.now ∷ [] }) }
@@ -62,21 +62,21 @@ impl BatchBuilder {
         }
     }
 
-    /// A number as the next value of the fact that is being made. After `Memory` nothing is said of that fact.
+    /// Adds a number as the next value of the current fact. After `Memory` the content of that fact is unspecified.
     pub fn push_value(&mut self, number: u64) -> Result<(), Memory>
         ensures { OnOk result (self.new ≡ record self.old { values = self.old.values ++ Number number ∷ [] }) }
     {
         Ok(self.slots.push(Slot::Number(number))?)
     }
 
-    /// The number of the next measure of the fact that is being made. After `Memory` nothing is said of that fact.
+    /// Adds the number of the next measure of the current fact. After `Memory` the content of that fact is unspecified.
     pub fn push_number(&mut self, number: i128) -> Result<(), Memory>
         ensures { OnOk result (self.new ≡ record self.old { numbers = self.old.numbers ++ number ∷ [] }) }
     {
         Ok(self.numbers.push(number)?)
     }
 
-    /// The fact that is being made is whole.
+    /// Ends the current fact, which is complete.
     pub fn end_fact(&mut self)
         requires few { length self.old.facts < 2 ^ 63 }
         requires values { length self.old.values ≡ self.old.width }
@@ -86,7 +86,7 @@ impl BatchBuilder {
         self.rows += 1;
     }
 
-    /// The batch of the facts. It takes no memory.
+    /// The batch of all facts. Does not allocate.
     pub fn finish(self) -> Batch
         requires values { self.values ≡ [] }
         requires numbers { self.numbers ≡ [] }

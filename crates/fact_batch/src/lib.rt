@@ -1,4 +1,4 @@
-//! The facts of a batch, laid flat, and rows of one width.
+//! The facts of a batch in flat arrays, and rows of one width.
 #![tactic(auto)]
 
 mod batch;

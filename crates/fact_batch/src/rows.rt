@@ -1,10 +1,10 @@
-//! Rows of one width, laid flat one behind the other.
+//! Rows of one width in a flat array.
 ghost use Rattle.std.specs.Prelude.{◌≡◌, ◌<◌, ◌≤◌, ◌*◌, [], length, get_or};
 ghost use Rattle.fact_batch.specs.Rows.{row_at, rows_of};
 
 use std::marker::Model;
 
-/// Rows of one width, which contracts see as the list of the rows.
+/// Rows of one width. Contracts see them as the list of rows.
 #[derive(Drop)]
 pub struct FlatRows<T> {
     width: usize,
@@ -24,7 +24,7 @@ impl<T> Model for FlatRows<T> {
 }
 
 impl<T> FlatRows<T> {
-    /// So many rows of this width, from their items. It takes no memory.
+    /// `rows` rows of this width, from their items. Does not allocate.
     pub fn from_vec(width: usize, rows: usize, items: Vec<T>) -> Self
         requires { length items.items ≡ width * rows }
         ensures { result ≡ rows_of width rows items.items }
@@ -32,14 +32,14 @@ impl<T> FlatRows<T> {
         FlatRows { width, rows, items }
     }
 
-    /// How many rows there are.
+    /// The number of rows.
     pub fn len(&self) -> usize
         ensures { result ≡ length self.now }
     {
         self.rows
     }
 
-    /// The row at this place, counted from 0. It takes no memory.
+    /// Row `at`, counted from 0. Does not allocate.
     pub fn row(&self, at: usize) -> &[T]
         requires { at < length self.now }
         ensures { result.now ≡ get_or self.now at [] }
@@ -48,7 +48,7 @@ impl<T> FlatRows<T> {
     }
 }
 
-/// The row at a place of so many rows.
+/// Row `at` of `rows` rows.
 pub(crate) fn row_of<T>(items: &[T], width: usize, rows: usize, at: usize) -> &[T]
     requires rows { width * rows ≤ length items.now }
     requires at { at < rows }

@@ -1,20 +1,20 @@
-//! The values of facts, one behind the other.
+//! The values of facts, in sequence.
 ghost use Rattle.std.specs.Prelude.{◌≡◌, ◌≤◌, [], ◌∷◌, length, IfSome, None};
 ghost use Rattle.fact_batch.specs.Values.{is_slot_within, shown, texts_len, values_of};
 
 use std::marker::Model;
 
-/// A value that is kept: of a text its length, whose bytes lie among the texts.
+/// A stored value. For a text it is the length; the bytes are stored with the other texts.
 #[derive(Clone, Copy, Debug, PartialEq, Eq)]
 pub enum Slot {
-    /// A text of so many bytes.
+    /// The length of a text, in bytes.
     Word(u8),
     /// A number.
     Number(u64),
 }
 
 impl Slot {
-    /// Whether it is a text, or a number that is at most this one.
+    /// Whether it is a text, or a number of at most `limit`.
     pub(crate) fn is_within(&self, limit: u64) -> bool
         ensures { result ≡ is_slot_within limit self.now }
     {
@@ -25,7 +25,7 @@ impl Slot {
     }
 }
 
-/// A value that is lent.
+/// A borrowed value.
 #[derive(Clone, Copy, Debug, PartialEq, Eq)]
 pub enum LentValue<'a> {
     /// The bytes of a text.
@@ -34,7 +34,7 @@ pub enum LentValue<'a> {
     Number(u64),
 }
 
-/// The values of facts that are still to come, which are lent one after the other.
+/// The remaining values of facts, borrowed one after the other.
 #[derive(Drop)]
 pub struct Values<'a> {
     slots: &'a [Slot],
@@ -54,7 +54,7 @@ impl<'a> Model for Values<'a> {
 }
 
 impl<'a> Values<'a> {
-    /// The values of these slots, whose texts lie one behind the other.
+    /// The values of these slots; `texts` holds their texts in sequence.
     pub(crate) fn new(slots: &'a [Slot], texts: &'a [u8]) -> Values<'a>
         requires { texts_len slots.now ≡ length texts.now }
         ensures { result ≡ values_of slots.now texts.now }
@@ -62,7 +62,7 @@ impl<'a> Values<'a> {
         Values { slots, texts }
     }
 
-    /// The next value, where there is one.
+    /// The next value, if there is one.
     pub fn next_value(&mut self) -> Option<LentValue<'a>>
         ensures next { IfSome result (λ value. self.old ≡ shown value ∷ self.new) }
         ensures end { result ≡ None → self.old ≡ [] }

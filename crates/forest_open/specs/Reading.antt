@@ -1,4 +1,4 @@
--- What is read of files beside the schema: its trees, and the names.
+-- What is read from files besides the schema: its trees, and the names.
 use Rattle.std.specs.Prelude.{◌≡◌, ◌⊎◌, ℕ, true, List, [], length}
 use Rattle.attr_dict.specs.Book.{Book, no_names}
 use Rattle.attr_dict.specs.Entering.{HasRead}
@@ -11,14 +11,14 @@ use Rattle.forest_open.specs.declared.stop.OpenStop.{OpenStop}
 use Rattle.forest_open.specs.declared.stop.OpenStop.TheVariants as stops
 use Rattle.forest_open.specs.Opening.{BreaksEntry, BreaksSchema, is_of_schema}
 
--- the body is of the schema, these are the schema's trees, and these names stand in the entries
+-- the body agrees with the schema, these are the schema's trees, and the entries hold these names
 pub record AreRead (body : Body) (schema : Schema) (entries : List ℕ) (mapping : Mapping) (names : Book) : Type 0 where
   pub of_schema : is_of_schema body schema ≡ true
   pub mapped : mapping ≡ selected schema.views
   pub read : HasRead (no_names schema) names entries []
   pub long : entries_len names ≡ length entries
 
--- no file failed; damage that is told: the body is of other views or measures, or one of these entries is the first faulty one
+-- no file failed; damage that is reported is a body with other views or measures, or the first faulty entry
 abbrev pub BreaksFront : Body → Schema → List ℕ → OpenStop → Type 0
 BreaksFront body schema entries (stops.Damaged file offset) =
     BreaksSchema body schema (file, offset) ⊎ ((is_of_schema body schema ≡ true) × BreaksEntry body schema entries (file, offset))

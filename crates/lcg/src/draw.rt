@@ -1,17 +1,17 @@
-//! A state of the generator, and the draws from it.
+//! The state of the generator, and draws from it.
 ghost use Rattle.std.specs.Prelude.{◌≡◌, ◌<◌, ◌^◌};
 ghost use Rattle.lcg.specs.Draw.{next_state, draw};
 
-/// A state of the generator, from which numbers are drawn one after the other. The numbers follow from the state alone.
+/// A state of the generator, from which numbers are drawn one after the other. The numbers depend only on the state.
 #[derive(Drop)]
 pub struct Draws {
-    /// The state, which may begin at any number.
+    /// The state. Any number may be the first.
     pub state: u64,
 }
 
 impl Draws {
-    /// Draws once: replaces the state x by (x * 6364136223846793005 + 1442695040888963407) mod 2^64, and takes the new
-    /// state divided by 2^33, rounded down, which is a number below 2^31.
+    /// Draws a number: replaces the state x by (x * 6364136223846793005 + 1442695040888963407) mod 2^64, and returns
+    /// the new state divided by 2^33, rounded down, which is below 2^31.
     pub fn draw(&mut self) -> u64
         ensures value { result ≡ draw self.old.state }
         ensures below { result < 2 ^ 31 }

@@ -1,4 +1,4 @@
-//! The generator of numbers: the same ones for the same start.
+//! The generator of numbers: the same start gives the same numbers.
 #![tactic(auto)]
 
 mod draw;

@@ -1,4 +1,4 @@
-//! The view that a slice is answered from, where views may have the same attributes in another order.
+//! Picks the view that answers a slice, if several views may have the same attributes in another order.
 ghost use Rattle.std.specs.Prelude.{◌≡◌, ◌<◌, ◌≤◌, ℕ, IfSome, List, [], get_or, length, true};
 ghost use Rattle.std.specs.List.{All};
 ghost use Rattle.fact_model.specs.declared.fact.Fact as facts;
@@ -12,23 +12,23 @@ use cube_schema::Schema;
 use fact_model::{Cond, Slice};
 use view_route::covers;
 
-/// The view that a slice is answered from, and how its points lie there.
+/// The view that answers a slice, and how its points lie there.
 #[derive(Clone, Copy, Debug, PartialEq, Eq)]
 pub struct Choice {
     /// The number of the view.
     pub view: u32,
-    /// How many of its last attributes are bound by equalities.
+    /// The number of its last attributes that are bound by equalities.
     pub suffix: u8,
-    /// Whether each condition is one of these equalities, or a range on the attribute just before them. Then the points that meet the
-    /// conditions stand next to one another.
+    /// Whether each condition is one of these equalities, or a range on the attribute just before them. If so, the points that meet
+    /// the conditions are contiguous.
     pub run: bool,
 }
 
-/// The view that a slice is answered from. It has all grouped and bound attributes; of the views that have them it is one with the fewest
-/// points, of these one with the most last attributes bound by equalities, and of these the first. `counts` has the number of points of
-/// each view. None exactly where no view has all these attributes. It takes no memory.
+/// The view that answers a slice. It has all grouped and bound attributes. Among the views that do, it is one with the fewest points;
+/// among these, one with the most last attributes bound by equalities; among these, the first. `counts` has the number of points of each
+/// view. None exactly if no view has all these attributes. Does not allocate.
 ///
-/// Where the choice is a run, the points of the view that meet the conditions are one contiguous part of its points.
+/// If the choice is a run, the points of the view that meet the conditions are one contiguous part of its points.
 pub fn pick(schema: &Schema, counts: &[u64; 32], slice: &Slice) -> Option<Choice>
     requires { IsSchema schema.now }
 
@@ -75,7 +75,7 @@ fn better(counts: &[u64; 32], best: Option<Choice>, next: Choice) -> Option<Choi
     }
 }
 
-/// Whether the first choice has fewer points than the second, or as many and a greater suffix.
+/// Whether the first choice has fewer points than the second, or equally many and a greater suffix.
 fn beats(counts: &[u64; 32], next: Choice, old: Choice) -> bool
     requires next { next.view < 32 }
     requires old { old.view < 32 }
@@ -86,7 +86,7 @@ fn beats(counts: &[u64; 32], next: Choice, old: Choice) -> bool
     points < least || (points == least && old.suffix < next.suffix)
 }
 
-/// How many of the view's last attributes are bound by equalities.
+/// The number of the view's last attributes that are bound by equalities.
 fn suffix(view: &[u32], conds: &[Cond]) -> usize
     ensures exact { result ≡ suffix view.now conds.now }
     ensures few { result ≤ length view.now }
@@ -127,7 +127,7 @@ fn joins_run(view: &[u32], suffix: usize, cond: &Cond) -> bool
     }
 }
 
-/// Whether it is one of these attributes.
+/// Whether `attr` is one of these attributes.
 fn is_among(attrs: &[u32], attr: u32) -> bool
     ensures { result ≡ among attrs.now attr }
 {

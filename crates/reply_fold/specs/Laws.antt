@@ -1,4 +1,4 @@
--- What is printed of rows is read back as these rows.
+-- Printed rows are read back as the same rows.
 use Rattle.std.specs.Prelude.{◌≡◌, ◌≤◌, ◌<◌, ℕ, pos, nat_abs, List, ◌∷◌, get_or, length, Ok}
 use Rattle.std.specs.List.{All, AllZip}
 use Rattle.csv_text.specs.Records.{records_of}
@@ -18,6 +18,6 @@ pub record IsRow (s : Schema) (q : Slice) (row : Row) : Type 0 where
   pub some : 0 < length q.columns
   pub light : (column : ℕ) → nat_abs (get_or row.numbers column (pos 0)) ≤ mass_limit
 
--- the reply of such rows, behind a line feed, is read back as these rows
+-- the printed reply with such rows, after a line feed, is read back as these rows
 abbrev pub RowsReadBack : Type 0
 RowsReadBack = (s : Schema) (q : Slice) (rows : List Row) → All (IsRow s q) rows → rows_from s q 0 1 (records_of (10 ∷ answer_text rows)) ≡ Ok rows

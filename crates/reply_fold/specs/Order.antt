@@ -5,7 +5,7 @@ use Rattle.std.specs.Ordering.{is_lt}
 use Rattle.fact_model.specs.declared.slice.Row.{Row}
 use Rattle.fact_model.specs.Value.{key_cmp}
 
--- the row at a place; one of no values and numbers where there is none
+-- the row at a place; if there is none, a row without values and numbers
 abbrev pub row_at : List Row → ℕ → Row
 row_at rows at = get_or rows at (record { key = []; numbers = [] })
 

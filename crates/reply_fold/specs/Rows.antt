@@ -1,4 +1,4 @@
--- The row of a record, as it is read back from what is printed of a row.
+-- Reads a row from its record, as it was printed.
 use Rattle.std.specs.Prelude.{ℕ, ◌+◌, ◌==◌, cond, List, drop, length, map, ℤ, Option, Some, None, Result, Ok, Err}
 use Rattle.std.specs.List.{zip}
 use Rattle.cube_schema.specs.Kinds.{kind_at}
@@ -16,25 +16,25 @@ use Rattle.slice_lang.specs.Values.{coordinate_in}
 use Rattle.reply_fold.specs.declared.fault.Fault.{Fault}
 use Rattle.reply_fold.specs.declared.fault.Fault.TheVariants.{Record}
 
--- what was read of record n, where there is something
+-- what was read from record n, if anything was
 abbrev pub found_or : {A B : Type 0} → ℕ → (A → B) → Option A → Result B Fault
 found_or n f None = Err (Record n)
 found_or n f (Some x) = Ok (f x)
 
--- the value of an attribute of this kind that a field writes: any bytes are a text, and a number is in decimal
+-- the value of an attribute of this kind in a field: any bytes are a text, and a number is in decimal
 abbrev pub value_in : Kind → ℕ → List ℕ → Result Value Fault
 value_in (kind.Word max) n field = Ok (Word field)
 value_in kind.Number n field = found_or n Number (coordinate_in field)
 
--- the values that the first fields write of these attributes
+-- the values of these attributes in the first fields
 abbrev pub values_in : Schema → List ℕ → ℕ → List (List ℕ) → Result Key Fault
 values_in s group n fields = gathered (map (λ p. value_in (kind_at s p.0) n p.1) (zip group fields))
 
--- the number that a field writes
+-- the number in a field
 abbrev pub number_at : ℕ → List ℕ → Result ℤ Fault
 number_at n field = found_or n (λ z. z) (number_in field)
 
--- the numbers that the fields behind the first so many write
+-- the numbers in the fields after the first `values`
 abbrev pub numbers_in : ℕ → ℕ → List (List ℕ) → Result (List ℤ) Fault
 numbers_in values n fields = gathered (map (number_at n) (drop values fields))
 
@@ -43,7 +43,7 @@ row_from (Err fault) numbers = Err fault
 row_from (Ok key) (Err fault) = Err fault
 row_from (Ok key) (Ok numbers) = Ok (record { key = key; numbers = numbers })
 
--- a record that is a row of the slice: a value for each grouped attribute, and then a number for each column
+-- a record that is a row of the slice: a value for each grouped attribute, then a number for each column
 abbrev pub row_in : Schema → Slice → ℕ → List (List ℕ) → Result Row Fault
 row_in s q n fields =
     cond (length fields == length q.group + length q.columns)

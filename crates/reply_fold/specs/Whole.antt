@@ -32,7 +32,7 @@ use Rattle.reply_fold.specs.declared.replies.Replies.TheVariants as says
 
 -- ---- what the replies say
 
--- each is the refusal, or one is not
+-- all replies are this refusal, or the fault
 abbrev pub as_refused : List ℕ → Result (Unit {0}) Fault → Result Replies Fault
 as_refused text (Err fault) = Err fault
 as_refused text (Ok shared) = Ok (says.Refused text)
@@ -41,12 +41,12 @@ abbrev pub as_rows : Slice → Result (List Row) Fault → Result Replies Fault
 as_rows q (Err fault) = Err fault
 as_rows q (Ok rows) = Ok (says.Rows q rows)
 
--- the rows of the records, where the text of the slice is one
+-- the rows of the records, if the text is that of a slice
 abbrev pub rows_said : Schema → Result Slice SliceRefusal → List (List (List ℕ)) → Result Replies Fault
 rows_said s (Err refusal) records = Err (faults.Slice refusal)
 rows_said s (Ok q) records = as_rows q (rows_from s q 0 1 records)
 
--- by whether the first record is a refusal
+-- what the replies say, if the first record is a refusal and if it is not
 abbrev pub records_said : Schema → Result Slice SliceRefusal → List (List (List ℕ)) → Result (Option (List ℕ)) Fault → Result Replies Fault
 records_said s asked records (Err fault) = Err fault
 records_said s asked records (Ok (Some text)) = as_refused text (refused_from text 1 records)
@@ -56,7 +56,7 @@ records_said s asked records (Ok None) = rows_said s asked records
 abbrev pub replies_said : Schema → Result Slice SliceRefusal → List ℕ → Result Replies Fault
 replies_said s asked replies = cond (is_whole replies) (records_said s asked (records_of replies) (first_in (records_of replies))) (Err faults.Cut)
 
--- memory was short
+-- memory ran out
 abbrev pub is_short : Result Slice SliceRefusal → Bool
 is_short (Ok q) = false
 is_short (Err (slices.Syntax byte)) = false
@@ -88,12 +88,12 @@ said_in input = cond (place_of_end input == length input) (Err faults.Heading) (
 abbrev pub IsWide : List Column → Row → Type 0
 IsWide columns row = length row.numbers ≡ length columns
 
--- all rows have
+-- each row has a number for each column
 abbrev pub AreWide : Replies → Type 0
 AreWide (says.Refused text) = Unit {0}
 AreWide (says.Rows q rows) = All (IsWide q.columns) rows
 
--- the rows of one key joined, ascending by key
+-- rows of the same key joined, in ascending order of their keys
 abbrev pub joined : List Column → List Row → List (Key × List ℤ)
 joined columns rows = folded columns (λ k. true) (λ k. k) rows
 
@@ -107,7 +107,7 @@ abbrev pub CanJoin : Replies → Type 0
 CanJoin (says.Refused text) = Unit {0}
 CanJoin (says.Rows q rows) = AddUp rows
 
--- the reply of the whole where the numbers add up, and otherwise the fault
+-- the reply of the whole if the numbers add up, and otherwise the fault
 abbrev pub IsJoined : Replies → Result (List ℕ) Fault → Type 0
 IsJoined replies (Ok text) = CanJoin replies × (text ≡ whole_text replies)
 IsJoined replies (Err fault) = fault ≢ faults.Memory → (fault ≡ faults.Sum) × (CanJoin replies → ⊥)
@@ -119,7 +119,7 @@ IsFold (Err fault) result = Answers result (Err fault)
 
 -- ---- the replies of the plain machine
 
--- its reply to the slice of a text, over these facts
+-- its reply to the text of a slice, over these facts
 abbrev pub reply_over : Schema → List ℕ → List Fact → List ℕ
 reply_over schema text facts = slice_over (Some (record { schema = schema; facts = facts; last = 0 })) text
 
@@ -129,11 +129,11 @@ pub record KeepLimits (schema : Schema) (facts : List Fact) : Type 0 where
   pub few : length facts ≤ mass_limit
   pub light : (m : ℕ) → m < measure_count schema → mass m facts ≤ mass_limit
 
--- all facts of lists of facts
+-- the facts of all lists
 abbrev pub together : List (List Fact) → List Fact
 together parts = flat_map (λ facts. facts) parts
 
--- the input has the block of a schema, a text, and the plain machine's replies to it over each of some parts
+-- the input has the block of a schema, a text, and the plain machine's replies to it, one for each of one or more parts
 pub record HasParts (input : List ℕ) (schema : Schema) (parts : List (List Fact)) : Type 0 where
   pub declared : schema_of (block_in input) ≡ Ok schema
   pub told : behind_text input ≡ 10 ∷ flat_map (reply_over schema (text_in input)) parts

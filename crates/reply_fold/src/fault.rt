@@ -7,28 +7,28 @@ use fact_model::Memory;
 use slice_lang::SliceRefusal;
 use std::alloc::AllocError;
 
-/// Why an input has no reply of the whole. Records count from 1, from the first one behind the slice.
+/// Why an input has no reply of the whole. Records are counted from 1, the first after the slice.
 #[derive(Clone, Copy, Debug, PartialEq, Eq)]
 pub enum Fault {
-    /// No line behind the first is `end`, so no block of a schema ends.
+    /// No line after the first is `end`, so the block of the schema does not end.
     Heading,
-    /// The block of the schema is refused so.
+    /// The block of the schema is refused for this reason.
     Schema(SchemaRefusal),
-    /// The text of the slice is refused so, and the first reply is no refusal.
+    /// The text of the slice is refused for this reason, and the first reply is not a refusal.
     Slice(SliceRefusal),
-    /// The last line has no line feed, or no row count stands behind the last row: a reply is cut off.
+    /// The last line has no line feed, or no row count follows the last row: a reply is cut off.
     Cut,
     /// There is no reply.
     Nothing,
-    /// This record is no row of the slice, and no count of the rows in front of it.
+    /// This record is not a row of the slice, and not a count of the rows before it.
     Record(u64),
-    /// The first reply is a refusal, and this record is another reply.
+    /// The first reply is a refusal, and this record is a different reply.
     Differs(u64),
-    /// The numbers of a column add up to more than 128 bits hold.
+    /// The numbers of a column add up to more than 128 bits can hold.
     Sum,
     /// The source failed.
     Input,
-    /// Memory was short.
+    /// Out of memory.
     Memory,
 }
 

@@ -9,21 +9,21 @@ use fact_model::bytes::front;
 use itoa::Buffer;
 use std::alloc::Global;
 
-/// The field at this place, counted from 0; empty past the last.
+/// Field `place`, counted from 0; empty past the last.
 pub(crate) fn field(fields: &ByteRecord, place: usize) -> &[u8]
     ensures { result.now ≡ get_or (fields_of fields.now) place [] }
 {
     fields.get(place).unwrap_or(&[])
 }
 
-/// Whether the record has this field alone.
+/// Whether the record has only this field.
 pub(crate) fn is_single(text: &[u8], fields: &ByteRecord) -> bool
     ensures { result ≡ is_single text.now (fields_of fields.now) }
 {
     fields.len() == 1 && field(fields, 0) == text
 }
 
-/// Whether the record ends a reply of so many rows.
+/// Whether the record ends a reply of `rows` rows.
 pub(crate) fn is_end(alloc: Global, rows: u64, fields: &ByteRecord) -> Result<bool, Memory>
     ensures { IfOk result (λ ends. ends ≡ is_end rows (fields_of fields.now)) }
 {

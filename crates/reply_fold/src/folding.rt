@@ -1,4 +1,4 @@
-//! Rows folded in the order of their keys, each written as soon as it is whole.
+//! Folds rows in the order of their keys, and writes each as soon as it is complete.
 ghost use Rattle.std.specs.Prelude.{◌≡◌, ◌≤◌, ◌<◌, ◌+◌, ◌^◌, [], ◌∷◌, ℕ, ℤ, List, IfOk, OnOk, length, map};
 ghost use Rattle.csv_text.specs.Rows.{row_fields, with_end, with_fields};
 ghost use Rattle.fact_model.specs.Rows.{as_row};
@@ -16,20 +16,20 @@ use reply_text::{push_numbers, push_values};
 use row_fold::join_numbers;
 use std::alloc::Global;
 
-/// The rows that are whole, as text, and the row of the last key so far.
+/// The text of the complete rows, and the row of the last key so far.
 #[derive(Drop)]
 pub(crate) struct Folding {
     pub(crate) writer: RowWriter,
-    /// How many rows were written.
+    /// The number of rows written.
     pub(crate) count: u64,
-    /// The place of the first row of the last key.
+    /// The place of the first row with the last key.
     pub(crate) head: usize,
-    /// The numbers of all rows of that key together.
+    /// The combined numbers of all rows with that key.
     pub(crate) sums: Vec<i128>,
 }
 
 impl Folding {
-    /// The row at a place alone.
+    /// Starts with the row at a place.
     pub(crate) fn begin(alloc: Global, rows: &[Row], at: usize) -> Result<Folding, Memory>
         ensures makes { IfOk result (λ folding. (cs : List columns.Column) (es : List (Key × List ℤ)) → Makes cs rows.now folding es (neighbours cs (entry_at rows.now at ∷ es))) }
         ensures sums { IfOk result (λ folding. folding.sums.items ≡ (row_at rows.now at).numbers) }
@@ -43,7 +43,7 @@ impl Folding {
         })
     }
 
-    /// Takes in the row at a place, whose key is not below the last one.
+    /// Adds the row at a place. Its key is not below the last one.
     pub(crate) fn take(&mut self, columns: &[Column], rows: &[Row], at: usize) -> Result<(), Memory>
         requires room { CanJoin columns.now (row_at rows.now at).numbers self.old.sums.items }
         requires few { self.old.count < 2 ^ 63 }
@@ -80,7 +80,7 @@ impl Folding {
         Ok(())
     }
 
-    /// The text of all rows, and then a line with their number.
+    /// The text of all rows, followed by a line with their number.
     pub(crate) fn into_answer(self, rows: &[Row]) -> Result<Vec<u8>, Memory>
         requires few { self.count < 2 ^ 63 }
         ensures { IfOk result (λ text. (cs : List columns.Column) (whole : List (Key × List ℤ))

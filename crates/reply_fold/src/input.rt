@@ -2,10 +2,10 @@
 ghost use Rattle.std.specs.Prelude.{◌≡◌, ◌≤◌, ◌<◌, ◌+◌, length};
 ghost use Rattle.reply_fold.specs.Input.{is_whole, place_of_end};
 
-/// What ends the block of the schema: the line feed of its last line, and a line `end`.
+/// What ends the block of the schema: the line feed of its last line, then a line `end`.
 pub(crate) const END: &[u8] = b"\nend\n";
 
-/// The place of the first line feed behind which a line `end` follows, or the length where there is none.
+/// The place of the first line feed that is followed by a line `end`, or the length if there is none.
 pub(crate) fn place_of_end(input: &[u8]) -> usize
     ensures place { result ≡ place_of_end input.now }
     ensures within { result < length input.now → result + 5 ≤ length input.now }
@@ -19,7 +19,7 @@ pub(crate) fn place_of_end(input: &[u8]) -> usize
     input.len()
 }
 
-/// Whether the last line has its line feed.
+/// Whether the last line ends with a line feed.
 #[tactic(auto, using(fact_model::proofs::Defaults::reads))]
 pub(crate) fn is_whole(replies: &[u8]) -> bool
     ensures { result ≡ is_whole replies.now }

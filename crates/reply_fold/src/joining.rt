@@ -11,8 +11,8 @@ use csv_text::RowWriter;
 use fact_model::{Column, Memory, Row};
 use std::alloc::Global;
 
-/// The reply of the rows, of which those of one key are one row, in ascending order of their keys: counts and sums are added, and of least
-/// and greatest numbers the least and the greatest are kept.
+/// The reply for these rows, in ascending order of their keys. Rows with the same key become one: counts and sums are added; for least and
+/// greatest numbers, the least and the greatest are kept.
 pub(crate) fn joined_text(
     alloc: Global,
     columns: &[Column],

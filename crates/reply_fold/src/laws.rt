@@ -1,7 +1,7 @@
-//! A law of what is printed of rows.
+//! A law about printed rows.
 ghost use Rattle.reply_fold.specs.Laws.{RowsReadBack};
 
-/// The reply of rows of a slice, within the limits of facts, is read back as these rows.
+/// The printed reply with rows of a slice, within the limits of facts, is read back as these rows.
 pub fn printed_rows_read_back()
     ensures { RowsReadBack }
 {}

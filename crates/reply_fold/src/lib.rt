@@ -1,5 +1,5 @@
-//! The replies of parts to one slice, joined to the reply of the whole: read back from their text, folded, and written as `cubetree` writes
-//! a reply.
+//! Joins the replies of parts to one slice into the reply of the whole: reads them from their text, folds them, and writes the result as
+//! `cubetree` writes a reply.
 #![tactic(auto)]
 
 mod fault;

@@ -8,7 +8,7 @@ use fact_model::{Memory, Row, Value};
 use std::alloc::Global;
 use std::cmp::Ordering;
 
-/// The places of rows in the order of their keys. Where replies are in order, as those of `cubetree` are, the sort merges them.
+/// The places of rows in the order of their keys. If replies are in order, as those of `cubetree` are, the sort merges them.
 pub(crate) fn order_of(alloc: Global, rows: &[Row]) -> Result<Vec<usize>, Memory>
     ensures { IfOk result (λ order. IsOrderOf rows.now order.items) }
 {
@@ -17,7 +17,7 @@ pub(crate) fn order_of(alloc: Global, rows: &[Row]) -> Result<Vec<usize>, Memory
     Ok(order)
 }
 
-/// So many places, as they stand.
+/// The first `count` places, in order.
 fn each_place(alloc: Global, count: usize) -> Result<Vec<usize>, Memory>
     ensures { IfOk result (λ places. places.items ≡ range_with_len 0 count) }
 {
@@ -28,14 +28,14 @@ fn each_place(alloc: Global, count: usize) -> Result<Vec<usize>, Memory>
     Ok(places)
 }
 
-/// The order of the keys at two places.
+/// Compares the keys at two places.
 pub(crate) fn compare(rows: &[Row], first: usize, second: usize) -> Ordering
     ensures { result ≡ key_cmp (row_at rows.now first).key (row_at rows.now second).key }
 {
     key_at(rows, first).cmp(key_at(rows, second))
 }
 
-/// The key of the row at a place; empty where there is none.
+/// The key of the row at a place; empty if there is none.
 pub(crate) fn key_at(rows: &[Row], at: usize) -> &[Value]
     ensures { result.now ≡ (row_at rows.now at).key }
 {
@@ -45,7 +45,7 @@ pub(crate) fn key_at(rows: &[Row], at: usize) -> &[Value]
     }
 }
 
-/// Its numbers.
+/// The numbers of the row at a place; empty if there is none.
 pub(crate) fn numbers_at(rows: &[Row], at: usize) -> &[i128]
     ensures { result.now ≡ (row_at rows.now at).numbers }
 {

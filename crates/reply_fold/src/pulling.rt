@@ -1,4 +1,4 @@
-//! The input, as a source gives it in pieces.
+//! Reads the input, which a source gives in pieces.
 ghost use Rattle.std.specs.Prelude.{◌≡◌, ◌≢◌, ◌≤◌, ◌<◌, List, Ok, Err, IfOk, IfErr, IsTrue, vec_len};
 ghost use Rattle.cube_schema.specs.declared.schema.Schema as schemas;
 ghost use Rattle.fact_model.specs.declared.fact.Fact as facts;
@@ -19,13 +19,13 @@ use std::alloc::{AllocError, Global};
 /// The most bytes of a pull.
 const PIECE: usize = 65_536;
 
-/// The reply of the whole to the input that a source gives: the block of a schema, a line `end`, a line with the text of a slice, and the
-/// replies of the parts to it, one behind the other. The whole input is kept in memory, and all rows of the replies beside it.
+/// The reply of the whole to the input of a source: the block of a schema, a line `end`, a line with the text of a slice, and the replies
+/// of the parts to it, one after the other. The whole input is kept in memory, and so are all rows of the replies.
 pub fn fold<S: Source>(alloc: Global, source: &mut S) -> Result<Text, Fault>
-    // Where the plain machine told the replies over parts, this is what it tells over all their facts.
+    // If the replies are those of the plain machine over the parts, this is its reply over all their facts.
     ensures whole { IsTrue S.tells → result ≢ Err faults.Input → (schema : schemas.Schema) (parts : List (List facts.Fact))
         → HasParts (S.left source.old) schema parts → Answers result (Ok (reply_over schema (text_in (S.left source.old)) (together parts))) }
-    // Whatever the input is.
+    // For any input.
     ensures exact { IsTrue S.tells → result ≢ Err faults.Input → IsFold (said_in (S.left source.old)) result }
     ensures input { HasCauseWhere faults.Input (S.faults source.old) (S.faults source.new) result }
 {
@@ -33,7 +33,7 @@ pub fn fold<S: Source>(alloc: Global, source: &mut S) -> Result<Text, Fault>
     fold_input(alloc, &input)
 }
 
-/// All that a source gives.
+/// Everything that a source gives.
 fn read_all<S: Source>(alloc: Global, source: &mut S) -> Result<Vec<u8>, Fault>
     ensures all { IsTrue S.tells → IfOk result (λ bytes. bytes.items ≡ S.left source.old) }
     ensures input { HasCauseWhere faults.Input (S.faults source.old) (S.faults source.new) result }
@@ -48,18 +48,18 @@ fn read_all<S: Source>(alloc: Global, source: &mut S) -> Result<Vec<u8>, Fault>
         }
         bytes.extend_from_slice(front(&piece, count))?;
     }
-    // No memory holds so many bytes.
+    // Memory cannot hold this many bytes.
     Err(Fault::Memory)
 }
 
-/// Room for so many bytes.
+/// A buffer of `count` bytes.
 fn room(alloc: Global, count: usize) -> Result<Vec<u8>, AllocError>
     ensures { IfOk result (λ bytes. vec_len bytes ≡ count) }
 {
     vec![in alloc; 0u8; count]
 }
 
-/// Pulls a piece, and answers how many bytes came: none only at the end.
+/// Pulls a piece, and returns the number of bytes: zero only at the end.
 fn pull<S: Source>(source: &mut S, into: &mut Vec<u8>) -> Result<usize, Fault>
     requires some { 0 < vec_len into.old }
     requires few { vec_len into.old ≤ 65536 }

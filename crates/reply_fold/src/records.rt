@@ -12,7 +12,7 @@ use cube_schema::Schema;
 use fact_model::{ListOf, Rows, Slice, Text};
 use std::alloc::Global;
 
-/// The refusal that the first reply is, if it is one.
+/// The first reply, if it is a refusal.
 pub(crate) fn first_refusal(alloc: Global, replies: &[u8]) -> Result<Option<Text>, Fault>
     ensures { Answers result (first_in (records_of replies.now)) }
 {
@@ -28,7 +28,7 @@ pub(crate) fn first_refusal(alloc: Global, replies: &[u8]) -> Result<Option<Text
     Ok(None)
 }
 
-/// Whether each reply is this refusal.
+/// Checks that each reply is this refusal.
 pub(crate) fn share_refusal(alloc: Global, replies: &[u8], text: &[u8]) -> Result<(), Fault>
     ensures { Answers result (refused_from text.now 1 (records_of replies.now)) }
 {
@@ -42,7 +42,7 @@ pub(crate) fn share_refusal(alloc: Global, replies: &[u8], text: &[u8]) -> Resul
             return Err(Fault::Differs(number));
         }
     }
-    // No memory holds so many records.
+    // Memory cannot hold this many records.
     Err(Fault::Memory)
 }
 
@@ -67,6 +67,6 @@ pub(crate) fn read_rows(
         }
         taken.take(alloc, schema, slice, number, &fields)?;
     }
-    // No memory holds so many records.
+    // Memory cannot hold this many records.
     Err(Fault::Memory)
 }

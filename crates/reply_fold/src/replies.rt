@@ -6,11 +6,11 @@ use fact_model::{Rows, Slice, Text};
 pub enum Replies {
     /// Each is this refusal, without its line feed.
     Refused(Text),
-    /// Each is rows of a slice.
+    /// Each has rows of a slice.
     Rows {
         /// The slice.
         slice: Slice,
-        /// The rows of all replies, one reply behind the other.
+        /// The rows of all replies, in sequence.
         rows: Rows,
     },
 }

@@ -1,4 +1,4 @@
-//! A row that is read back from its record.
+//! Reads a row from its record.
 ghost use Rattle.std.specs.Prelude.{◌≡◌, ◌≤◌, [], length};
 ghost use Rattle.csv.specs.Records.{fields_of};
 ghost use Rattle.reply_fold.specs.Answers.{Answers};
@@ -12,7 +12,7 @@ use fact_model::{ListOf, NumberList, Row, Slice, Text, Value, ValueList, read_nu
 use slice_lang::read_coordinate;
 use std::alloc::Global;
 
-/// Reads the record of this number as a row of the slice: a field for each grouped attribute, and then one for each column. This is the inverse of printing.
+/// Reads record `number` as a row of the slice: a field for each grouped attribute, then one for each column. This is the inverse of printing.
 pub(crate) fn read_row(
     alloc: Global,
     schema: &Schema,
@@ -32,7 +32,7 @@ pub(crate) fn read_row(
     Ok(Row { key, numbers })
 }
 
-/// The values that the first fields write of the grouped attributes.
+/// The values of the grouped attributes, read from the first fields.
 fn read_values(
     alloc: Global,
     schema: &Schema,
@@ -51,7 +51,7 @@ fn read_values(
     Ok(values)
 }
 
-/// The value of an attribute of this kind that a field writes.
+/// The value of an attribute of this kind, read from a field.
 fn read_value(alloc: Global, kind: Kind, number: u64, bytes: &[u8]) -> Result<Value, Fault>
     ensures { Answers result (value_in kind number bytes.now) }
 {
@@ -64,7 +64,7 @@ fn read_value(alloc: Global, kind: Kind, number: u64, bytes: &[u8]) -> Result<Va
     }
 }
 
-/// The numbers that the fields behind the first so many write.
+/// The numbers in the fields after the first `values`.
 fn read_numbers(
     alloc: Global,
     values: usize,
@@ -82,7 +82,7 @@ fn read_numbers(
     Ok(numbers)
 }
 
-/// The number that a field writes.
+/// The number in a field.
 fn number_at(number: u64, bytes: &[u8]) -> Result<i128, Fault>
     ensures { result ≡ number_at number bytes.now }
 {

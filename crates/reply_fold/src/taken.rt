@@ -18,12 +18,12 @@ use std::alloc::Global;
 pub(crate) struct Taken {
     /// The rows of all replies.
     pub(crate) rows: Rows,
-    /// How many of them stand in the reply that has begun.
+    /// How many of them belong to the current reply.
     pub(crate) begun: u64,
 }
 
 impl Taken {
-    /// Takes the record of this number, which is a row more or ends a reply.
+    /// Takes record `number`, which adds a row or ends a reply.
     pub(crate) fn take(
         &mut self,
         alloc: Global,
@@ -33,7 +33,7 @@ impl Taken {
         fields: &ByteRecord,
     ) -> Result<(), Fault>
         requires { self.old.begun < number }
-        // Whatever records follow.
+        // For any records that follow.
         ensures goes { OnOk result ((records : List (List (List ℕ))) → left schema.now slice.now self.old number (fields_of fields.now ∷ records)
             ≡ left schema.now slice.now self.new (suc number) records) }
         ensures begun { OnOk result (self.new.begun ≤ number) }
@@ -50,7 +50,7 @@ impl Taken {
         Ok(())
     }
 
-    /// The rows, where every reply has ended.
+    /// The rows, if every reply has ended.
     pub(crate) fn into_rows(self) -> Result<Rows, Fault>
         ensures { result ≡ with_front self.rows (all_ended self.begun) }
     {

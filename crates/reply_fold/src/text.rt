@@ -1,4 +1,4 @@
-//! The text of a refusal, by what `cubetree` writes its replies with.
+//! The text of a refusal, written by the code that writes the replies of `cubetree`.
 ghost use Rattle.std.specs.Prelude.{◌≡◌, [], ◌∷◌, IfOk};
 ghost use Rattle.csv.specs.Writing.{default_writer, row_text};
 

@@ -23,12 +23,12 @@ use slice_lang::{SliceRefusal, read_slice};
 use std::alloc::Global;
 
 /// The reply of the whole to an input: the block of a schema, a line `end`, a line with the text of a slice, and the replies of the parts
-/// to it, one behind the other.
+/// to it, one after the other.
 pub fn fold_input(alloc: Global, input: &[u8]) -> Result<Text, Fault>
-    // Where the plain machine told the replies over parts, this is what it tells over all their facts.
+    // If the replies are those of the plain machine over the parts, this is its reply over all their facts.
     ensures whole { (schema : schemas.Schema) (parts : List (List facts.Fact)) → HasParts input.now schema parts
         → Answers result (Ok (reply_over schema (text_in input.now) (together parts))) }
-    // Whatever the input is.
+    // For any input.
     ensures exact { IsFold (said_in input.now) result }
 {
     fold_said(alloc, input)
@@ -70,7 +70,7 @@ fn read_schema(alloc: Global, block: &[u8]) -> Result<Schema, Fault>
     }
 }
 
-/// The slice of a text, or why it is none.
+/// The slice of a text, or why it is not a slice.
 fn read_asked(
     alloc: Global,
     schema: &Schema,
@@ -124,7 +124,7 @@ fn join(alloc: Global, replies: &Replies) -> Result<Text, Fault>
     }
 }
 
-/// The reply of rows, where their numbers add up.
+/// The reply for rows, if their numbers add up.
 fn join_rows(alloc: Global, slice: &Slice, rows: &Rows) -> Result<Text, Fault>
     requires { AreWide (Replies.Rows slice.now rows.now) }
     ensures { IsJoined (Replies.Rows slice.now rows.now) result }

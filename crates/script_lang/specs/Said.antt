@@ -15,11 +15,11 @@ use Rattle.script_lang.specs.declared.said.Said.TheVariants.{Nothing, Opens, Say
 abbrev pub is_text : List ℕ → List ℕ → Bool
 is_text text line = pointwise nat_eq line text
 
--- the number that decimal digits write, if the bytes are such and it is below 2 ^ 64
+-- the number in decimal digits, if the bytes are digits and it is below 2 ^ 64
 abbrev pub count_in : List ℕ → Option ℕ
 count_in bytes = cond (is_numeral bytes && nat_lt (digits_value 10 bytes) (2 ^ 64)) (Some (digits_value 10 bytes)) None
 
--- a numbered block begins where there is a number, and it is not 0
+-- a numbered block begins if there is a number and it is not 0
 abbrev pub load_in : Option ℕ → Said
 load_in None = Says says.Unknown
 load_in (Some n) = cond (n == 0) (Says says.Unknown) (Opens (opens.Numbered n))
@@ -36,11 +36,11 @@ generate_in (Some start) (Some rows) = says.Generate start rows
 abbrev pub is_space : ℕ → Bool
 is_space byte = byte == 32
 
--- a level has a name and the name of an attribute, two words that are not empty
+-- a level has a name and the name of an attribute: two words, neither of which is empty
 abbrev pub level_in : List ℕ → List ℕ → Said
 level_in name attr = cond (length name == 0 || (length attr == 0 || list_any is_space attr)) (Says says.Unknown) (Opens (opens.Level name attr))
 
--- what a line says that is not one word alone
+-- what a line says if it is not one of the one-word commands
 abbrev pub said_with : List ℕ → Said
 said_with line =
     cond (starts_with nat_eq line (codes "load ")) (load_in (count_in (drop 5 line)))

@@ -1,4 +1,4 @@
--- A script as a list of commands: its bytes are cut into lines, and the lines are read as commands and blocks.
+-- A script as a list of commands: its bytes are split into lines, and the lines are read as commands and blocks.
 use Rattle.std.specs.Prelude.{ℕ, Bool, true, false, cond, List, [], ◌∷◌, ◌++◌, ◌==◌, length, nat_lt, ◌≤◌, Option, Some, None, option_to_list, is_some}
 use Rattle.script_lang.specs.declared.command.Block.{Block}
 use Rattle.script_lang.specs.declared.command.Block.TheVariants.{Whole, Long}
@@ -14,7 +14,7 @@ use Rattle.script_lang.specs.Said.{said_by, is_end}
 abbrev pub Line : Type 0
 Line = List ℕ
 
--- the lines, where one has begun; at the end of the script the bytes after the last line feed are a line, if there are any
+-- the lines, after one has begun; at the end of the script, any bytes after the last line feed are a line
 abbrev pub lines_from : Bool → Line → List ℕ → List Line
 lines_from over line [] = cond over (cond (length line == 0) [] (line ∷ [])) []
 lines_from over line (b ∷ bs) = cond (b == 10) (line ∷ lines_from over [] bs) (lines_from over (line ++ b ∷ []) bs)
@@ -47,7 +47,7 @@ command_with (opens.Level name attr) block = says.Level name attr block
 abbrev pub ended : Begun → Command
 ended block = command_with block.what block.content
 
--- the command of a line between two blocks, if it is one, and the block that is open after it
+-- the command of a line between two blocks, if there is one, and the block that is open after it
 abbrev pub after_saying : Said → Option Command × Option Begun
 after_saying Nothing = (None, None)
 after_saying (Opens what) = (None, Some (empty_block what))
@@ -59,11 +59,11 @@ after_line None line = after_saying (said_by line)
 after_line (Some block) line =
     cond (is_end line) (Some (ended block), None) (None, Some (record { what = block.what; content = with_line block.content line }))
 
--- what a block gives that is open at the end of the script
+-- the commands of a block that is open at the end of the script
 abbrev pub at_end : Bool → Option Begun → List Command
 at_end over block = cond over (cond (is_some block) (says.OpenBlock ∷ []) []) []
 
--- the commands of these lines, where a block may be open
+-- the commands of these lines, with a block that may be open
 abbrev pub commands_in : Bool → Option Begun → List Line → List Command
 commands_in over block [] = at_end over block
 commands_in over block (line ∷ lines) = option_to_list (after_line block line).0 ++ commands_in over (after_line block line).1 lines
@@ -72,16 +72,16 @@ commands_in over block (line ∷ lines) = option_to_list (after_line block line)
 abbrev pub commands : List ℕ → List Command
 commands bytes = commands_in true None (lines_from true [] bytes)
 
--- the commands that are whole in the first bytes of a script, whatever follows
+-- the commands that are whole in the first bytes of a script, for any bytes that follow
 abbrev pub whole : List ℕ → List Command
 whole bytes = commands_in false None (lines_from false [] bytes)
 
--- a block that is whole keeps the limit
+-- a whole block is within the limit
 abbrev pub IsWithin : Block → Type 0
 IsWithin (Whole bytes) = length bytes ≤ 67108864
 IsWithin Long = Unit {0}
 
--- the command's block, if it has one, keeps the limit
+-- the command's block, if it has one, is within the limit
 abbrev pub KeepsLimit : Command → Type 0
 KeepsLimit (says.Schema block) = IsWithin block
 KeepsLimit (says.Load block) = IsWithin block
@@ -103,7 +103,7 @@ KeepsLimit says.Unknown = Unit {0}
 KeepsLimit says.LongLine = Unit {0}
 KeepsLimit says.OpenBlock = Unit {0}
 
--- the command that a line says, if it says one, keeps the limit
+-- the command of a line, if there is one, is within the limit
 abbrev pub SaysNoBlock : Said → Type 0
 SaysNoBlock Nothing = Unit {0}
 SaysNoBlock (Opens what) = Unit {0}

@@ -1,4 +1,4 @@
-//! Counts, which are written without a sign.
+//! Counts, written without a sign.
 ghost use Rattle.std.specs.Prelude.{◌≡◌};
 ghost use Rattle.std.specs.List.{list_all};
 ghost use Rattle.std.specs.Char.{is_ascii_digit};

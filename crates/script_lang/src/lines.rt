@@ -12,14 +12,14 @@ use std::alloc::Global;
 use std::marker::Model;
 use std::mem;
 
-/// A script that is fed in pieces, and gives its commands one after the other. Each byte is looked at once, except after want
-/// of memory. Of a line or a block that is too long no more is kept than tells so.
+/// A script that is fed in pieces and returns its commands one after the other. Each byte is read once, unless memory runs
+/// out. Of a line or a block that is too long, it keeps only enough to know that.
 #[derive(Drop)]
 pub struct Lines {
     alloc: Global,
     over: bool,
     reader: Reader,
-    // The buffer of what was fed last. Of its bytes those before `end` count, and of these those before `at` are read.
+    // The buffer that was fed last. Its bytes before `end` count; those before `at` have been read.
     fed: Vec<u8>,
     at: usize,
     end: usize,
@@ -36,7 +36,7 @@ impl Model for Lines {
 }
 
 impl Lines {
-    /// Nothing is read. It takes no memory.
+    /// A script with nothing read. Does not allocate.
     pub fn new(alloc: Global) -> Lines
         ensures { result ≡ nothing_read }
     {
@@ -50,7 +50,7 @@ impl Lines {
         }
     }
 
-    /// Appends bytes of the script. After `Memory` nothing is appended, and all is as before.
+    /// Appends bytes of the script. After `Memory` nothing is appended, and nothing has changed.
     pub fn feed(&mut self, piece: &[u8]) -> Result<(), Memory>
         requires { self.old.over ≡ false }
         ensures ok { OnOk result (self.new ≡ with_more self.old piece.now) }
@@ -63,7 +63,7 @@ impl Lines {
         Ok(())
     }
 
-    /// Begins at the front of the buffer again, where all that counts is read.
+    /// Goes back to the start of the buffer once all bytes that count have been read.
     fn forget_read(&mut self)
         ensures { self.new ≡ self.old }
     {
@@ -73,8 +73,8 @@ impl Lines {
         }
     }
 
-    /// Appends the first so many bytes of a buffer, as `feed` does, but keeps the buffer itself and copies none of its bytes. It
-    /// takes no memory.
+    /// Appends the first `count` bytes of a buffer, like `feed`, but keeps the buffer itself and copies no bytes. Does not
+    /// allocate.
     pub fn take_over(&mut self, buffer: Vec<u8>, count: usize)
         requires goes_on { self.old.over ≡ false }
         requires read { self.old.rest ≡ [] }
@@ -86,8 +86,8 @@ impl Lines {
         self.end = count;
     }
 
-    /// Gives back the buffer that was taken over or fed last, so that the next piece needs no other; an empty one where there is
-    /// none. It takes no memory.
+    /// Returns the buffer that was taken over or fed last, so that the next piece can reuse it, or an empty one if there is
+    /// none. Does not allocate.
     pub fn give_back(&mut self) -> Vec<u8>
         requires read { self.old.rest ≡ [] }
         ensures { self.new ≡ self.old }
@@ -97,15 +97,15 @@ impl Lines {
         mem::replace(&mut self.fed, Vec::new(self.alloc))
     }
 
-    /// Tells that the script is over. It takes no memory.
+    /// Marks the end of the script. Does not allocate.
     pub fn end(&mut self)
         ensures { self.new ≡ record { over = true; place = self.old.place; rest = self.old.rest } }
     {
         self.over = true;
     }
 
-    /// Gives the next command. It is None exactly where the bytes fed hold no further whole command. After `Memory` no
-    /// command is lost, and the same are still to come.
+    /// Returns the next command. None exactly if the bytes fed hold no further whole command. After `Memory` no
+    /// command is lost: the same commands are still to come.
     pub fn next_command(&mut self) -> Result<Option<Command>, Memory>
         ensures over { self.new.over ≡ self.old.over }
         ensures given { IfOk result (Gives self.old self.new) }
@@ -132,7 +132,7 @@ impl Lines {
         }
     }
 
-    /// Whether all that was fed is read.
+    /// Whether everything that was fed has been read.
     fn is_read(&self) -> bool
         ensures { result ≡ (length self.now.rest == 0) }
     {
@@ -165,7 +165,7 @@ impl Lines {
         Ok(command)
     }
 
-    /// Gives the commands after the last line feed, one at a time.
+    /// Returns the commands after the last line feed, one at a time.
     fn last_command(&mut self) -> Result<Option<Command>, Memory>
         requires over { self.old.over ≡ true }
         requires read { self.old.rest ≡ [] }

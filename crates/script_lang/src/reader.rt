@@ -1,4 +1,4 @@
-//! The block that is open, and the line that has begun.
+//! The open block, and the line that has begun.
 ghost use Rattle.std.specs.Prelude.{◌≡◌, ◌++◌, ◌==◌, [], IfOk, IfSome, OnOk, OnErr, is_some, length, take, None};
 ghost use Rattle.script_lang.specs.Script.{after_line, after_saying, command_with, KeepsLimit, IsWithin, SaysNoBlock};
 ghost use Rattle.script_lang.specs.Place.{block_in, most, IsShort};
@@ -12,10 +12,10 @@ use std::alloc::Global;
 use std::marker::Model;
 use std::mem;
 
-/// The greatest number of bytes of a block.
+/// The greatest length of a block, in bytes.
 const LONGEST_BLOCK: usize = 67_108_864;
 
-/// The number of bytes of the least line that ends no block, whatever its bytes are.
+/// A line of at least this many bytes ends no block.
 const ENDS_NO_BLOCK: usize = 5;
 
 /// Which block is open.
@@ -26,12 +26,12 @@ pub enum Inside {
     LongBlock(Opening),
 }
 
-/// Where in a script the reading stands.
+/// The current place in a script.
 #[derive(Drop)]
 pub struct Reader {
     inside: Inside,
-    // The whole lines of the block, unless they are too long, and from `start` on the line that has begun. With one buffer
-    // for both, the end of a line takes one step that can fail.
+    // The whole lines of the block, unless it is too long; from `start` on, the line that has begun. With one buffer for
+    // both, only one step at the end of a line can fail.
     text: Vec<u8>,
     start: usize,
 }
@@ -58,7 +58,7 @@ impl Reader {
         }
     }
 
-    /// Appends bytes to the line. Of a line that is too long no more is kept than tells so, whatever its length.
+    /// Appends bytes to the line. Of a line that is too long, it keeps only enough to know that.
     pub fn extend(&mut self, bytes: &[u8]) -> Result<(), Memory>
         ensures ok { OnOk result (GoesOnAs self.new (record { block = self.old.block; line = self.old.line ++ bytes.now })) }
         ensures short { IsShort self.new }
@@ -75,7 +75,7 @@ impl Reader {
         self.start == self.text.len()
     }
 
-    /// Ends the line, and gives the command that ends with it.
+    /// Ends the line, and returns the command that ends with it.
     pub fn end_line(&mut self, alloc: Global) -> Result<Option<Command>, Memory>
         ensures command { IfOk result (λ command. command ≡ (after_line self.old.block self.old.line).0) }
         ensures fits { IfOk result (λ command. IfSome command KeepsLimit) }
@@ -122,7 +122,7 @@ impl Reader {
         }
     }
 
-    /// Drops the block that is open at the end of the script, and tells whether there was one.
+    /// Discards the block that is open at the end of the script, and returns whether there was one.
     pub fn drop_block(&mut self) -> bool
         ensures was { result ≡ is_some self.old.block }
         ensures after { self.new ≡ record { block = None; line = [] } }
@@ -135,7 +135,7 @@ impl Reader {
     }
 }
 
-/// How many bytes are kept at most. Where they are so many, the line is too long for a command, or with it its block is too long.
+/// The most bytes that are kept. With this many bytes the line is too long for a command, or it makes its block too long.
 fn most(inside: &Inside) -> usize
     ensures { result ≡ most (block_in inside.now 0 []) }
 {
@@ -146,7 +146,7 @@ fn most(inside: &Inside) -> usize
     }
 }
 
-/// The command that a line says, and which block is open after it.
+/// The command of a line, and the block that is open after it.
 fn follow(said: Said) -> (Option<Command>, Inside)
     requires { SaysNoBlock said }
     ensures follows { (result.0, block_in result.1 0 []) ≡ after_saying said }
@@ -159,7 +159,7 @@ fn follow(said: Said) -> (Option<Command>, Inside)
     }
 }
 
-/// Takes the front of a buffer, and leaves an empty one.
+/// Takes the first `count` bytes of a buffer, and leaves it empty.
 fn take_front(alloc: Global, buffer: &mut Vec<u8>, count: usize) -> Text
     ensures taken { result ≡ take count buffer.old.items }
     ensures after { buffer.new.items ≡ [] }

@@ -10,7 +10,7 @@ use fact_model::bytes::{after, cut_at, without_return};
 use fact_model::{Memory, Text};
 use std::alloc::Global;
 
-/// The greatest number of bytes of a line between two blocks, with its carriage return.
+/// The greatest length of a line between two blocks, in bytes, with its carriage return.
 pub const LONGEST_LINE: usize = 65_536;
 
 /// What a block is for.
@@ -21,7 +21,7 @@ pub enum Opening {
     /// A load with this number.
     Numbered(u64),
     Begin,
-    /// The level of this name, over the attribute of this name.
+    /// The level `name`, over the attribute `attr`.
     Level { name: Text, attr: Text },
 }
 
@@ -86,7 +86,7 @@ fn said_in(alloc: Global, line: &[u8]) -> Result<Said, Memory>
     said_with(alloc, line)
 }
 
-/// What a line says that is not one word alone.
+/// What a line says if it is not one of the one-word commands.
 fn said_with(alloc: Global, line: &[u8]) -> Result<Said, Memory>
     ensures said { IfOk result (λ said. said ≡ said_with line.now) }
     ensures fits { IfOk result SaysNoBlock }
@@ -133,7 +133,7 @@ fn load(number: &[u8]) -> Said
     }
 }
 
-/// What `level` with these words says, which are two.
+/// What `level` with these words says. There must be two.
 fn level(alloc: Global, words: &[u8]) -> Result<Said, Memory>
     ensures said { IfOk result (λ said. said ≡ level_in (before_first is_space words.now) (after_first is_space words.now)) }
     ensures fits { IfOk result SaysNoBlock }
@@ -177,7 +177,7 @@ fn is_text(text: &str, line: &[u8]) -> bool
 {
     let text = text.as_bytes();
     match (line, text) {
-        // Most texts differ in their first two bytes, which cost less to look at than a call.
+        // Most texts differ in their first two bytes, and comparing those is cheaper than a call.
         ([first, second, ..], [one, other, ..]) if first != one || second != other => false,
         _ => line == text,
     }

@@ -1,9 +1,9 @@
--- What calls on files leave alone, beside what they are for. `has_cause` is `HasCause`, or `HasCauseWhere` with the error that is a fault.
+-- What calls on files leave unchanged, apart from their effect. `has_cause` is `HasCause`, or `HasCauseWhere` with the error that is a fault.
 use Rattle.std.specs.Prelude.{◌≡◌, ℕ, ◌+◌, ◌≤◌, IsTrue, Result}
 use Rattle.site_core.specs.Calls.{Rests}
 use Rattle.site_core.specs.declared.site.Site.{Ghosts}
 
--- calls that look at files: nothing is written or told and nothing changes, whatever the answer; at most so many reads
+-- calls that only read files: nothing is written, output or changed, successful or not; at most `most` reads
 pub record LooksOnly {S A E : Type 0} (T : Ghosts S) (has_cause : ℕ → ℕ → Result A E → Type 0) (most : ℕ) (old new : S) (result : Result A E) : Type 0 where
   pub disk : IsTrue T.tells → Rests (T.disk old) (T.disk new)
   pub cause : has_cause (T.disk_faults old) (T.disk_faults new) result
@@ -11,28 +11,28 @@ pub record LooksOnly {S A E : Type 0} (T : Ghosts S) (has_cause : ℕ → ℕ �
   pub reads : T.reads new ≤ T.reads old + most
   pub writes : T.writes new ≡ T.writes old
 
--- the same of calls whose reads are bounded elsewhere
+-- the same for calls whose reads are bounded elsewhere
 pub record Looks {S A E : Type 0} (T : Ghosts S) (has_cause : ℕ → ℕ → Result A E → Type 0) (old new : S) (result : Result A E) : Type 0 where
   pub disk : IsTrue T.tells → Rests (T.disk old) (T.disk new)
   pub cause : has_cause (T.disk_faults old) (T.disk_faults new) result
   pub told_faults : T.told_faults new ≡ T.told_faults old
   pub writes : T.writes new ≡ T.writes old
 
--- calls that write: the output is not asked, nothing is read, at most so many writes
+-- calls that write: no call on the output, no reads, at most `most` writes
 pub record WritesOnly {S A E : Type 0} (T : Ghosts S) (has_cause : ℕ → ℕ → Result A E → Type 0) (most : ℕ) (old new : S) (result : Result A E) : Type 0 where
   pub cause : has_cause (T.disk_faults old) (T.disk_faults new) result
   pub told_faults : T.told_faults new ≡ T.told_faults old
   pub reads : T.reads new ≡ T.reads old
   pub writes : T.writes new ≤ T.writes old + most
 
--- calls that read and write: the output is not asked, at most so many reads and writes
+-- calls that read and write: no call on the output, at most `most_reads` reads and `most_writes` writes
 pub record CallsOnly {S A E : Type 0} (T : Ghosts S) (has_cause : ℕ → ℕ → Result A E → Type 0) (most_reads most_writes : ℕ) (old new : S) (result : Result A E) : Type 0 where
   pub cause : has_cause (T.disk_faults old) (T.disk_faults new) result
   pub told_faults : T.told_faults new ≡ T.told_faults old
   pub reads : T.reads new ≤ T.reads old + most_reads
   pub writes : T.writes new ≤ T.writes old + most_writes
 
--- the same of calls whose writes are bounded elsewhere
+-- the same for calls whose writes are bounded elsewhere
 pub record Calls {S A E : Type 0} (T : Ghosts S) (has_cause : ℕ → ℕ → Result A E → Type 0) (most_reads : ℕ) (old new : S) (result : Result A E) : Type 0 where
   pub cause : has_cause (T.disk_faults old) (T.disk_faults new) result
   pub told_faults : T.told_faults new ≡ T.told_faults old

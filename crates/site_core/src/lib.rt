@@ -1,6 +1,6 @@
-//! The outside as every crate above sees it: four files and an output that may stop at any moment, and a source of bytes.
+//! The outside world as all higher crates see it: four files and an output that may stop at any moment, and a source of bytes.
 //!
-//! What a stop may leave is said of whole lists of bytes alone (`specs/Disk.antt`, `specs/Moments.antt`).
+//! What a stop may leave is specified only as whole lists of bytes (`specs/Disk.antt`, `specs/Moments.antt`).
 #![tactic(auto)]
 
 mod site;

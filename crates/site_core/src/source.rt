@@ -5,25 +5,25 @@ ghost use Rattle.site_core.specs.Pull.{Gives, MeetsEnd};
 
 use crate::Fault;
 
-/// Bytes that are given in pieces, from first to last.
+/// Bytes in pieces, from first to last.
 pub trait Source {
-    /// Whether it tells its bytes. Where it does not, a clause on content says nothing; bounds and counts always hold.
+    /// Whether the source reports its bytes. If it does not, clauses about content say nothing; bounds and counts always hold.
     ghost tells: { Bool };
 
-    /// The bytes that are left.
+    /// The remaining bytes.
     ghost left: { Self → List ℕ };
 
-    /// How often a pull has failed. The count never falls, and stands still at the end of a `u64`.
+    /// The number of failed pulls. It never falls, and it stops at the greatest `u64`.
     ghost faults: { Self → ℕ };
 
-    /// How many pulls were asked for.
+    /// The number of pulls requested.
     ghost pulls: { Self → ℕ };
 
-    /// How many pulls have met the end.
+    /// The number of pulls that met the end.
     ghost ends: { Self → ℕ };
 
-    /// Fills the front of `into` and answers the number of bytes: at least one, or zero at the end of the source.
-    /// A pull that fails takes nothing.
+    /// Fills the front of `into` and returns the number of bytes: at least one, or zero at the end of the source.
+    /// A failed pull takes nothing.
     fn pull(&mut self, into: &mut [u8]) -> Result<usize, Fault>
         requires { 0 < length into.old }
         ensures bound { IfOk result (λ count. count ≤ length into.new) }

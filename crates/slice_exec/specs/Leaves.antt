@@ -1,4 +1,4 @@
--- The leaves that a slice costs over accepted facts, where it binds the last attribute of its view alone.
+-- The leaves that a slice visits over accepted facts, if it binds only the last attribute of its view.
 use Rattle.std.specs.Prelude.{◌≡◌, ◌≤◌, ◌==◌, ℕ, suc, true, List, [], get_or, length}
 use Rattle.std.specs.List.{AllByRecursion}
 use Rattle.cube_schema.specs.Kinds.{measure_count}
@@ -20,19 +20,19 @@ pub record BindsLast (view : View) (conds : List Cond) : Type 0 where
   pub long : length view ≡ suc last
   pub only : AllByRecursion (λ c. (attr_of c == get_or view last 0) ≡ true) conds
 
--- the leaves among the pages that the search goes to in the forest of these facts in this format
+-- the leaves among the pages that the search visits in the forest of these facts in this format
 abbrev pub leaf_visits : ℕ → Schema → List Fact → Slice → ℕ → List ℕ
 leaf_visits format schema facts s view = leaves_among (tree_over format schema facts view) (forest format schema facts) (visits_over format schema facts s view)
 
--- the points of the view over these facts that meet the conditions
+-- the number of points of the view over these facts that meet the conditions
 abbrev pub points_met : Schema → List Fact → Slice → ℕ → ℕ
 points_met schema facts s view = length (matching (measure_count schema) (get_or schema.views view []) s.conds facts)
 
--- how many points a leaf of the view holds
+-- the number of points that a leaf of the view holds
 abbrev pub leaf_capacity : ℕ → Schema → List Fact → ℕ → ℕ
 leaf_capacity format schema facts view = room_of (tree_over format schema facts view).shape (length (get_or schema.views view []))
 
--- where the last attribute of the view alone is bound, the leaves are few for the points that meet the conditions
+-- if only the last attribute of the view is bound, the leaves are few for the points that meet the conditions
 abbrev pub HasFewLeaves : ℕ → Schema → List Fact → Slice → ℕ → Type 0
 HasFewLeaves format schema facts s view =
     BindsLast (get_or schema.views view []) s.conds → length (leaf_visits format schema facts s view) ≤ most_leaves (points_met schema facts s view) (leaf_capacity format schema facts view)

@@ -1,4 +1,4 @@
--- What a search for a slice asks of a site and makes of kept pages.
+-- What a search for a slice asks of a site, and what it does to the cache.
 use Rattle.std.specs.Prelude.{◌≡◌, ◌≤◌, ◌+◌, ◌%◌, ℕ, IsTrue, IfErr, OnOk, List, Result, length}
 use Rattle.std.specs.Result.{IsErrOf}
 use Rattle.site_core.specs.Causes.{HasCauseWhere}
@@ -12,16 +12,16 @@ use Rattle.slice_exec.specs.Answers.{NamesSide, tree_of_view, visits_of}
 use Rattle.slice_exec.specs.declared.stop.AnswerStop.{AnswerStop}
 use Rattle.slice_exec.specs.declared.stop.AnswerStop.TheVariants as stops
 
--- a search that goes to these pages of a file, in a tree of so many; `fault` tells of a call that failed
+-- a search that visits these pages of a file; it makes at most `most` reads, and `fault` is the error of a failed call
 pub record Searches {S A E : Type 0} (T : Ghosts S) (fault : E) (file : ℕ) (numbers : List ℕ) (most : ℕ) (old new : S) (pages kept : Cache) (result : Result A E) : Type 0 where
-  -- each of these pages is read once at most
+  -- each of these pages is read at most once
   pub visits : IsTrue T.tells → Agrees (T.disk old).files pages → T.reads new ≤ T.reads old + length numbers
-  -- and none that was kept, where there is room to keep them all
+  -- no cached page is read, if there is room for all these pages
   pub saves : IsTrue T.tells → Agrees (T.disk old).files pages → HasRoom pages file numbers → T.reads new ≤ T.reads old + length (unkept pages file numbers)
-  -- where they are kept from then on
+  -- and then all of them are cached afterwards
   pub keeps : IsTrue T.tells → Agrees (T.disk old).files pages → HasRoom pages file numbers → OnOk result (Keeps pages kept file numbers)
   pub agrees : IsTrue T.tells → Agrees (T.disk old).files pages → Agrees (T.disk new).files kept
-  -- no page of another file is kept
+  -- no page of another file is cached
   pub lies : LiesIn file pages → LiesIn file kept
   pub capacity : kept.capacity ≡ pages.capacity
   pub looks : LooksOnly T (HasCauseWhere fault) most old new result
@@ -30,5 +30,5 @@ pub record Searches {S A E : Type 0} (T : Ghosts S) (fault : E) (file : ℕ) (nu
 pub record SearchesView {S A : Type 0} (T : Ghosts S) (store : Store) (s : Slice) (view : ℕ) (old new : S) (pages kept : Cache) (result : Result A AnswerStop) : Type 0 where
   pub tree : Searches T stops.Disk (2 + store.forest.body.generation % 2) (visits_of store s view (T.disk old).files) (tree_of_view store view).pages old new pages kept result
   pub place : IfErr result (NamesSide store.forest.body)
-  -- a view was there
+  -- a view covered the slice
   pub covered : IsErrOf result stops.NotCovered → ⊥

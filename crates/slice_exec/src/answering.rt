@@ -1,4 +1,4 @@
-//! The rows of a slice, from the view that it is answered from.
+//! The rows of a slice, from the view that answers it.
 ghost use Rattle.std.specs.Prelude.{◌≡◌, ℕ, IsTrue, IfOk, IfErr, List};
 ghost use Rattle.std.specs.List.{All};
 ghost use Rattle.fact_model.specs.declared.fact.Fact as facts;
@@ -23,11 +23,11 @@ use view_route::route;
 use view_rows::{Groups, RowsStop, SliceRows};
 
 /// The rows of a slice: one for each group of the accepted facts that meet its conditions, ascending by key. They are made from the
-/// points of a covering view with fewest points, and of its tree only those pages are read whose boxes meet the conditions, and that are
-/// not kept. Nothing is changed in the files, also after an error; kept pages that are as a read gives them stay so.
+/// points of a covering view with the fewest points. Of its tree, only pages whose boxes meet the conditions and that are not cached are
+/// read. Nothing changes in the files, even after an error; cached pages that are as a read gives them stay so.
 ///
-/// `NotCovered` comes exactly where no view has all grouped and bound attributes. `Damaged` names a page of the live side, or its
-/// offset 0 where a point has a coordinate without a value or cells do not join.
+/// `NotCovered` is returned exactly if no view has all grouped and bound attributes. `Damaged` names a page of the live side, or
+/// its offset 0 if a point has a coordinate without a value or cells do not join.
 pub fn answer<'a, T: Site>(
     alloc: Global,
     site: &mut T,
@@ -46,7 +46,7 @@ pub fn answer<'a, T: Site>(
     }
 }
 
-/// The same from this view, which has all grouped and bound attributes. It never answers `NotCovered`.
+/// The same from this view, which has all grouped and bound attributes. It never returns `NotCovered`.
 pub fn answer_from<'a, T: Site>(
     alloc: Global,
     site: &mut T,
@@ -65,7 +65,7 @@ pub fn answer_from<'a, T: Site>(
         → (accepted : List facts.Fact) → IsStoreOf store.now accepted (T.disk site.old).files
         → IfErr result IsNoDamage }
 
-    // Whatever the files hold.
+    // For any files.
     ensures judged { IsTrue T.tells → Agrees (T.disk site.old).files pages.old → IsJudged store.now slice.now view (T.disk site.old).files result }
     ensures form { IfOk result (All (HasForm store.now.dicts slice.now)) }
     ensures search { SearchesView T.Site store.now slice.now view site.old site.new pages.old pages.new result }
@@ -79,8 +79,8 @@ pub fn answer_from<'a, T: Site>(
     )
 }
 
-/// The rows, or why there are none: where they are not those of facts the live side is not what the warehouse writes, at no page that can
-/// be named.
+/// The rows, or why there are none. If they are not rows of facts, the live side is not what the warehouse writes, but no page can be
+/// named: the damage is reported at its offset 0.
 fn told<'a>(
     rows: Result<SliceRows<'a>, RowsStop>,
     forest: &Forest,

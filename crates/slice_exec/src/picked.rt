@@ -13,7 +13,7 @@ use site_core::Site;
 use std::alloc::Global;
 use view_rows::SliceRows;
 
-/// What `answer` gives, from another view: of the covering views with fewest points one of which most last attributes are bound by
+/// Like `answer`, but from another view: of the covering views with the fewest points, one with the most last attributes bound by
 /// equalities.
 pub fn answer_picked<'a, T: Site>(
     alloc: Global,

@@ -1,4 +1,4 @@
--- What the files of a warehouse hold of a list of facts.
+-- What the files of a warehouse hold for a list of facts.
 use Rattle.std.specs.Prelude.{ℕ, ◌≤◌, ◌<◌, Bool, true, cond, List, [], ◌∷◌, ◌++◌, length, map, nat_le}
 use Rattle.std.specs.List.{All, list_all}
 use Rattle.site_core.specs.Disk.{Files}
@@ -30,7 +30,7 @@ masses_of facts = map (λ m. mass m facts) (0 ∷ 1 ∷ 2 ∷ 3 ∷ [])
 abbrev pub HasNames : Schema → List Fact → Type 0
 HasNames schema facts = (a : ℕ) → length (names_of facts a) ≤ max_at schema a
 
--- facts that the schema accepts: they agree with it, and keep its limits
+-- facts that the schema accepts: they agree with it, and are within its limits
 pub record AreAccepted (schema : Schema) (facts : List Fact) : Type 0 where
   pub each : All (Agrees schema) facts
   pub few : length facts ≤ max_facts
@@ -41,28 +41,28 @@ pub record AreAccepted (schema : Schema) (facts : List Fact) : Type 0 where
 abbrev pub names_text : Schema → List Fact → List ℕ
 names_text schema facts = canonical schema ++ entries_text (names facts)
 
--- no number of the fact is above the greatest that coordinates of 32 bits tell
+-- no number of the fact is above the greatest that a 32-bit coordinate can express
 abbrev pub HasNarrowNumbers : Fact → Type 0
 HasNarrowNumbers x = HasNumbersWithin narrow_limit x
 
--- pages of this format may hold the facts: in format 1 no number is above the greatest that 32 bits tell
+-- pages of this format can hold the facts: in format 1 no number is above the greatest that 32 bits can express
 pub record FitsFormat (format : ℕ) (facts : List Fact) : Type 0 where
   pub narrow : format < wide_format → All HasNarrowNumbers facts
 
--- the value is a text, or a number that coordinates of 32 bits tell
+-- the value is a text, or a number that a 32-bit coordinate can express
 abbrev pub is_narrow : Value → Bool
 is_narrow (Word t) = true
 is_narrow (Number n) = nat_le n narrow_limit
 
--- all values of the facts are
+-- all values of the facts are narrow
 abbrev pub are_narrow : List Fact → Bool
 are_narrow facts = list_all (λ (x : Fact). list_all is_narrow x.values) facts
 
--- the format of the pages that take this batch in, where pages of this format stand
+-- the format of the pages after this batch is added to pages of this format
 abbrev pub format_for : ℕ → List Fact → ℕ
 format_for format facts = cond (are_narrow facts) format wide_format
 
--- what the files hold of these facts on pages of this format, where this is the number of the last numbered batch
+-- what the files hold for these facts, on pages of this format, where `last` is the number of the last numbered batch
 abbrev pub held : ℕ → Schema → List Fact → ℕ → Held
 held format schema facts last = record {
   format = format;
@@ -81,7 +81,7 @@ pub record KeepsAs (format : ℕ) (schema : Schema) (facts : List Fact) (last : 
   pub fits : FitsFormat format facts
   pub keeps : Keeps files (held format schema facts last)
 
--- in some format
+-- the files keep them in some format
 pub record KeepsFacts (schema : Schema) (facts : List Fact) (last : ℕ) (files : Files) : Type 0 where
   pub format : ℕ
   pub there : KeepsAs format schema facts last files

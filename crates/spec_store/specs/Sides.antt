@@ -1,4 +1,4 @@
--- The side of a body, and how many pages its trees have there.
+-- The side of a body, and the number of pages of its trees there.
 use Rattle.std.specs.Prelude.{ℕ, ◌+◌, ◌/◌, List, length}
 use Rattle.cube_schema.specs.declared.schema.Schema.{Schema}
 use Rattle.fact_model.specs.declared.fact.Fact.{Fact}
@@ -12,10 +12,10 @@ use Rattle.select_map.specs.Views.{selected}
 abbrev pub side_of : Body → ℕ
 side_of body = 2 + slot_of body
 
--- how many pages the trees of the schema have together
+-- the number of pages of all trees of the schema
 abbrev pub page_total : Body → Schema → ℕ
 page_total body schema = pages_of_all body.format schema body.counts (selected schema.views).trees
 
--- how many pages of this format the trees have over facts
+-- the number of pages of the trees over facts, in this format
 abbrev pub page_count : ℕ → Schema → List Fact → ℕ
 page_count format schema facts = length (forest format schema facts) / 4096

@@ -7,7 +7,7 @@ use Rattle.attr_dict.specs.Book.{names_at, shown_names}
 use Rattle.forest_root.specs.declared.forest.Store.{Store}
 use Rattle.spec_store.specs.Held.{AreAccepted, IsLive}
 
--- the files keep these facts, the store has their live body, and the names that slices know are theirs
+-- the files keep these facts, the store has their live body, and slices know exactly their names
 pub record IsStoreOf (store : Store) (facts : List Fact) (files : Files) : Type 0 where
   pub accepted : AreAccepted store.forest.schema facts
   pub live : IsLive store.forest.schema store.forest.body facts files

@@ -3,8 +3,7 @@
 use crate::trouble::Trouble;
 use crate::words::{Words, number};
 
-/// Appends a line with its line feed, or so many of it where it begins with `\repeat N `. A `\` at its end stands for no line
-/// feed.
+/// Appends a line with its line feed, or N such lines if it begins with `\repeat N `. A `\` at its end means no line feed.
 pub fn push_line(into: &mut Vec<u8>, line: &str) -> Result<(), Trouble> {
     let Some(rest) = line.strip_prefix("\\repeat ") else {
         return push_one(into, line, 0);
@@ -25,8 +24,8 @@ fn push_one(into: &mut Vec<u8>, line: &str, index: u64) -> Result<(), Trouble> {
     Ok(())
 }
 
-/// Appends the bytes of a text. `\n` and `\r` are a line feed and a carriage return, `\x5c` is the byte 92, `\<9 a>` nine times the
-/// letter a, and `\<+5>` the number that is five more than the index.
+/// Appends the bytes of a text. `\n` and `\r` are a line feed and a carriage return, `\x5c` is the byte 92, `\<9 a>` is nine times
+/// the letter a, and `\<+5>` is the index plus five.
 pub fn push_text(into: &mut Vec<u8>, text: &str, index: u64) -> Result<(), Trouble> {
     let mut is_escape = false;
     for part in text.split('\\') {
@@ -40,7 +39,7 @@ pub fn push_text(into: &mut Vec<u8>, text: &str, index: u64) -> Result<(), Troub
     Ok(())
 }
 
-// An escape, and the plain text behind it.
+// Appends an escape, and the plain text after it.
 fn push_escape(into: &mut Vec<u8>, escape: &str, index: u64) -> Result<(), Trouble> {
     let rest = if let Some(rest) = escape.strip_prefix('n') {
         into.push(b'\n')?;
@@ -60,7 +59,7 @@ fn push_escape(into: &mut Vec<u8>, escape: &str, index: u64) -> Result<(), Troub
     Ok(())
 }
 
-// The byte of two digits, which are taken off the text.
+// Appends the byte of two hexadecimal digits, and returns the rest of the text.
 fn push_hex<'a>(into: &mut Vec<u8>, text: &'a str) -> Result<&'a str, Trouble> {
     let (digits, rest) = text.split_at_checked(2).ok_or(Trouble::Unclear)?;
     match u8::from_str_radix(digits, 16) {
@@ -70,7 +69,7 @@ fn push_hex<'a>(into: &mut Vec<u8>, text: &'a str) -> Result<&'a str, Trouble> {
     Ok(rest)
 }
 
-// So many times a letter, or a `+` and a number that is added to the index.
+// Appends a letter a number of times, or, after a `+`, the sum of a number and the index.
 fn push_filling(into: &mut Vec<u8>, filling: &str, index: u64) -> Result<(), Trouble> {
     if let Some(first) = filling.strip_prefix('+') {
         let sum = number(first)?.saturating_add(index);

@@ -7,7 +7,7 @@ use crate::program::Program;
 use crate::scene::Scene;
 use crate::trouble::Trouble;
 
-// The letter of what a look tells with this byte at a place of a file.
+// The letter for the result of a look, with this byte at one place of a file.
 fn look_with<P: Program>(
     scene: &Scene<P>,
     endings: &mut Endings<'_, P>,
@@ -25,7 +25,7 @@ fn look_with<P: Program>(
     Ok(text)
 }
 
-/// Looks at the files with each byte at one place.
+/// Looks at the files with each possible byte at one place.
 pub fn each_byte<P: Program>(
     scene: &Scene<P>,
     file: u32,
@@ -42,7 +42,7 @@ pub fn each_byte<P: Program>(
     rows.print(out)
 }
 
-/// Looks at the files with one more in each byte in turn, from a place on to another.
+/// Looks at the files with one byte increased by one, for each place from `first` to `last`.
 pub fn each_place<P: Program>(
     scene: &Scene<P>,
     file: u32,

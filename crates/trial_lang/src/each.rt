@@ -1,4 +1,4 @@
-//! Runs in which one thing after the other fails, and stops of one run.
+//! Runs in which each call or pull in turn fails, and stops of one run.
 
 use crate::endings::{Endings, letter};
 use crate::print::push_ended;
@@ -10,14 +10,14 @@ use crate::trouble::Trouble;
 use site_mem::MemorySite;
 use std::alloc::{AllocError, Global};
 
-/// What is another in each run.
+/// What differs in each run.
 #[derive(Clone, Copy)]
 pub enum Kind {
     /// The call that fails.
     Fault,
     /// The pull that fails.
     Pull,
-    /// The length of the pieces in which the script comes.
+    /// The length of the pieces of the script.
     Piece,
 }
 
@@ -30,7 +30,7 @@ impl Kind {
         }
     }
 
-    // The first number and the last, by the calls of the whole run and the bytes of its script.
+    // The first and the last number, by the calls of the whole run and the bytes of its script.
     fn range(self, calls: usize, bytes: usize) -> (usize, usize) {
         match self {
             Kind::Fault => (0, calls),
@@ -40,8 +40,8 @@ impl Kind {
     }
 }
 
-/// Runs the script once for each number, and prints how the run ended, what it told of the lines of the whole run, and after faults
-/// of calls what a stop then may leave.
+/// Runs the script once for each number. Prints how the run ended, how many lines of the whole run it output and, if a call failed,
+/// what a stop then may leave.
 pub fn each<P: Program>(
     scene: &Scene<P>,
     kind: Kind,
@@ -71,7 +71,7 @@ fn add_runs<P: Program>(
     Ok(())
 }
 
-// How a run ended, what it told, and what a stop then may leave where it is asked for.
+// How a run ended, what it output and, if a call failed, what a stop then may leave.
 fn run_text<P: Program>(
     scene: &Scene<P>,
     kind: Kind,
@@ -88,7 +88,7 @@ fn run_text<P: Program>(
     Ok(text)
 }
 
-/// Runs the script once, and prints of a stop before each of its calls how many lines were told by then, and what it may leave.
+/// Runs the script once. For a stop before each of its calls, prints how many lines were output by then, and what the stop may leave.
 pub fn each_stop<P: Program>(
     scene: &Scene<P>,
     request: &Request,
@@ -113,7 +113,7 @@ fn add_stops<P: Program>(
     Ok(())
 }
 
-// What was told before a call, and what a stop then may leave.
+// What was output before a call, and what a stop then may leave.
 fn stop_text<P: Program>(
     alloc: Global,
     whole: &MemorySite,
@@ -133,7 +133,7 @@ fn push_run(text: &mut String, ended: Ended, told: &[u8], whole: &[u8]) -> Resul
     push_told(text, told, whole)
 }
 
-// How many lines were told, whether they are others than those of the whole run, and whether the last has no end.
+// How many lines were output, whether they differ from those of the whole run, and whether the last is incomplete.
 fn push_told(text: &mut String, told: &[u8], whole: &[u8]) -> Result<(), AllocError> {
     let lines = told.iter().filter(|byte| **byte == b'\n').count();
     write!(text, "told {lines}")?;
@@ -146,7 +146,7 @@ fn push_told(text: &mut String, told: &[u8], whole: &[u8]) -> Result<(), AllocEr
     Ok(())
 }
 
-// The letters of what a stop now may leave: of the images 0 to 3, and of the images 4 to 9 those that are none of these.
+// The letters of what a stop now may leave: those of the images 0 to 3, and those of the images 4 to 9 that are new.
 fn push_images<P: Program>(
     text: &mut String,
     endings: &mut Endings<'_, P>,

@@ -1,4 +1,4 @@
-//! What looks at files tell, each named by a letter.
+//! The results of looks at files, each named by a letter.
 
 use crate::print::{push_ended, push_joined};
 use crate::program::{Ended, Program};
@@ -8,14 +8,14 @@ use fact_model::Text;
 use site_mem::{MemorySite, SureSite, SureSource};
 use std::alloc::{AllocError, Global};
 
-/// How a look ended and what it told.
+/// How a look ended, and what it output.
 #[derive(Drop)]
 struct Ending {
     ended: Ended,
     told: Vec<u8>,
 }
 
-/// The program and the script of the looks, and their endings in the order of their first appearance.
+/// The program and the script of the looks, and their endings in order of first appearance.
 #[derive(Drop)]
 pub struct Endings<'a, P: Program> {
     program: &'a P,
@@ -25,7 +25,7 @@ pub struct Endings<'a, P: Program> {
 }
 
 impl<'a, P: Program> Endings<'a, P> {
-    /// None yet.
+    /// No endings yet.
     pub fn new(program: &'a P, alloc: Global, look: &'a [u8]) -> Endings<'a, P> {
         Endings {
             program,
@@ -35,23 +35,23 @@ impl<'a, P: Program> Endings<'a, P> {
         }
     }
 
-    /// Where its memory comes from.
+    /// The allocator.
     pub fn alloc(&self) -> Global {
         self.alloc
     }
 
-    /// The number of what a look at these files tells.
+    /// The number of the result of a look at these files.
     pub fn look(&mut self, files: [Text; 4]) -> Result<usize, Trouble> {
         let alloc = self.alloc;
         let mut site = SureSite::new(alloc, files);
         let mut source = SureSource::new(Text::from_bytes(alloc, self.look)?, 65_536);
-        // A run makes a buffer for what its limit lets come, so the limit is the look's own length.
+        // A run allocates a buffer for all bytes within its limit, so the limit is the length of the look.
         let limit = (self.look.len() as u64).min(MOST);
         let ended = self.program.look(alloc, &mut source, &mut site, limit);
         self.number(ended, site.told())
     }
 
-    /// The number of what a look at one image of a site tells.
+    /// The number of the result of a look at one image of a site.
     pub fn look_at(&mut self, site: &MemorySite, choice: u64) -> Result<usize, Trouble> {
         self.look(site.image(self.alloc, choice)?)
     }
@@ -90,7 +90,7 @@ impl Ending {
     }
 }
 
-/// The letter of a number. There are letters for 26.
+/// The letter of a number. There are 26 letters; all numbers above 25 have the last.
 pub fn letter(number: usize) -> char {
     match b'a'.checked_add(number.min(25) as u8) {
         Some(byte) => char::from(byte),

@@ -1,4 +1,4 @@
-//! Files that are changed by hand.
+//! Files that a trial edits.
 ghost use Rattle.std.specs.Prelude.{◌<◌};
 
 use crate::trouble::Trouble;
@@ -6,7 +6,7 @@ use fact_model::{Memory, Text};
 use site_mem::MemorySite;
 use std::alloc::{AllocError, Global};
 
-/// The bytes of a page.
+/// The size of a page, in bytes.
 pub const PAGE: u64 = 4096;
 
 /// Copies of four files.
@@ -19,7 +19,7 @@ pub fn copies(alloc: Global, files: &[Text; 4]) -> Result<[Text; 4], Memory> {
     ])
 }
 
-/// The files of a site as a read gives them, with these bytes in the place of one.
+/// The files of a site as a read gives them, with one of them replaced by these bytes.
 pub fn with_file(
     alloc: Global,
     site: &MemorySite,
@@ -33,18 +33,18 @@ pub fn with_file(
     Ok(files)
 }
 
-/// Gives a file this length: cuts it off, or puts zeros behind it.
+/// Sets the length of a file: truncates it, or appends zeros.
 pub fn set_length(bytes: &mut Vec<u8>, length: u64) -> Result<(), AllocError> {
     bytes.resize(length as usize, 0)
 }
 
-/// The page that begins at a place, as far as the file goes.
+/// The page that begins at a place, or as much of it as the file has.
 pub fn page_of(bytes: &[u8], place: u64) -> &[u8] {
     let rest = bytes.get(place as usize..).unwrap_or(&[]);
     rest.get(..PAGE as usize).unwrap_or(rest)
 }
 
-/// Puts bytes at a place. What lies between the end and the place is zero.
+/// Writes bytes at a place. Bytes between the end and the place are zero.
 pub fn put(bytes: &mut Vec<u8>, place: u64, given: &[u8]) -> Result<(), AllocError> {
     if (bytes.len() as u64) < place {
         set_length(bytes, place)?;

@@ -1,6 +1,6 @@
-//! Trials: scenarios over files in memory, line by line. Each line is printed again, and below each command what came of it, so a
-//! trial with its answers holds where it is printed as it is. The commands stand in `trials/README.md`; the program that they run is
-//! handed in.
+//! Trials: scenarios over files in memory, line by line. Each line is printed again, and the answer to each command is printed below
+//! it. So a trial that includes its answers passes if it is printed unchanged. `trials/README.md` lists the commands; the program
+//! that they run is a parameter.
 #![tactic(auto)]
 
 mod block;

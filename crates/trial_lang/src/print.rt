@@ -4,7 +4,7 @@ use crate::program::Ended;
 use site_mem::Call;
 use std::alloc::AllocError;
 
-// A byte of a text.
+// Prints a byte of a text.
 fn push_byte(out: &mut String, byte: u8) -> Result<(), AllocError> {
     if byte == b'\\' || byte < b' ' || b'~' < byte {
         return write!(out, "\\x{byte:02x}");
@@ -12,7 +12,7 @@ fn push_byte(out: &mut String, byte: u8) -> Result<(), AllocError> {
     out.push(char::from(byte))
 }
 
-/// Prints the lines of a text, each as an answer. A last line without its line feed ends with `\`.
+/// Prints the lines of a text, each as an answer. A last line without a line feed ends with `\`.
 pub fn push_lines(out: &mut String, bytes: &[u8]) -> Result<(), AllocError> {
     let mut is_begun = false;
     for byte in bytes {
@@ -32,7 +32,7 @@ pub fn push_lines(out: &mut String, bytes: &[u8]) -> Result<(), AllocError> {
     Ok(())
 }
 
-/// Prints a text in one line, with a bar between its lines.
+/// Prints a text on one line, with a bar between its lines.
 pub fn push_joined(out: &mut String, bytes: &[u8]) -> Result<(), AllocError> {
     for byte in bytes.strip_suffix(b"\n").unwrap_or(bytes) {
         if *byte == b'\n' {
@@ -53,7 +53,7 @@ pub fn push_ended(out: &mut String, ended: Ended) -> Result<(), AllocError> {
     }
 }
 
-/// Prints how a run ended, and the lines that it told.
+/// Prints how a run ended, and the lines that it output.
 pub fn push_ran(out: &mut String, ended: Ended, told: &[u8]) -> Result<(), AllocError> {
     out.push_str("> ")?;
     push_ended(out, ended)?;

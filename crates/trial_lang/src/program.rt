@@ -1,4 +1,4 @@
-//! The program that trials are about.
+//! The program that trials test.
 ghost use Rattle.std.specs.Prelude.{◌≤◌, ◌^◌};
 
 use site_mem::{MemorySource, ShortSite, SureSite, SureSource};
@@ -11,13 +11,13 @@ pub enum Ended {
     Done,
     /// Damage was found at this place of a file.
     Damaged { file: u32, offset: u64 },
-    /// It ended early, as these words say.
+    /// It ended early, for this reason.
     Early(&'static str),
 }
 
-/// A program that carries out a script, within a limit of bytes, over four files and an output.
+/// A program that carries out a script, up to a limit of bytes, over four files and an output.
 pub trait Program {
-    /// Runs with these words, over files and a script that may fail.
+    /// Runs with these arguments, over files and a script that may fail.
     fn run(
         &self,
         alloc: Global,
@@ -28,7 +28,7 @@ pub trait Program {
     ) -> Ended
         requires { limit ≤ 2 ^ 30 };
 
-    /// Runs without words, over files and a script of which nothing fails.
+    /// Runs without arguments, over files and a script that never fail.
     fn look(&self, alloc: Global, source: &mut SureSource, site: &mut SureSite, limit: u64) -> Ended
         requires { limit ≤ 2 ^ 30 };
 }

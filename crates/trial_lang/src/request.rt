@@ -1,4 +1,4 @@
-//! A run as a trial asks for it.
+//! A run as a trial requests it.
 
 use crate::block::push_text;
 use crate::program::{Ended, Program};
@@ -12,8 +12,8 @@ use std::{mem, str};
 /// The most bytes of a script.
 pub const MOST: u64 = 1 << 30;
 
-/// The bytes of a pull at most, those of the script at most, the numbers of what is to fail, and the words of the program. Pulls and
-/// calls are counted from the run on, from 0.
+/// The most bytes of a pull, the most bytes of the script, the numbers of the pull and the calls that are to fail, and the arguments
+/// of the program. Pulls and calls are counted from the start of the run, from 0.
 #[derive(Drop)]
 pub struct Request {
     pub pieces: usize,
@@ -26,7 +26,7 @@ pub struct Request {
 }
 
 impl Request {
-    /// Reads the options of a run: each a name and a number, and last `words` with all that follow.
+    /// Reads the options of a run: each is a name and a number. The last may be `words`, followed by the arguments.
     pub fn read(alloc: Global, given: Words<'_>) -> Result<Request, Trouble> {
         let (options, words) = given
             .rest()
@@ -70,7 +70,7 @@ impl Request {
         Ok(())
     }
 
-    /// Has a program run a script over a site.
+    /// Runs a script over a site with a program.
     pub fn carry_out<P: Program>(
         &self,
         program: &P,
@@ -98,7 +98,7 @@ impl Request {
         Ok(source)
     }
 
-    // Tells a site, which has had `before` calls, which call fails and from which on all do.
+    // Sets which call of a site fails, and from which call on all fail. The site has had `before` calls.
     fn name_faults(&self, site: &mut MemorySite, before: u64) -> Result<(), Memory> {
         if let Some(call) = self.stop_after {
             site.stop_after(before.saturating_add(call));
@@ -110,7 +110,7 @@ impl Request {
     }
 }
 
-/// How a run ended, and how many bytes of its script it had.
+/// How a run ended, and how many bytes of its script it pulled.
 #[derive(Clone, Copy)]
 pub struct Ran {
     pub ended: Ended,
@@ -125,7 +125,7 @@ fn words_of(alloc: Global, written: &str) -> Result<Vec<String>, Trouble> {
     Ok(words)
 }
 
-// The word that is written so, as a line of a block is. A `\` alone is an empty word.
+// The argument that is written like this, in the notation of a block's line. A `\` alone is an empty argument.
 fn word_of(alloc: Global, written: &str) -> Result<String, Trouble> {
     let mut bytes = Vec::new(alloc);
     push_text(&mut bytes, written.strip_suffix('\\').unwrap_or(written), 0)?;

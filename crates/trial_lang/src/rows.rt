@@ -1,4 +1,4 @@
-//! A table whose rows name what looks tell.
+//! A table whose rows name the results of looks.
 
 use crate::endings::Endings;
 use crate::program::Program;
@@ -6,7 +6,7 @@ use crate::table::Table;
 use crate::trouble::Trouble;
 use std::alloc::AllocError;
 
-/// The endings that looks have had so far, and the rows that name them by their letters.
+/// The endings of all looks so far, and the rows that name them by letters.
 #[derive(Drop)]
 pub struct Rows<'a, P: Program> {
     pub endings: Endings<'a, P>,
@@ -20,7 +20,7 @@ impl<'a, P: Program> Rows<'a, P> {
         Rows { endings, table }
     }
 
-    /// Adds what is said of a number, which follows the one before.
+    /// Adds the text for a number, which is the next after the last one.
     pub fn add(&mut self, out: &mut String, number: u64, text: String) -> Result<(), AllocError> {
         self.table.add(out, number, text)
     }

@@ -1,4 +1,4 @@
-//! What runs are made from.
+//! The parts of a run.
 
 use crate::endings::Endings;
 use crate::program::Program;
@@ -8,7 +8,7 @@ use crate::trouble::Trouble;
 use site_mem::MemorySite;
 use std::alloc::Global;
 
-/// The program, the files, the script that runs, and the script that looks at what is left.
+/// The program, the files, the script to run, and the script that looks at the result.
 #[derive(Drop)]
 pub struct Scene<P: Program> {
     pub program: P,
@@ -19,7 +19,7 @@ pub struct Scene<P: Program> {
 }
 
 impl<P: Program> Scene<P> {
-    /// A run over copies of the files as a read gives them, all of them stable.
+    /// Makes a run over copies of the files as a read gives them. All of them are stable.
     pub fn run(&self, request: &Request) -> Result<(MemorySite, Ran), Trouble> {
         let files = self.site.image(self.alloc, 0)?;
         let mut site = MemorySite::from_files(self.alloc, files)?;

@@ -1,4 +1,4 @@
-//! Very many images of stops.
+//! Large numbers of stop images.
 
 use crate::endings::{Endings, letter};
 use crate::program::Program;
@@ -9,8 +9,8 @@ use lcg::Draws;
 use site_mem::MemorySite;
 use std::alloc::{AllocError, Global};
 
-/// Looks at so many drawn images of stops, as many of each stop of one run, and prints those that tell what none of the images
-/// 0 to 3 of the stop does.
+/// Looks at up to `images` drawn images of stops, equally many for each stop of one run. Prints those with a result that
+/// differs from the results of the stop's images 0 to 3.
 pub fn sweep<P: Program>(
     scene: &Scene<P>,
     request: &Request,
@@ -50,7 +50,7 @@ fn push_found(call: u64, found: &[(u64, usize)], out: &mut String) -> Result<(),
     Ok(())
 }
 
-// The drawn images of one stop that stand out, each with the number of its ending.
+// The drawn images of one stop with new results, each with the number of its ending.
 fn sweep_stop<P: Program>(
     site: &MemorySite,
     images: u64,

@@ -1,8 +1,8 @@
-//! Rows of which neighbours that say the same are one.
+//! Rows of a table, in which neighbours with the same text are merged.
 
 use std::alloc::{AllocError, Global};
 
-/// The first and the last number of the row that is not printed yet, and what it says.
+/// The first and the last number of the row that is not printed yet, and its text.
 #[derive(Drop)]
 pub struct Table {
     first: u64,
@@ -20,7 +20,7 @@ impl Table {
         }
     }
 
-    /// Adds what is said of a number, which follows the one before.
+    /// Adds the text for a number, which is the next after the last one.
     pub fn add(&mut self, out: &mut String, number: u64, text: String) -> Result<(), AllocError> {
         if self.text != text {
             self.print(out)?;

@@ -18,7 +18,7 @@ use site_mem::{Call, MemorySite};
 use std::alloc::{AllocError, Global};
 use std::mem;
 
-/// Files under a name.
+/// Files saved under a name.
 #[derive(Drop)]
 struct Kept {
     name: String,
@@ -45,7 +45,7 @@ const NO_RUN: LastRun = LastRun {
     pulled: 0,
 };
 
-/// The scene, the last run, files under names, and the command that waits.
+/// The scene, the last run, the saved files, and the waiting command.
 #[derive(Drop)]
 pub struct Trial<P: Program> {
     scene: Scene<P>,
@@ -64,7 +64,7 @@ impl Waiting {
     }
 }
 
-// A line that is no command is answered as such.
+// A line that is not a command gets an answer that says so.
 fn answered(outcome: Result<(), Trouble>, out: &mut String) -> Result<(), Memory> {
     match outcome {
         Ok(()) => Ok(()),
@@ -74,7 +74,7 @@ fn answered(outcome: Result<(), Trouble>, out: &mut String) -> Result<(), Memory
 }
 
 impl<P: Program + Drop> Trial<P> {
-    /// Of this program: empty files, an empty script, and a look by `status`.
+    /// A trial of this program: with empty files, an empty script, and `status` as the look.
     pub fn new(alloc: Global, program: P) -> Result<Trial<P>, AllocError> {
         Ok(Trial {
             scene: Scene {
@@ -90,8 +90,8 @@ impl<P: Program + Drop> Trial<P> {
         })
     }
 
-    /// Takes a line and prints it again, but for an answer. A line of a block is kept for its command; before any other the command
-    /// that waits is carried out.
+    /// Takes a line and prints it again, unless it is an answer. A line of a block is kept for its command; before any other line,
+    /// the waiting command is carried out.
     pub fn line(&mut self, line: &str, out: &mut String) -> Result<(), Memory> {
         if line.starts_with('>') {
             return Ok(());
@@ -109,13 +109,13 @@ impl<P: Program + Drop> Trial<P> {
         Ok(())
     }
 
-    /// Carries out the command that waits.
+    /// Carries out the waiting command.
     pub fn end(&mut self, out: &mut String) -> Result<(), Memory> {
         let mut command = mem::replace(&mut self.waiting, Waiting::none(self.scene.alloc));
         answered(self.obey(&mut command, out), out)
     }
 
-    // Carries a command out. The scene keeps its block where that is a script.
+    // Carries out a command. If its block is a script, the scene keeps it.
     fn obey(&mut self, command: &mut Waiting, out: &mut String) -> Result<(), Trouble> {
         let Waiting {
             line,
@@ -235,7 +235,7 @@ impl<P: Program + Drop> Trial<P> {
         Err(Trouble::Unclear)
     }
 
-    // `put FILE PLACE TEXT`, or a block in the place of the text.
+    // `put FILE PLACE TEXT`, or with a block instead of the text.
     fn put(&mut self, mut words: Words<'_>, block: &[u8]) -> Result<(), Trouble> {
         let (file, place) = words.file_and_number()?;
         let mut given = Vec::new(self.scene.alloc);
@@ -290,7 +290,7 @@ impl<P: Program + Drop> Trial<P> {
             .unwrap_or(&[])
     }
 
-    // `same NAME`, `cost`, `pulled`, `calls` or `dump FILE`, the last two with a range behind them or none.
+    // `same NAME`, `cost`, `pulled`, `calls` or `dump FILE`. The last two may be followed by a range.
     fn show(&self, verb: &str, mut words: Words<'_>, out: &mut String) -> Result<(), Trouble> {
         let site = &self.scene.site;
         match verb {

@@ -1,9 +1,9 @@
-//! The words of a command, which have one space between them.
+//! The words of a command, separated by single spaces.
 ghost use Rattle.std.specs.Prelude.{◌<◌, IfOk};
 
 use crate::trouble::Trouble;
 
-/// The words that are left of a command.
+/// The remaining words of a command.
 #[derive(Clone, Copy)]
 pub struct Words<'a> {
     rest: &'a str,
@@ -15,14 +15,14 @@ impl<'a> Words<'a> {
         Words { rest: line }
     }
 
-    /// Takes the next word, which is empty where there is none.
+    /// Takes the next word, or an empty one if there is none.
     pub fn next(&mut self) -> &'a str {
         let (word, rest) = self.rest.split_once(' ').unwrap_or((self.rest, ""));
         self.rest = rest;
         word
     }
 
-    /// What is left as one text.
+    /// The remaining words, as one text.
     pub fn rest(&self) -> &'a str {
         self.rest
     }
@@ -32,7 +32,7 @@ impl<'a> Words<'a> {
         number(self.next())
     }
 
-    /// Takes a number, or gives another one where no word is left.
+    /// Takes a number, or returns `other` if no word is left.
     pub fn number_or(&mut self, other: u64) -> Result<u64, Trouble> {
         if self.rest.is_empty() {
             return Ok(other);
@@ -40,13 +40,13 @@ impl<'a> Words<'a> {
         self.number()
     }
 
-    /// Takes the first number and the last of a range, each of which may be left out.
+    /// Takes the first and the last number of a range. Either may be omitted.
     pub fn range(&mut self) -> Result<(u64, u64), Trouble> {
         let first = self.number_or(0)?;
         Ok((first, self.number_or(u64::MAX)?))
     }
 
-    /// Takes the number of a file, and one behind it.
+    /// Takes the number of a file, and a number after it.
     pub fn file_and_number(&mut self) -> Result<(u32, u64), Trouble>
         ensures { IfOk result (λ taken. taken.0 < 4) }
     {

@@ -1,4 +1,4 @@
-//! The covering view with fewest points.
+//! The covering view with the fewest points.
 ghost use Rattle.std.specs.Prelude.{◌≡◌, ◌<◌, IfSome, length};
 ghost use Rattle.std.specs.List.{list_all};
 ghost use Rattle.fact_model.specs.Slice.{attr_of};
@@ -9,9 +9,9 @@ ghost use Rattle.view_route.specs.Routes.{Routes, covers, is_fewer};
 use cube_schema::Schema;
 use fact_model::{Cond, Slice};
 
-/// The number of the view that a slice is answered from: of those that have all its grouped and bound attributes, one with the fewest
-/// points, and of these the first. `counts` has the number of points of each view. None exactly where no view has all these attributes.
-/// It takes no memory.
+/// The number of the view that answers a slice: of the views with all its grouped and bound attributes, one with the fewest points, and
+/// of these the first. `counts` has the number of points of each view. None exactly if no view has all these attributes. Does not
+/// allocate.
 pub fn route(schema: &Schema, counts: &[u64; 32], slice: &Slice) -> Option<u32>
     requires { IsSchema schema.now }
     ensures { Routes schema.now.views counts.now slice.now result }
@@ -37,7 +37,7 @@ fn is_fewer(counts: &[u64; 32], view: u32, best: Option<u32>) -> bool
     }
 }
 
-/// Whether the view has all grouped and bound attributes of the slice. It takes no memory.
+/// Whether the view has all grouped and bound attributes of the slice. Does not allocate.
 pub fn covers(view: &[u32], slice: &Slice) -> bool
     ensures { result ≡ covers view.now slice.now }
 {
