@@ -1,25 +1,26 @@
 //! How a run ends.
-ghost use Rattle.std.specs.Prelude.{◌≡◌, ◌↔◌};
+ghost use Rattle.std.specs.Prelude.{◌≡◌};
+ghost use Rattle.cubefold.specs.Ends.{code_of};
 
 use reply_fold::Fault;
 
 /// How a run ended.
 #[derive(Clone, Copy, Debug, PartialEq, Eq)]
 pub enum End {
-    /// The reply of the whole was told.
+    /// The reply of the whole was printed.
     Done,
-    /// There are words. Nothing was read or told.
+    /// There are words. Nothing was read or printed.
     Usage,
-    /// The output failed. The first bytes of the reply may have been told.
+    /// The output failed. The first bytes of the reply may have been printed.
     Output,
-    /// The input has no reply of the whole, for this reason. Nothing was told.
+    /// The input has no reply of the whole, for this reason. Nothing was printed.
     Faulty(Fault),
 }
 
 impl End {
     /// The exit status of the process.
     pub fn code(&self) -> u8
-        ensures { (result ≡ 0) ↔ (self.now ≡ End.Done) }
+        ensures { result ≡ code_of self.now }
     {
         match self {
             End::Done => 0,
