@@ -1,5 +1,6 @@
 //! How a run ends.
-ghost use Rattle.std.specs.Prelude.{◌≡◌, ◌↔◌};
+ghost use Rattle.std.specs.Prelude.{◌≡◌};
+ghost use Rattle.cubefold.specs.Ends.{code_of};
 
 use reply_fold::Fault;
 
@@ -19,7 +20,7 @@ pub enum End {
 impl End {
     /// The exit status of the process.
     pub fn code(&self) -> u8
-        ensures { (result ≡ 0) ↔ (self.now ≡ End.Done) }
+        ensures { result ≡ code_of self.now }
     {
         match self {
             End::Done => 0,

@@ -8,6 +8,7 @@ pub mod Reading
 pub mod RepliesAgain
 pub mod RowsAgain
 pub mod Said
+pub mod Shuffled
 pub mod Texts
 pub mod Theorem
 pub mod Wide

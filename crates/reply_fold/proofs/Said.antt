@@ -14,11 +14,12 @@ use Rattle.slice_lang.specs.declared.refusal.SliceRefusal.{SliceRefusal}
 use Rattle.slice_lang.proofs.Agreed.{slice_answer}
 use Rattle.reply_fold.specs.Answers.{Answers}
 use Rattle.reply_fold.specs.Input.{behind_text, block_in, place_of_end, text_in}
-use Rattle.reply_fold.specs.Whole.{HasParts, IsFold, IsJoined, as_schema, asked_said, is_short, replies_said, reply_over, said_in, schema_said, together}
+use Rattle.reply_fold.specs.Whole.{AreOfAll, HasParts, IsFold, IsJoined, as_schema, asked_said, is_short, replies_said, reply_over, said_in, schema_said, together}
 use Rattle.reply_fold.specs.declared.fault.Fault.{Fault}
 use Rattle.reply_fold.specs.declared.fault.Fault.TheVariants as faults
 use Rattle.reply_fold.specs.declared.replies.Replies.{Replies}
 use Rattle.reply_fold.proofs.Theorem.{Joins, has-end, replies-join}
+use Rattle.reply_fold.proofs.Shuffled.{reply-shuffled}
 
 -- ---- what an input says
 
@@ -76,9 +77,9 @@ short-answer said text result is fold = by result (subst (λ r. IsFold r result)
     by (Err e) answers = λ other. absurd (other (sym (err-inj (answers other))))
 
 -- where the plain machine told the replies over parts, their fold is its reply over all facts
-pub fold-whole : (input : List ℕ) (schema : Schema) (parts : List (List Fact)) → HasParts input schema parts → (result : Result (List ℕ) Fault) → IsFold (said_in input) result
+fold-together : (input : List ℕ) (schema : Schema) (parts : List (List Fact)) → HasParts input schema parts → (result : Result (List ℕ) Fault) → IsFold (said_in input) result
     → Answers result (Ok (reply_over schema (text_in input) (together parts)))
-fold-whole input schema parts has result fold = by (is_short (slice_of schema (text_in input))) refl
+fold-together input schema parts has result fold = by (is_short (slice_of schema (text_in input))) refl
   where
     found : (place_of_end input == length input) ≡ false
     found = has-end input 10 _ has.told
@@ -99,3 +100,8 @@ fold-whole input schema parts has result fold = by (is_short (slice_of schema (t
         let asked = slice_of schema (text_in input) in
         let j = replies-join schema parts has.some (behind_text input) asked long (agrees asked refl) has.limits has.told in
         joined-answer (replies_said schema asked (behind_text input)) _ result j (subst (λ r. IsFold r result) (said-replies input schema found declared asked refl long) fold)
+
+-- and over these facts in any order
+pub fold-whole : (input : List ℕ) (schema : Schema) (parts : List (List Fact)) (all : List Fact) → HasParts input schema parts → AreOfAll parts all → (result : Result (List ℕ) Fault) → IsFold (said_in input) result
+    → Answers result (Ok (reply_over schema (text_in input) all))
+fold-whole input schema parts all has are result fold = subst (λ text. Answers result (Ok text)) (sym (reply-shuffled schema (text_in input) (together parts) all are)) (fold-together input schema parts has result fold)

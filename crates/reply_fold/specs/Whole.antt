@@ -1,6 +1,7 @@
 -- The reply of the whole, from what the replies of parts say.
 use Rattle.std.specs.Prelude.{◌≡◌, ◌≢◌, ℕ, ◌==◌, ◌≤◌, ◌<◌, Bool, true, false, cond, List, [], ◌∷◌, flat_map, length, map, ℤ, Option, Some, None, Result, Ok, Err}
 use Rattle.std.specs.List.{All}
+use Rattle.std.specs.List.Sorted.{IsPermutation}
 use Rattle.csv.specs.Writing.{default_writer, row_text}
 use Rattle.csv_text.specs.Records.{records_of}
 use Rattle.cube_schema.specs.Agreeing.{Agrees}
@@ -132,6 +133,10 @@ pub record KeepLimits (schema : Schema) (facts : List Fact) : Type 0 where
 -- the facts of all lists
 abbrev pub together : List (List Fact) → List Fact
 together parts = flat_map (λ facts. facts) parts
+
+-- these are the facts of all parts, in any order
+abbrev pub AreOfAll : List (List Fact) → List Fact → Type 0
+AreOfAll parts facts = IsPermutation (together parts) facts
 
 -- the input has the block of a schema, a text, and the plain machine's replies to it, one for each of one or more parts
 pub record HasParts (input : List ℕ) (schema : Schema) (parts : List (List Fact)) : Type 0 where

@@ -6,7 +6,7 @@ ghost use Rattle.site_core.specs.Causes.{HasCauseWhere};
 ghost use Rattle.site_core.specs.Pull.{Gives};
 ghost use Rattle.reply_fold.specs.Answers.{Answers};
 ghost use Rattle.reply_fold.specs.Input.{text_in};
-ghost use Rattle.reply_fold.specs.Whole.{HasParts, IsFold, reply_over, said_in, together};
+ghost use Rattle.reply_fold.specs.Whole.{AreOfAll, HasParts, IsFold, reply_over, said_in};
 ghost use Rattle.reply_fold.specs.declared.fault.Fault.TheVariants as faults;
 
 use crate::fault::Fault;
@@ -22,9 +22,9 @@ const PIECE: usize = 65_536;
 /// The reply of the whole to the input of a source: the block of a schema, a line `end`, a line with the text of a slice, and the replies
 /// of the parts to it, one after the other. The whole input is kept in memory, and so are all rows of the replies.
 pub fn fold<S: Source>(alloc: Global, source: &mut S) -> Result<Text, Fault>
-    // If the replies are those of the plain machine over the parts, this is its reply over all their facts.
-    ensures whole { IsTrue S.tells → result ≢ Err faults.Input → (schema : schemas.Schema) (parts : List (List facts.Fact))
-        → HasParts (S.left source.old) schema parts → Answers result (Ok (reply_over schema (text_in (S.left source.old)) (together parts))) }
+    // If the replies are those of the plain machine over the parts, this is its reply over all their facts, in any order.
+    ensures whole { IsTrue S.tells → result ≢ Err faults.Input → (schema : schemas.Schema) (parts : List (List facts.Fact)) (all : List facts.Fact)
+        → HasParts (S.left source.old) schema parts → AreOfAll parts all → Answers result (Ok (reply_over schema (text_in (S.left source.old)) all)) }
     // For any input.
     ensures exact { IsTrue S.tells → result ≢ Err faults.Input → IsFold (said_in (S.left source.old)) result }
     ensures input { HasCauseWhere faults.Input (S.faults source.old) (S.faults source.new) result }

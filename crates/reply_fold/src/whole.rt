@@ -8,7 +8,7 @@ ghost use Rattle.slice_lang.specs.Agreeing.{SliceAgrees};
 ghost use Rattle.slice_lang.specs.Reading.{slice_of};
 ghost use Rattle.reply_fold.specs.Answers.{Answers};
 ghost use Rattle.reply_fold.specs.Input.{text_in};
-ghost use Rattle.reply_fold.specs.Whole.{AreWide, HasParts, IsFold, IsJoined, as_schema, is_short, replies_said, reply_over, said_in, together};
+ghost use Rattle.reply_fold.specs.Whole.{AreOfAll, AreWide, HasParts, IsFold, IsJoined, as_schema, is_short, replies_said, reply_over, said_in};
 
 use crate::fault::Fault;
 use crate::input::{END, is_whole, place_of_end};
@@ -25,9 +25,9 @@ use std::alloc::Global;
 /// The reply of the whole to an input: the block of a schema, a line `end`, a line with the text of a slice, and the replies of the parts
 /// to it, one after the other.
 pub fn fold_input(alloc: Global, input: &[u8]) -> Result<Text, Fault>
-    // If the replies are those of the plain machine over the parts, this is its reply over all their facts.
-    ensures whole { (schema : schemas.Schema) (parts : List (List facts.Fact)) → HasParts input.now schema parts
-        → Answers result (Ok (reply_over schema (text_in input.now) (together parts))) }
+    // If the replies are those of the plain machine over the parts, this is its reply over all their facts, in any order.
+    ensures whole { (schema : schemas.Schema) (parts : List (List facts.Fact)) (all : List facts.Fact) → HasParts input.now schema parts
+        → AreOfAll parts all → Answers result (Ok (reply_over schema (text_in input.now) all)) }
     // For any input.
     ensures exact { IsFold (said_in input.now) result }
 {

@@ -68,3 +68,23 @@ module _ {S : Type 0} (T : Ghosts S) (IsIt : List ℕ → ℕ → Type 0) (store
       judged = λ t agree other is. subst (λ (v : ℕ). IsJudged store s v (T.disk old).files result) (one other is) (judged t agree);
       form = form;
     }
+
+  -- the answer from a view is that from the view which a rule picks, where it picks this one and no other
+  module _ (view : ℕ) (one : (other : ℕ) → IsIt store.forest.body.counts other → view ≡ other) (new : S) (kept : Cache) (result : Result (List Row) AnswerStop)
+      (chosen : AnswersFrom T (λ counts it. view ≡ it) store s old new pages kept result) where
+    chosen-over : (facts : List Fact) → IsStoreOf store facts (T.disk old).files → (other : ℕ) → IsIt (body_counts store.forest.schema facts) other → view ≡ other
+    chosen-over facts stored other is = one other (subst (λ (counts : List ℕ). IsIt counts other) (sym stored.live.at.body_is.counts) is)
+
+    pub from-chosen : AnswersFrom T IsIt store s old new pages kept result
+    from-chosen = record {
+      rows = chosen.rows;
+      undamaged = chosen.undamaged;
+      uncovered = chosen.uncovered;
+      untouched = chosen.untouched;
+      unasked = chosen.unasked;
+      search = λ other is. chosen.search other (one other is);
+      cost = λ t agree facts stored other is. chosen.cost t agree facts stored other (chosen-over facts stored other is);
+      few = λ facts stored other is. chosen.few facts stored other (chosen-over facts stored other is);
+      judged = λ t agree other is. chosen.judged t agree other (one other is);
+      form = chosen.form;
+    }

@@ -57,6 +57,22 @@ pub fn answer_from<'a, T: Site>(
 ) -> Result<SliceRows<'a>, AnswerStop>
     requires agrees { SliceAgrees store.now.forest.schema slice.now }
     requires covering { IsCovering store.now.forest.schema.views slice.now view }
+    ensures answers { AnswersFrom T.Site (λ counts chosen. view ≡ chosen) store.now slice.now site.old site.new pages.old pages.new result }
+{
+    rows_of_view(alloc, site, pages, store, slice, view)
+}
+
+/// The rows by the points of a view.
+fn rows_of_view<'a, T: Site>(
+    alloc: Global,
+    site: &mut T,
+    pages: &mut Pages,
+    store: &'a Store,
+    slice: &'a Slice,
+    view: u32,
+) -> Result<SliceRows<'a>, AnswerStop>
+    requires agrees { SliceAgrees store.now.forest.schema slice.now }
+    requires covering { IsCovering store.now.forest.schema.views slice.now view }
 
     ensures rows { IsTrue T.tells → Agrees (T.disk site.old).files pages.old
         → (accepted : List facts.Fact) → IsStoreOf store.now accepted (T.disk site.old).files

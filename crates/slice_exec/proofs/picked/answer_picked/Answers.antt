@@ -1,6 +1,6 @@
 use Rattle.replica_route.specs.Picked.{IsPicked}
 use Rattle.replica_route.proofs.Unique.{one-pick}
-use Rattle.slice_exec.proofs.FromView.{from-none, from-view}
+use Rattle.slice_exec.proofs.FromView.{from-chosen, from-none}
 use Rattle.slice_exec.proofs.picked.answer_picked.Goals as goal
 
 pub returns-in-Some : goal.returns-in-Some
@@ -11,9 +11,9 @@ returns-in-Some g c =
     let choice = c.in-Some.choice in
     let picked = c.in-Some.ensures.picked.picked in
     record {
-      answers = from-view g.T.Site (λ counts view. IsPicked store.forest.schema.views counts slice view) store slice c.args.site.now c.args.pages.now choice.view picked.covering
+      answers = from-chosen g.T.Site (λ counts view. IsPicked store.forest.schema.views counts slice view) store slice c.args.site.now c.args.pages.now choice.view
           (λ other is. one-pick store.forest.schema.views store.forest.body.counts slice choice.view other picked is)
-          its.new.site its.new.pages its.result its.ensures.rows its.ensures.undamaged its.ensures.judged its.ensures.form its.ensures.search;
+          its.new.site its.new.pages its.result its.ensures.answers;
     }
 
 pub returns-in-None : goal.returns-in-None
