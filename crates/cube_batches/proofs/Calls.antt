@@ -9,6 +9,7 @@ use Rattle.cube_batches.proofs.Names.{Level, schema_of}
 use Rattle.cube_state.specs.Moves.{Reached, reached_behind, reached_by}
 use Rattle.cube_state.proofs.Moves.{reached_next}
 use Rattle.spec_crash.specs.Keeps.{IsFrom}
+use Rattle.cube_state.specs.Carried.{LeavesState}
 
 -- ---- a reply
 
@@ -37,16 +38,17 @@ pub still_reached : (state next : State) {behind : Reached} → moves_made next 
 still_reached state next made same = record { format = ap (λ (r : Reached). r.format) same; made = made ∙ ap (λ (r : Reached). r.made) (sym same) }
 
 -- no call is made
-pub rests : {S : Type 0} (T : Ghosts S) (command : Command) → ((schema : Schema) (levels : List Level) → asked_by schema levels command ≡ None) → (state next : State) (site : S) → (IsTrue T.tells → OnlyNow (T.disk site))
+pub rests : {S : Type 0} (T : Ghosts S) (command : Command) → ((schema : Schema) (levels : List Level) → asked_by schema levels command ≡ None) → (LeavesState command → ⊥) → (state next : State) (site : S) → (IsTrue T.tells → OnlyNow (T.disk site))
     → (reply : Vec ℕ Global) → ForEach T state site (λ world. IsAnswer (T.disk site) (act world command) next reply.items) → ((world : World) → Stands state (T.disk site) world
     → IsStill (reached_by state) next (reached_behind world (reached_by state) command)) → ((files : Files) (levels : List Level) → Gives levels state files command reply.items) → (RunsOn T site state → RunsOn T site next)
     → moves_made next ≡ made_alone command (moves_made state) → live_of next ≡ live_of state → schema_of next ≡ schema_of state → CarriesOutAlone T command state next site site (Ok reply)
-rests T command none_asked state next site only reply answer moved gives runs made live same = λ cache ready. still T command none_asked state next site only cache ready reply (record {
+rests T command none_asked busy state next site only reply answer moved gives runs made live same = λ cache ready. still T command none_asked state next site only cache ready reply (record {
   answer = answer;
   moved = λ t world it. reached_next world command state next (moved world it).format live (moved world it).made;
   uncalled = λ t world it none. refl;
   answered = λ t levels. gives (T.disk site).files levels;
   runs = runs ready.runs;
+  busy = busy;
   schema = λ declared has. same ∙ has;
   made = λ no. made;
   said = λ alone files levels. gives files levels;

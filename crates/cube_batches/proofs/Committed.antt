@@ -25,6 +25,7 @@ use Rattle.cube_state.specs.BatchCosts.{commit_cost}
 use Rattle.cube_batches.specs.Committing.{ended_with, text_of}
 use Rattle.cube_batches.specs.declared.committing.Told.{Told}
 use Rattle.cube_state.specs.Moves.{format_in, format_of, unmoved}
+use Rattle.cube_state.proofs.Writing.{writes_on}
 
 -- ---- stops of a refresh
 
@@ -172,6 +173,7 @@ module _ {S : Type 0} (T : Ghosts S) (told : Told) (r : Begun) (mid new : S) (be
           uncalled = λ t world stands none. absurd ((to.by_world t world stands).calls none);
           answered = gives;
           runs = record { running = next.whole; fit = opened };
+          busy = writes_on command to.writes;
           schema = λ declared has. ap Some next.schema ∙ (sym to.schema ∙ has);
           made = λ no. sym to.alone;
           said = λ alone files levels. absurd (to.reads alone);

@@ -20,6 +20,7 @@ use Rattle.spec_moves.specs.Forest.{forest_moves}
 use Rattle.spec_store.specs.Held.{KeepsAs, format_for}
 use Rattle.cube_batches.specs.declared.committing.Told.TheVariants.{Committed}
 use Rattle.cube_state.proofs.Moves.{format_stays, reached_next}
+use Rattle.cube_state.specs.Carried.{LeavesState}
 
 -- a batch that has a fact is not one without
 no_fact : (batch : List Fact) (pending : Option (List Fact)) → pending ≡ Some batch → 0 < length batch → HasNoFact pending → ⊥
@@ -84,6 +85,7 @@ module _ {S : Type 0} (T : Ghosts S) (n : ℕ) (r now : Begun) (old new : S) whe
       uncalled = λ t world it none. absurd (no_fact it.1 world.pending it.2.pending it.3.some none);
       answered = λ t levels. said;
       runs = record { running = goes; fit = ready_now };
+      busy = λ leaves. leaves.0;
       schema = λ declared has. ap (λ (b : Begun). Some b.store.forest.schema) same ∙ has;
       made = λ no. absurd (no tt);
       said = λ alone files levels. said;
@@ -155,14 +157,14 @@ without_belongs r store disk warehouse batch without it = (let is = it.attends i
 
 -- ---- no call is made
 
-module _ {S : Type 0} (T : Ghosts S) (command : Command) (none_asked : (schema : Schema) (levels : List Level) → asked_by schema levels command ≡ None) (answer : World → Warehouse → List Fact → Answer)
+module _ {S : Type 0} (T : Ghosts S) (command : Command) (none_asked : (schema : Schema) (levels : List Level) → asked_by schema levels command ≡ None) (busy : LeavesState command → ⊥) (answer : World → Warehouse → List Fact → Answer)
     (acts : (world : World) → act world command ≡ pending_over world (answer world) world.kept world.pending) (site : S) (only : IsTrue T.tells → OnlyNow (T.disk site)) where
   -- by what is kept and pending
   over : (state next : State) (reply : Vec ℕ Global) → ((world : World) → Stands state (T.disk site) world → (kept : Kept) × (pending : Option (List Fact)) × Knows kept pending world
       × Stands next (T.disk site) (pending_over world (answer world) kept pending).0 × (reply.items ≡ (pending_over world (answer world) kept pending).1))
       → ((world : World) → Stands state (T.disk site) world → IsStill (reached_by state) next (reached_behind world (reached_by state) command)) → ((files : Files) (levels : List Level) → Gives levels state files command reply.items)
       → (RunsOn T site state → RunsOn T site next) → moves_made next ≡ made_alone command (moves_made state) → live_of next ≡ live_of state → schema_of next ≡ schema_of state → CarriesOutAlone T command state next site site (Ok reply)
-  over state next reply by = rests T command none_asked state next site only reply (λ t world it. (let is = by world it in
+  over state next reply by = rests T command none_asked busy state next site only reply (λ t world it. (let is = by world it in
       answered_by (T.disk site) (act world command) (pending_over world (answer world) is.0 is.1) next reply.items
       (acts world ∙ (λ i. pending_over world (answer world) (is.2.kept i) (is.2.pending i))) is.3 is.4))
 
@@ -173,7 +175,7 @@ module _ {S : Type 0} (T : Ghosts S) (site : S) (only : IsTrue T.tells → OnlyN
       × (reply.items ≡ (pending_over world (λ w b. (record world { pending = None }, line (codes "abandoned"))) kept pending).1))
       → (RunsOn T site state → RunsOn T site final) → moves_made final ≡ 0 → live_of final ≡ live_of state → schema_of final ≡ schema_of state → CarriesOutAlone T says.Abandon state next site site (Ok reply)
   drops state final next same said by runs none live schema = subst (λ (s : State). CarriesOutAlone T says.Abandon state s site site (Ok reply)) (sym same)
-      (over T says.Abandon (λ schema levels. refl) (λ world w b. (record world { pending = None }, line (codes "abandoned"))) act_abandon site only state final reply by (λ world it. record { format = refl; made = none }) (λ files levels. said) runs none live schema)
+      (over T says.Abandon (λ schema levels. refl) (λ leaves. leaves.1) (λ world w b. (record world { pending = None }, line (codes "abandoned"))) act_abandon site only state final reply by (λ world it. record { format = refl; made = none }) (λ files levels. said) runs none live schema)
 
   pub abandons : (state : State) → reply.items ≡ pending_line state (codes "abandoned") → (next : State) → IsDropped state next → CarriesOutAlone T says.Abandon state next site site (Ok reply)
   abandons Empty said next is = drops Empty Empty next is said (λ world it. (None, None, it.0, it, said)) (λ runs. runs) refl refl refl
@@ -195,7 +197,7 @@ module _ {S : Type 0} (T : Ghosts S) (n : ℕ) (site : S) (only : IsTrue T.tells
   steps : (state : State) → moves_made state ≡ 0 → reply.items ≡ pending_line state (codes "stepped") → ((world : World) → Stands state (T.disk site) world → (kept : Kept) × (pending : Option (List Fact))
       × Knows kept pending world × (pending_over world (λ w b. replies_with world (codes "stepped")) kept pending ≡ (world, pending_line state (codes "stepped"))) × (length (moves_over (format_of state) kept pending) ≡ 0))
       → CarriesOutAlone T (says.Step n) state state site site (Ok reply)
-  steps state none said by = over T (says.Step n) (λ schema levels. refl) (λ world w b. replies_with world (codes "stepped")) (λ world. act_step world n) site only state state reply
+  steps state none said by = over T (says.Step n) (λ schema levels. refl) (λ leaves. leaves.0) (λ world w b. replies_with world (codes "stepped")) (λ world. act_step world n) site only state state reply
       (λ world it. (let is = by world it in (is.0, is.1, is.2, subst (λ (a : Answer). Stands state (T.disk site) a.0) (sym is.3) it, said ∙ ap (λ (a : Answer). a.1) (sym is.3))))
       (λ world it. (let is = by world it in record {
         format = refl;
@@ -221,14 +223,14 @@ finish_still world kept pending knows stays format next none = record {
 module _ {S : Type 0} (T : Ghosts S) (site : S) (only : IsTrue T.tells → OnlyNow (T.disk site)) (reply : Vec ℕ Global) where
   pub finishes_none : (state : State) → ((r : Begun) → state ≡ Pending r → ⊥) → ((store : Store) → state ≡ Hollow store → ⊥) → reply.items ≡ line (codes "refused nothing pending")
       → CarriesOutAlone T says.Finish state state site site (Ok reply)
-  finishes_none Empty not full said = over T says.Finish (λ schema levels. refl) (λ world w b. committed world w b w.last) act_finish site only Empty Empty reply
+  finishes_none Empty not full said = over T says.Finish (λ schema levels. refl) (λ leaves. leaves.0) (λ world w b. committed world w b w.last) act_finish site only Empty Empty reply
       (λ world it. (None, None, it.0, it, said)) (λ world it. finish_still world None None it.0 refl 1 Empty refl) (λ files levels. said) (λ runs. runs) refl refl refl
-  finishes_none (Idle store) not full said = over T says.Finish (λ schema levels. refl) (λ world w b. committed world w b w.last) act_finish site only (Idle store) (Idle store) reply
+  finishes_none (Idle store) not full said = over T says.Finish (λ schema levels. refl) (λ leaves. leaves.0) (λ world w b. committed world w b w.last) act_finish site only (Idle store) (Idle store) reply
       (λ world it. (Some it.0, None, it.1, it, said)) (λ world it. finish_still world (Some it.0) None it.1 refl store.forest.body.format (Idle store) refl) (λ files levels. said) (λ runs. runs) refl refl refl
   finishes_none (Hollow store) not full said = absurd (full store refl)
   finishes_none (Pending r) not full said = absurd (not r refl)
 
   pub finishes_hollow : (store : Store) → reply.items ≡ committed_text store.forest.body.facts → CarriesOutAlone T says.Finish (Hollow store) (Idle store) site site (Ok reply)
-  finishes_hollow store said = over T says.Finish (λ schema levels. refl) (λ world w b. committed world w b w.last) act_finish site only (Hollow store) (Idle store) reply
+  finishes_hollow store said = over T says.Finish (λ schema levels. refl) (λ leaves. leaves.0) (λ world w b. committed world w b w.last) act_finish site only (Hollow store) (Idle store) reply
       (λ world it. (let is = empty_answer world it.0 store (T.disk site) it.2 reply.items said in (Some it.0, Some [], it.1, is.stands, is.said)))
       (λ world it. finish_still world (Some it.0) (Some []) it.1 (ap Some (same_facts it.0) ∙ sym it.1.kept) store.forest.body.format (Idle store) refl) (λ files levels. said) (λ runs. record { running = runs.running; fit = runs.fit }) refl refl refl

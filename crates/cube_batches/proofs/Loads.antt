@@ -16,6 +16,7 @@ use Rattle.cube_batches.specs.declared.committing.Told.TheVariants.{Committed}
 use Rattle.cube_batches.specs.Taking.{HasStarted}
 use Rattle.cube_batches.proofs.{Calls.still_reached, Sources.load_reaches, Takings.later_for}
 use Rattle.cube_state.proofs.Moves.{reached_next}
+use Rattle.cube_state.proofs.Writing.{writes_on}
 
 -- nothing was done with an empty batch
 pub done_none : {S : Type 0} (source : BatchSource) (state next : State) (old new : S) (is : HasNone source state next old new) (P : State → State → S → Type 0)
@@ -50,7 +51,7 @@ empty_fitting source store disk given world stands = record {
 
 module _ {S : Type 0} (T : Ghosts S) (source : BatchSource) (site : S) (only : IsTrue T.tells → OnlyNow (T.disk site)) (store : Store) (given : given_to store source ≡ Ok ([], store.forest.body.last)) where
   acknowledged : (reply : Vec ℕ Global) → reply.items ≡ committed_text store.forest.body.facts → CarriesOutAlone T (load_of source) (Idle store) (Idle store) site site (Ok reply)
-  acknowledged reply said = rests T (load_of source) (load_sends source).none_asked (Idle store) (Idle store) site only reply
+  acknowledged reply said = rests T (load_of source) (load_sends source).none_asked (writes_on (load_of source) (load_sends source).writes) (Idle store) (Idle store) site only reply
       (λ t world stands. subst (λ (a : Answer). IsAnswer (T.disk site) a (Idle store) reply.items)
       (sym (load_answer world source stands.0 [] stands.0.last (empty_fitting source store (T.disk site) given world stands))) (empty_answer world stands.0 store (T.disk site) stands.2 reply.items said))
       (λ world stands. still_reached (Idle store) (Idle store) refl ((load_sends source).moves world (reached_by (Idle store)) (empty_keeps world stands.0 stands.1.kept
@@ -127,7 +128,7 @@ loads T source state old mid r is = subst (λ (s : State). Ends T Committed (loa
 
 module _ {S : Type 0} (T : Ghosts S) (block : Block) (site : S) (only : IsTrue T.tells → OnlyNow (T.disk site)) (store : Store) (given : given_to store (Rows block) ≡ Ok ([], store.forest.body.last)) where
   hollows : (reply : Vec ℕ Global) → reply.items ≡ line (codes "begun") → CarriesOutAlone T (says.Begin block) (Idle store) (Hollow store) site site (Ok reply)
-  hollows reply said = rests T (says.Begin block) (λ schema levels. refl) (Idle store) (Hollow store) site only reply
+  hollows reply said = rests T (says.Begin block) (λ schema levels. refl) (λ leaves. leaves.0) (Idle store) (Hollow store) site only reply
       (λ t world stands. answered_by (T.disk site) (act world (says.Begin block)) (begun world []) (Hollow store) reply.items
       (begin_answer world block stands.0 [] stands.0.last (empty_fitting (Rows block) store (T.disk site) given world stands)) (stands.0, record { kept = stands.1.kept; pending = refl }, stands.2) said)
       (λ world stands. record { format = refl; made = refl }) (λ files levels. subst (λ (g : Given). GivesBegun store g reply.items) (sym given) (inr said)) (λ runs. record { running = runs.running; fit = runs.fit }) refl refl refl
@@ -171,6 +172,7 @@ module _ {S : Type 0} (T : Ghosts S) (block : Block) (store : Store) (old new : 
           uncalled = λ t world stands none. absurd (omega (arith, none, begins_is world block stands.0 is.batch is.last (begun_fits T (Rows block) store old new r is t world stands) is.some));
           answered = λ t levels. gives;
           runs = record { running = is.started.goes; fit = is.started.ready };
+          busy = λ leaves. leaves.0;
           schema = λ declared has. ap (λ (f : Forest). Some f.schema) is.started.forest ∙ has;
           made = λ no. is.started.none_made;
           said = λ alone files levels. gives;

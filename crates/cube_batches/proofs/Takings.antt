@@ -15,6 +15,7 @@ use Rattle.spec_store.specs.Held.{KeepsAs, format_for}
 use Rattle.cube_batches.proofs.{Calls.answered_by, Calls.rests, Calls.still_reached, Sources.answer_batch, Sources.answer_read}
 use Rattle.forest_refresh.specs.Begun.{moves_of}
 use Rattle.cube_state.specs.Moves.{format_of, reached_by}
+use Rattle.cube_state.proofs.Writing.{writes_on}
 
 -- ---- the store, the refresh and the warehouse
 
@@ -245,7 +246,7 @@ module _ {S : Type 0} (T : Ghosts S) (source : BatchSource) (store : Store) (bat
       let here : refusal_text store.forest.schema fault.why ≡ Some reply.items = subst (λ (f : Forest). refusal_text f.schema fault.why ≡ Some reply.items) back.forest by_text in
       let by : RefusesBy (Idle store) source reply.items = subst (λ (g : Given). RefusesGiven store g reply.items) (sym given) (some, (fault.why, here)) in
       subst (λ (s : S). CarriesOut T command (Idle store) (Idle fault.store) old s cache cache (Ok reply)) (sym (unchanged (no_fault store.forest.schema fault.why reply.items here)))
-      (rests T command sends.none_asked (Idle store) (Idle fault.store) old only reply
+      (rests T command sends.none_asked (writes_on command sends.writes) (Idle store) (Idle fault.store) old only reply
       (λ t world stands. answered_by (T.disk old) (act world command) (world, reply.items) (Idle fault.store) reply.items (refused command sends agree reply.items here world stands)
       (stands.0, stands.1, back_belongs store fault.store back (T.disk old) stands.0 stands.2) refl)
       (λ world stands. still_reached (Idle store) (Idle fault.store) refl (sends.moves world (reached_by (Idle store)) (ap (λ (a : Answer). a.0.kept) (refused command sends agree reply.items here world stands)))) (λ files levels. sends.refuses levels (Idle store) files reply.items by) (back_runs store fault.store back T old) (sym (sends.alone 0))

@@ -12,6 +12,7 @@ use Rattle.cube_state.proofs.Moves.{format_past, format_untold, stands_format}
 use Rattle.cube_state.proofs.Standing.{stands_from}
 use Rattle.spec_crash.specs.Keeps.{HasFormat, IsFrom}
 use Rattle.cube_session.specs.Session.{reached_for}
+use Rattle.std.proofs.lemmas.Option.{same_Some}
 
 -- what a session that stands tells of the files: what they keep, also after a stop, the moves made and the format
 stood : (session : Option Held) (d : Disk) (w : World) → StandsFor session d w
@@ -22,43 +23,59 @@ stood (Some held) d w is = (stands_read held.state d w is.stands, stands_left he
 
 -- ---- replies
 
-both_replied : (first second : List Command) (a b c : Files) (one two : List ℕ) → Replied first a one b → Replied second b two c → Replied (first ++ second) a (one ++ two) c
-both_replied [] second a b c one two is then = subst₂ (λ (l : List ℕ) (files : Files). Replied second files (l ++ two) c) (sym is.0) is.1 then
-both_replied (command ∷ rest) second a b c one two is then = record {
+both_replied : (first second : List Command) (a b c : Files) (one two : List ℕ) (had mid has : Held) → Replied first had a one mid b → Replied second mid b two has c
+    → Replied (first ++ second) had a (one ++ two) has c
+both_replied [] second a b c one two had mid has is then =
+    subst (λ (n : List ℕ × Held × Files). Replied second n.1.0 n.1.1 (n.0 ++ two) has c) (λ i. (sym is.0 i, is.1.0 i, is.1.1 i)) then
+both_replied (command ∷ rest) second a b c one two had mid has is then = record {
   reply = is.reply;
   more = is.more ++ two;
   tells = ap (λ (l : List ℕ). l ++ two) is.tells ∙ append_assoc is.reply is.more two;
   some = is.some;
-  held = is.held;
   right = is.right;
+  has = is.has;
+  goes = is.goes;
   next = is.next;
   leaves = is.leaves;
-  rest = both_replied rest second is.next b c is.more two is.rest then;
+  rest = both_replied rest second is.next b c is.more two is.has mid has is.rest then;
 }
 
-then_replied : (first second : List Command) (before mid now : Disk) → HasReplied first before mid → HasReplied second mid now → HasReplied (first ++ second) before now
-then_replied first second before mid now one two = record {
+then_replied : {first second : List Command} {had mid has : Option Held} (before then now : Disk) → HasReplied first had mid before then → HasReplied second mid has then now
+    → HasReplied (first ++ second) had has before now
+then_replied {first} {second} before then now one two = record {
+  first = one.first;
+  begins = one.begins;
+  last = two.last;
+  ends = two.ends;
   replies = one.replies ++ two.replies;
   told = two.told ∙ ap (λ (l : List ℕ). l ++ two.replies) one.told ∙ append_assoc before.told one.replies two.replies;
-  each = both_replied first second before.files mid.files now.files one.replies two.replies one.each two.each;
+  each = both_replied first second before.files then.files now.files one.replies two.replies one.first one.last two.last one.each
+      (subst (λ (h : Held). Replied second h then.files two.replies two.last now.files) (same_Some _ _ (sym two.begins ∙ one.ends)) two.each);
 }
 
-one_replied : (c : Command) (held : Held) (before now : Disk) → RepliesTo held before.files c before.told now.told → ((MayWrite c → ⊥) → now.files ≡ before.files) → HasReplied (c ∷ []) before now
-one_replied c held before now is leaves = record {
-  replies = is.reply;
-  told = is.told;
+one_replied : {S : Type 0} (T : Ghosts S) (c : Command) (held : Held) (then : Option Held) (old new : S) (before after : Cache) (x : Unit {0}) → IsTrue T.tells → Answers T c held then old new before after (Ok x)
+    → HasReplied (c ∷ []) (Some held) then (T.disk old) (T.disk new)
+one_replied T c held None old new before after x t is = absurd is.goes_on.runs
+one_replied T c held (Some then) old new before after x t is = (let reply = (is.any_files t).answered in record {
+  first = held;
+  begins = refl;
+  last = then;
+  ends = refl;
+  replies = reply.reply;
+  told = reply.told;
   each = record {
-    reply = is.reply;
+    reply = reply.reply;
     more = [];
-    tells = sym (append-nil is.reply);
-    some = gives_some held.levels held.state before.files c is.reply is.right;
-    held = held;
-    right = is.right;
-    next = now.files;
-    leaves = leaves;
-    rest = (refl, refl);
+    tells = sym (append-nil reply.reply);
+    some = gives_some held.levels held.state (T.disk old).files c reply.reply reply.right;
+    right = reply.right;
+    has = then;
+    goes = record { levels = is.goes_on.leveled; state = λ leaves. same_Some _ _ (is.goes_on.stays leaves) };
+    next = (T.disk new).files;
+    leaves = (is.any_files t).settles;
+    rest = (refl, refl, refl);
   };
-}
+})
 
 module _ {S : Type 0} (T : Ghosts S) where
   -- ---- by the world that the session stands for
@@ -156,10 +173,14 @@ module _ {S : Type 0} (T : Ghosts S) where
 
   -- ---- whatever the files hold
 
+  none_replied : (site : S) (had : Option Held) (cache : Cache) → Runs T site had cache → HasReplied [] had had (T.disk site) (T.disk site)
+  none_replied site None cache runs = absurd runs
+  none_replied site (Some held) cache runs = record { first = held; begins = refl; last = held; ends = refl; replies = []; told = sym (append-nil _); each = (refl, refl, refl) }
+
   pub gone_none : (site : S) (had : Option Held) (cache : Cache) → (IsTrue T.tells → OnlyNow (T.disk site)) → Runs T site had cache → HasGone T had had [] site site cache
   gone_none site had cache only runs = record {
     onward = λ t world stands rest. onward_none site had world rest stands (only t);
-    replied = λ t. record { replies = []; told = sym (append-nil _); each = (refl, refl) };
+    replied = λ t. none_replied site had cache runs;
     runs = runs;
     quiet = (refl, refl);
   }
@@ -169,7 +190,7 @@ module _ {S : Type 0} (T : Ghosts S) where
     gone_one None x runs is = absurd runs
     gone_one (Some held) x runs is = record {
       onward = λ t world stands rest. onward_one c world held then old new before after rest x (is.by_world t world stands);
-      replied = λ t. one_replied c held _ _ (is.any_files t).answered (is.any_files t).settles;
+      replied = λ t. one_replied T c held then old new before after x t is;
       runs = is.goes_on.runs;
       quiet = (is.goes_on.stops.disk_faults, is.goes_on.stops.told_faults);
     }
@@ -200,7 +221,7 @@ module _ {S : Type 0} {T : Ghosts S} {had has : Option Held} {one : List Command
     onward = λ t world stands rest.
         let so_far = first.onward t world stands (two ++ rest) in
         rw (append_assoc one two rest) (onward_then T had has world _ _ old mid new so_far then rest (next.onward t so_far.now so_far.stands rest));
-    replied = λ t. then_replied one two _ _ _ (first.replied t) (next.replied t);
+    replied = λ t. then_replied (T.disk old) (T.disk mid) (T.disk new) (first.replied t) (next.replied t);
     runs = next.runs;
     quiet = (next.quiet.0 ∙ first.quiet.0, next.quiet.1 ∙ first.quiet.1);
   }

@@ -16,6 +16,9 @@ use Rattle.cube_state.specs.Moves.{KeepsFormat, Reached, reached_behind, unmoved
 use Rattle.spec_crash.specs.Stops.{AfterStop}
 use Rattle.site_core.specs.Moments.{LeavesOnly}
 use Rattle.cube_session.specs.Session.{reached_for}
+use Rattle.cube_session.specs.declared.held.Held.{Held}
+use Rattle.cube_run.specs.Replied.{RepliesToAll}
+use Rattle.site_core.specs.Disk.{Disk}
 
 -- ---- what a run may spend
 
@@ -124,6 +127,18 @@ unopened S {T} laws given most source valid {cache} {site} {now} {stop} is =
 
 -- ---- the script is served
 
+-- what is told and read was the same before
+replied_from : {cs : List Command} {had has : Option Held} (old mid new : Disk) → mid.told ≡ old.told → mid.files ≡ old.files → HasReplied cs had has mid new → HasReplied cs had has old new
+replied_from {cs} old mid new told files is = record {
+  first = is.first;
+  begins = is.begins;
+  last = is.last;
+  ends = is.ends;
+  replies = is.replies;
+  told = is.told ∙ ap (λ (l : List ℕ). l ++ is.replies) told;
+  each = subst (λ (f : Files). Replied cs is.first f is.replies is.last new.files) files is.each;
+}
+
 module _ {A B : Type 0} {S : Sources A} {T : Sites B} (laws : Laws T) (given : List (List ℕ)) (valid : AreValid given) {most cache : ℕ} {source next : A} {site mid now : B}
     {session : Session} {status : Status} (is : Starts T cache site mid (Ok session)) (serves : Serves S T session.held most source next mid now status) where
   -- which commands were carried out at such an end
@@ -134,7 +149,7 @@ module _ {A B : Type 0} {S : Sources A} {T : Sites B} (laws : Laws T) (given : L
       (subst (λ (told : List ℕ). Outcome (T.disk now) (bare kept) (reached_for session.held) (S.left source) (S.left next) most told end) (is.disk t).told
       (subst (Outcome (T.disk now) (bare kept) (reached_for session.held) (S.left source) (S.left next) most (T.disk mid).told) same (serves.outcome s t (bare kept) (is.opened t kept keeps))))
 
-  done : IsTrue S.tells → status ≡ Done → (S.left next ≡ []) × (IsTrue T.tells → HasReplied (commands (S.left source)) (T.disk mid) (T.disk now))
+  done : IsTrue S.tells → status ≡ Done → (S.left next ≡ []) × (IsTrue T.tells → RepliesToAll (commands (S.left source)) session.held (T.disk mid) (T.disk now))
   done s same = subst (ByEnd _ _ (Unit {0})) same serves.pulled s
 
   no_usage : status ≡ Usage → ⊥
@@ -190,9 +205,9 @@ module _ {A B : Type 0} {S : Sources A} {T : Sites B} (laws : Laws T) (given : L
     broken = λ t fine place breaks. absurd (is.broken t place breaks).1;
     damaged = λ s t none. none_told (T.disk site).files (stop_of status) (serves.unpulled s none);
     replied = λ s t same. (let since = (done s same).1 t in record {
-      replies = since.replies;
-      told = since.told ∙ ap (λ (l : List ℕ). l ++ since.replies) (is.disk t).told;
-      each = subst (λ (files : Files). Replied (commands (S.left source)) files since.replies (T.disk now).files) (is.disk t).files since.each;
+      had = session.held;
+      opened = is.found t;
+      replied = record { has = since.has; replied = replied_from (T.disk site) (T.disk mid) (T.disk now) (is.disk t).told (is.disk t).files since.replied };
     });
     usage = λ same. absurd (no_usage same);
     faulty = λ invalid. absurd (invalid valid);

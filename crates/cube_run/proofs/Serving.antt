@@ -175,7 +175,7 @@ module _ {A B : Type 0} {S : Sources A} {T : Sites B} {had has : Option Held} {c
             undamaged = λ t world stands. tt;
             unpulled = λ s gave. tt;
             few = λ s. inl (omega (arith, given_now s, so_far.few, none));
-            pulled = λ s. (none_left none s, λ t. subst (λ (l : List Command). HasReplied l (T.disk site) (T.disk new)) (sym (last s ∙ append-nil _)) (gone.replied t));
+            pulled = λ s. (none_left none s, λ t. record { has = then; replied = subst (λ (l : List Command). HasReplied l had then (T.disk site) (T.disk new)) (sym (last s ∙ append-nil _)) (gone.replied t) });
             asked = omega (arith, so_far.quiet.0, pulled.end.once);
             cause = (pulled.cause.ok ∙ so_far.quiet.1, gone.quiet.0, gone.quiet.1);
           }

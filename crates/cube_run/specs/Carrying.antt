@@ -21,7 +21,7 @@ pub record Reads (given : List Command) (piece : List ℕ) (before after : Readi
 -- a session that had this carried out these commands, whatever comes behind them, and has that now
 pub record HasGone {S : Type 0} (T : Ghosts S) (had has : Option Held) (commands : List Command) (old new : S) (cache : Cache) : Type 0 where
   pub onward : IsTrue T.tells → (world : World) → StandsFor had (T.disk old) world → (rest : List Command) → Onward T had has world (commands ++ rest) rest old new
-  pub replied : IsTrue T.tells → HasReplied commands (T.disk old) (T.disk new)
+  pub replied : IsTrue T.tells → HasReplied commands had has (T.disk old) (T.disk new)
   pub runs : Runs T new has cache
   pub quiet : (T.disk_faults new ≡ T.disk_faults old) × (T.told_faults new ≡ T.told_faults old)
 

@@ -17,7 +17,7 @@ use Rattle.cube_run.specs.Ends.{EndsUnpulled, EndsUntouched, IsDoneOrMemory, IsU
 use Rattle.cube_run.specs.Headline.{FormatAfter, Headline, StopsShort}
 use Rattle.cube_run.specs.Histories.{HistoriesGoOn}
 use Rattle.cube_run.specs.Pulls.{Gave, KeepsLimit}
-use Rattle.cube_run.specs.Replied.{HasReplied}
+use Rattle.cube_run.specs.Replied.{RepliesFromStart}
 use Rattle.cube_run.specs.declared.exit.Status.{Status}
 use Rattle.cube_run.specs.declared.exit.Status.TheVariants.{Done, Usage}
 
@@ -42,7 +42,7 @@ pub record RunsScript {A B : Type 0} (S : Sources A) (T : Sites B) (words : List
   pub broken : IsTrue T.tells → AreValid words → (place : Place) → BreaksAt (T.disk site).files place
       → EndsUnpulled T (EndsAt place) status source source_now site site_now
   pub damaged : IsTrue S.tells → IsTrue T.tells → Gave (S.left source) (S.left source_now) 0 → EndsForBreak (T.disk site).files status
-  pub replied : IsTrue S.tells → IsTrue T.tells → status ≡ Done → HasReplied (commands (S.left source)) (T.disk site) (T.disk site_now)
+  pub replied : IsTrue S.tells → IsTrue T.tells → status ≡ Done → RepliesFromStart (commands (S.left source)) (T.disk site) (T.disk site_now)
   -- the words and the source
   pub usage : status ≡ Usage → ¬ (AreValid words)
   pub faulty : ¬ (AreValid words) → EndsUntouched (IsUsageOrMemory status) source source_now site site_now

@@ -12,7 +12,7 @@ use Rattle.cube_run.specs.Ends.{IsUndamaged, StatusCause, faults}
 use Rattle.cube_run.specs.Headline.{CutOff, Finished, LeftOff}
 use Rattle.cube_run.specs.Onward.{IsWithin}
 use Rattle.cube_run.specs.Pulls.{Gave, GaveAtMost}
-use Rattle.cube_run.specs.Replied.{HasReplied}
+use Rattle.cube_run.specs.Replied.{RepliesToAll}
 use Rattle.cube_run.specs.declared.exit.Status.{Status}
 use Rattle.cube_run.specs.declared.exit.Status.TheVariants.{Done, Input, TooLong, Usage}
 
@@ -37,7 +37,7 @@ pub record Serves {A B : Type 0} (S : Sources A) (T : Sites B) (had : Option Hel
   pub undamaged : IsTrue T.tells → (world : World) → StandsFor had (T.disk site) world → IsUndamaged status
   pub unpulled : IsTrue S.tells → Gave (S.left source) (S.left source_now) 0 → IsUndamaged status
   pub few : IsTrue S.tells → GaveAtMost (S.left source) (S.left source_now) most ⊎ (status ≡ TooLong)
-  pub pulled : ByEnd (IsTrue S.tells → (S.left source_now ≡ []) × (IsTrue T.tells → HasReplied (commands (S.left source)) (T.disk site) (T.disk site_now)))
+  pub pulled : ByEnd (IsTrue S.tells → (S.left source_now ≡ []) × (IsTrue T.tells → RepliesToAll (commands (S.left source)) had (T.disk site) (T.disk site_now)))
       (IsTrue S.tells → Gave (S.left source) (S.left source_now) (most + 1)) (Unit {0}) status
   pub asked : S.ends source_now ≤ S.ends source + 1
   pub cause : StatusCause (faults (S.faults source) (T.disk_faults site) (T.told_faults site)) (faults (S.faults source_now) (T.disk_faults site_now) (T.told_faults site_now)) status

@@ -44,6 +44,7 @@ module _ {S : Type 0} (T : Ghosts S) (state : State) (old new : S) (cache : Cach
         any_files = λ t. record { damage = tt; answered = is.gives t; spared = tt; looks = λ none dry. absurd (dry tt); settles = λ none. is.disk t; fits = fits t };
         goes_on = record {
           runs = record { running = ready.runs.running; fit = λ t. fit_rests state (T.disk old) (T.disk new) (rests t) (ready.runs.fit t) };
+          stays = λ leaves. refl;
           schema = λ declared has. has;
           cache = λ none. sym (kept_same (live_of state) (live_of state) cache refl);
           capacity = refl;
@@ -83,7 +84,7 @@ module _ {S : Type 0} (T : Ghosts S) (state : State) (old new : S) (cache : Cach
       settles = λ none. is.disk t;
       fits = tt;
     };
-    goes_on = record { runs = tt; schema = λ declared has. tt; cache = λ none. tt; capacity = refl; unwritten = λ none. is.writes; quiet = is.quiet };
+    goes_on = record { runs = tt; stays = λ leaves. tt; schema = λ declared has. tt; cache = λ none. tt; capacity = refl; unwritten = λ none. is.writes; quiet = is.quiet };
     leaves = record {
       made = λ no. tt;
       live = λ same. tt;

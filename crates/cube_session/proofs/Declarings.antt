@@ -9,6 +9,7 @@ use Rattle.cube_session.proofs.Names.{State, Empty, Idle, Stop, ⊎_elim, subst�
 use Rattle.cube_state.proofs.{Known.some_none, Writing.goes_nowhere}
 use Rattle.cube_state.specs.Moves.{reached_by, unmoved}
 use Rattle.cube_state.specs.Visits.{schema_of as schema_of_state}
+use Rattle.cube_state.specs.Carried.{LeavesState}
 
 -- ---- what the call promises
 
@@ -98,7 +99,7 @@ module _ {S : Type 0} (T : Ghosts S) (schema : Schema) (lawful : IsSchema schema
       settles = λ no. vain no;
       fits = tt;
     };
-    goes_on = search (quiet, vain);
+    goes_on = search (quiet, vain, λ (leaves : LeavesState its). tt {0});
     leaves = record {
       made = λ no. tt;
       live = λ same. tt;
@@ -166,7 +167,7 @@ module _ {S : Type 0} (T : Ghosts S) (schema : Schema) (lawful : IsSchema schema
             settles = λ no. vain no;
             fits = none_fit (Some store.forest.body) (T.disk new).files cache ((subst (IsReadyFor T old cache) was ready).fits t);
           };
-          goes_on = search (runs, cached, quiet reply, vain, undeclared);
+          goes_on = search (runs, cached, quiet reply, vain, undeclared, λ (leaves : LeavesState its). absurd leaves.0);
           leaves = record {
             made = λ no. refl;
             live = λ same. absurd same;

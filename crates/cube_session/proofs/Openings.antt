@@ -15,6 +15,7 @@ use Rattle.forest_root.specs.Live.{IsLiveBody}
 use Rattle.cube_state.specs.Moves.{FromFormat, reached_by}
 use Rattle.cube_state.proofs.Moves.{live_root}
 use Rattle.cube_session.specs.Session.{reached_for}
+use Rattle.forest_open.specs.Judging.{IsFound}
 
 -- ---- opening
 
@@ -50,6 +51,7 @@ module _ {S : Type 0} (T : Ghosts S) (old new : S) where
     pub none : IsTrue T.tells → NoneRaised ((T.disk old).files 0) → IfOk answer (λ found. found ≡ None) × IfErr answer IsOpenUndamaged
     pub broken : IsTrue T.tells → (place : Place) → BreaksAt (T.disk old).files place → IfErr answer (NamesPlace place) × OnOk answer ⊥
     pub damaged : IsTrue T.tells → IfErr answer (TellsOpenBreak (T.disk old).files)
+    pub found : IsTrue T.tells → IfOk answer (IsFound (T.disk old).files)
     pub opened : IsTrue T.tells → IfOk answer (λ found. MayBeOpened found (T.disk new))
     pub whole : IfOk answer (λ found. IfSome found IsWhole)
     pub stable : IsTrue T.tells → OnOk answer (IsStable (T.disk new))
@@ -104,6 +106,7 @@ module _ {S : Type 0} (T : Ghosts S) (old new : S) where
     broken = λ t place breaks. absurd (is.broken t place breaks).1;
     damaged = λ t. tt;
     cost = costs (Ok found) is;
+    found = λ t. record { found = found; is_found = is.found t; has = state };
     runs = subst (λ (h : Option Held). Runs T new h session.pages) (sym state) (record {
       ready = record { runs = opened_runs found is; fits = λ t. none_fit (live_of (opened_state found)) (T.disk new).files session.pages empty };
       fit = opened_fits found;

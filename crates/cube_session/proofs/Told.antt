@@ -3,9 +3,10 @@ use Rattle.cube_session.proofs.Names.{Vec, Global, List, sym, subst, ap, Some, �
 use Rattle.cube_session.proofs.Names.{goes_on, wider, Emits, RoseOnce, Disk, Files, LeavesOnly, Ghosts, Cache, Keeps, Command, reply_some, act, Meanwhile, World, emits_left, fit_on, stands_on}
 use Rattle.cube_session.proofs.Names.{stands_left, tells_none, Saves, Fits, live_file, live_of, ByWorld, MayWrite, Costs, Cost, Spends, RunsOn, Between, KeepsEither, Stands, GoesTo}
 use Rattle.cube_session.proofs.Names.{State, Stop}
-use Rattle.cube_session.specs.Session.{Answers, IsGoing, StandsAs}
+use Rattle.cube_session.specs.Session.{Answers, IsGoing, StandsAs, TellsAlone}
 use Rattle.cube_session.specs.declared.held.Held.{Held}
-use Rattle.cube_state.specs.Carried.{CarriesOutWith, Syncs}
+use Rattle.cube_state.specs.Carried.{CarriesOutWith, LeavesState, Syncs}
+use Rattle.cube_state.specs.Commands.{MakesNoCall}
 use Rattle.cube_state.specs.Levels.{FitSchema}
 use Rattle.cube_state.specs.Visits.{schema_of}
 use Rattle.cube_state.proofs.Levels.{fit_behind, schema_stands}
@@ -17,7 +18,7 @@ use Rattle.cube_state.proofs.Moves.{format_past, format_untold, format_within, r
 use Rattle.cube_state.proofs.Standing.{stands_from}
 use Rattle.page_fmt.specs.Formats.{wide_format}
 use Rattle.spec_crash.specs.Keeps.{IsFrom}
-use Rattle.std.proofs.Common.{Bool, false, inl, length-take, nat_lt, true, ◌∷◌, ◌+◌, ◌<◌, ◌≤◌, ◌⊎◌}
+use Rattle.std.proofs.Common.{Bool, false, inl, length-take, nat_lt, subst₂, true, ◌∷◌, ◌+◌, ◌<◌, ◌≤◌, ◌⊎◌}
 use Rattle.std.proofs.lemmas.Bool.Decides.{nat_tests}
 
 less_or_all : (n most : ℕ) → n ≤ most → (n < most) ⊎ (n ≡ most)
@@ -141,6 +142,14 @@ module _ {S : Type 0} (T : Ghosts S) (command : Command) (held then : Held) (old
       saves : (numbers : List ℕ) → GoesTo (format_of state) world command numbers → Saves before (live_file (live_of state)) numbers (T.reads old) (T.reads new)
       saves numbers goes = subst (λ (n : ℕ). Saves before (live_file (live_of state)) numbers (T.reads old) n) (sym reads) (known.saves numbers goes)
 
+      alone : MakesNoCall world (reached_by state) command → TellsAlone T (act world command).1 old new
+      alone none = (let same_site = known.uncalled none in record {
+        disk = subst₂ (λ (s : S) (l : List ℕ). Emits l (T.disk s) (T.disk new)) same_site (same ∙ known.answer.said) (emits t);
+        disk_faults = disk_faults ∙ ap T.disk_faults same_site;
+        reads = reads ∙ ap T.reads same_site;
+        writes = writes ∙ ap T.writes same_site;
+      })
+
     told_on : IsTrue T.tells → (T.disk new).told ≡ (T.disk mid).told ++ bytes → (T.disk new).told ≡ (T.disk old).told ++ reply.items
     told_on t told = told ∙ ap (λ (l : List ℕ). l ++ bytes) (is.goes_on.quiet.told t) ∙ ap (λ (l : List ℕ). (T.disk old).told ++ l) same
 
@@ -159,6 +168,7 @@ module _ {S : Type 0} (T : Ghosts S) (command : Command) (held then : Held) (old
             moment t world stands,
             formats t world stands,
             costs t world stands,
+            alone t world stands,
             saves t world stands,
           );
       any_files = λ t. record { damage = tt; answered = record { reply = reply.items; told = told_on t (told t); right = (is.any_files t).answered }; spared = tt; looks = λ none dry. looks_on t none; settles = looks_on t };
@@ -167,12 +177,13 @@ module _ {S : Type 0} (T : Ghosts S) (command : Command) (held then : Held) (old
             running = is.goes_on.runs.running;
             fit = λ t. fit_on (T.disk mid) (T.disk new) (emits t).files (emits_left bytes (T.disk mid) (T.disk new) (emits t)) next (is.goes_on.runs.fit t);
           } in
+          let stays_on : LeavesState command → Some next ≡ Some state = λ leaves. ap Some (is.goes_on.stays leaves) in
           let fits : IsTrue T.tells → Fits next (T.disk new).files after = λ t. subst (λ (files : Files). Fits next files after) (sym (emits t).files) (is.any_files t).fits in
           let going : IsGoing T new after then = record {
             ready = record { runs = running; fits = fits };
             fit = subst (FitSchema (schema_of next)) (sym leveled) (fit_behind state next levels command is.goes_on.schema fit);
           } in
-          assumption (is.goes_on, going, leveled, unwritten_on, disk_faults ∙ is.goes_on.quiet.disk_faults, told_faults ∙ is.goes_on.quiet.told_faults);
+          assumption (is.goes_on, going, stays_on, leveled, unwritten_on, disk_faults ∙ is.goes_on.quiet.disk_faults, told_faults ∙ is.goes_on.quiet.told_faults);
     }
 
     -- the output failed

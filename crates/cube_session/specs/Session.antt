@@ -1,11 +1,12 @@
 -- A session, which has nothing once it has stopped, and what a command does to it, said once.
 use Rattle.std.specs.Prelude.{◌≡◌, ◌≢◌, ◌≤◌, ◌+◌, ◌++◌, ℕ, IsTrue, IsErrOf, false, List, [], ◌∷◌, Option, Some, None, Result, Ok, Err, IfOk, IfErr, OnErr, OnOk}
 use Rattle.std.specs.Option.{IsSomeAnd}
-use Rattle.site_core.specs.Calls.{Settles, Stays}
+use Rattle.site_core.specs.Calls.{Emits, Settles, Stays}
 use Rattle.site_core.specs.Disk.{Disk, Files}
 use Rattle.site_core.specs.Moments.{LeavesOnly}
 use Rattle.site_core.specs.declared.site.Site.{Ghosts}
 use Rattle.forest_open.specs.Breaks.{BreaksAt}
+use Rattle.forest_open.specs.Judging.{IsFound}
 use Rattle.forest_open.specs.Opening.{Place}
 use Rattle.forest_root.specs.declared.body.Body.{Body}
 use Rattle.forest_root.specs.declared.forest.Store.{Store}
@@ -18,8 +19,8 @@ use Rattle.spec_crash.specs.Stops.{Meanwhile}
 use Rattle.spec_machine.specs.World.{Kept, World, bare}
 use Rattle.cube_state.specs.Cached.{KeepsUp, Saves, kept_over, live_file, live_of}
 use Rattle.cube_state.specs.Audits.{open_cost}
-use Rattle.cube_state.specs.Carried.{IsReadyFor, MayWrite, Spares, Syncs}
-use Rattle.cube_state.specs.Commands.{Costs, Gives, TellsDamage}
+use Rattle.cube_state.specs.Carried.{IsReadyFor, LeavesState, MayWrite, Spares, Syncs}
+use Rattle.cube_state.specs.Commands.{Costs, Gives, MakesNoCall, TellsDamage}
 use Rattle.cube_state.specs.Costs.{Cost, Spends}
 use Rattle.cube_state.specs.Frames.{IsQuiet, StopsFor}
 use Rattle.cube_state.specs.Moves.{FromFormat, KeepsFormat, Reached, format_of, moves_made, reached_behind, reached_by, unmoved}
@@ -68,6 +69,11 @@ abbrev pub live_for : Option Held → Option Body
 live_for None = None
 live_for (Some held) = live_of held.state
 
+-- its state
+abbrev pub state_for : Option Held → Option State
+state_for None = None
+state_for (Some held) = Some held.state
+
 -- its levels
 abbrev pub levels_for : Option Held → List Level
 levels_for None = []
@@ -84,6 +90,12 @@ opened_state (Some store) = Idle store
 abbrev pub opened_held : Option Store → Held
 opened_held found = record { state = opened_state found; levels = [] }
 
+-- what opening these files finds, and nothing else
+pub record HasOpened (files : Files) (held : Option Held) : Type 0 where
+  pub found : Option Store
+  pub is_found : IsFound files found
+  pub has : held ≡ Some (opened_held found)
+
 -- The files are opened, for a session that may keep so many pages between slices: what there is then, on a site as it was and is.
 pub record Starts {S : Type 0} (T : Ghosts S) (most : ℕ) (old new : S) (result : Result Session Stop) : Type 0 where
   -- what the files keep is opened, and no damage is told
@@ -93,6 +105,8 @@ pub record Starts {S : Type 0} (T : Ghosts S) (most : ℕ) (old new : S) (result
   pub broken : IsTrue T.tells → (place : Place) → BreaksAt (T.disk old).files place → IfErr result (StopsAt place) × OnOk result ⊥
   pub damaged : IsTrue T.tells → IfErr result (TellsBreak (T.disk old).files)
   pub cost : IsTrue T.tells → (kept : Kept) → Keeps (T.disk old).files kept → T.reads new ≤ T.reads old + open_cost kept
+  -- whatever they hold
+  pub found : IsTrue T.tells → IfOk result (λ session. HasOpened (T.disk old).files session.held)
   pub runs : IfOk result (λ session. Runs T new session.held session.pages)
   pub moved : IfOk result (λ session. moves_for session.held ≡ 0)
   pub reached : IsTrue T.tells → (kept : Kept) → Keeps (T.disk old).files kept → IfOk result (λ session. FromFormat (T.disk old).files kept (λ reached. reached_for session.held ≡ reached))
@@ -118,6 +132,13 @@ pub record RepliesTo (held : Held) (files : Files) (command : Command) (before n
   pub told : now ≡ before ++ reply
   pub right : Gives held.levels held.state files command reply
 
+-- one call was made, and it told this reply
+pub record TellsAlone {S : Type 0} (T : Ghosts S) (reply : List ℕ) (old new : S) : Type 0 where
+  pub disk : Emits reply (T.disk old) (T.disk new)
+  pub disk_faults : T.disk_faults new ≡ T.disk_faults old
+  pub reads : T.reads new ≡ T.reads old
+  pub writes : T.writes new ≡ T.writes old
+
 -- the world that the session stood for before the command
 pub record AnswersByWorld {S : Type 0} (T : Ghosts S) (command : Command) (world : World) (state : State) (has : Option Held) (old new : S) (before after : Cache) (result : Result (Unit {0}) Stop) : Type 0 where
   pub stands : OnOk result (StandsFor has (T.disk new) (act world command).0)
@@ -128,6 +149,7 @@ pub record AnswersByWorld {S : Type 0} (T : Ghosts S) (command : Command) (world
   pub undamaged : IfErr result IsNoDamage
   pub moved : OnOk result (reached_for has ≡ reached_behind world (reached_by state) command)
   pub cost : (cost : Cost) → Costs world (reached_by state) command cost → Spends T cost old new
+  pub uncalled : MakesNoCall world (reached_by state) command → OnOk result (TellsAlone T (act world command).1 old new)
   -- a slice reads of its pages those alone that are not kept, where there is room, and keeps them
   pub saves : (numbers : List ℕ) → GoesTo (format_of state) world command numbers → Saves before (live_file (live_of state)) numbers (T.reads old) (T.reads new)
   pub keeps : (numbers : List ℕ) → GoesTo (format_of state) world command numbers → OnOk result (KeepsUp before after (live_file (live_of state)) numbers)
@@ -146,6 +168,7 @@ pub record AnswersAnyFiles {S : Type 0} (T : Ghosts S) (command : Command) (held
 pub record AnswersOn {S : Type 0} (T : Ghosts S) (command : Command) (held : Held) (has : Option Held) (old new : S) (before after : Cache) (result : Result (Unit {0}) Stop) : Type 0 where
   pub stopped : OnErr result (has ≡ None)
   pub runs : OnOk result (Runs T new has after)
+  pub stays : LeavesState command → OnOk result (state_for has ≡ Some held.state)
   -- a level that is not refused is one of its levels
   pub leveled : OnOk result (levels_for has ≡ levels_behind (schema_of held.state) held.levels command)
   -- none is kept over a new generation, and no other command but a slice changes them

@@ -300,6 +300,7 @@ module _ {S : Type 0} (T : Ghosts S) (old new : S) (state : State) (store : Stor
       any_files = any_files;
       goes_on = record {
         runs = holds result (record { running = ready.runs.running; fit = λ t. fit_rests state (T.disk old) (T.disk new) (found.tree.looks.disk t) (ready.runs.fit t) });
+        stays = λ leaves. holds result refl;
         schema = λ declared same. holds result same;
         cache = λ none. holds result (asks none ∙ sym (kept_same (live_of state) (live_of state) before refl));
         capacity = found.tree.capacity;

@@ -66,7 +66,7 @@ module _ {S : Type 0} (T : Ghosts S) (command : Command) (state : State) (site :
       settles = λ none. settled_here (T.disk site) (Err stops.Memory);
       fits = tt;
     };
-    goes_on = record { runs = tt; schema = λ declared has. tt; cache = λ none. tt; capacity = refl; unwritten = λ none. refl; quiet = quiet_nowhere T site };
+    goes_on = record { runs = tt; stays = λ leaves. tt; schema = λ declared has. tt; cache = λ none. tt; capacity = refl; unwritten = λ none. refl; quiet = quiet_nowhere T site };
     leaves = record {
       made = λ no. tt;
       live = λ same. tt;
@@ -108,7 +108,7 @@ module _ {S : Type 0} (T : Ghosts S) (command : Command) (state : State) (site :
       settles = λ none. settled_here (T.disk site) (Ok reply);
       fits = ready.fits t;
     };
-    goes_on = record { runs = ready.runs; schema = λ declared has. has; cache = λ none. sym (kept_same (live_of state) (live_of state) cache refl); capacity = refl; unwritten = λ none. refl; quiet = quiet_here T site };
+    goes_on = record { runs = ready.runs; stays = λ leaves. refl; schema = λ declared has. has; cache = λ none. sym (kept_same (live_of state) (live_of state) cache refl); capacity = refl; unwritten = λ none. refl; quiet = quiet_here T site };
     leaves = record {
       made = λ no. sym (is.alone no);
       live = λ same. refl;

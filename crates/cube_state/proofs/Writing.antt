@@ -15,7 +15,7 @@ use Rattle.spec_machine.specs.World.{Kept, World}
 use Rattle.cube_state.specs.declared.state.State.{State}
 use Rattle.cube_state.specs.declared.stop.Stop.{Stop}
 use Rattle.cube_state.specs.Cached.{Fits, FitsLive, SideStays, emptied, generation, kept_over, live_of}
-use Rattle.cube_state.specs.Carried.{CarriesOut, IsReadyFor, IsStep, LeavesLive, MayWrite, RepliesAlone, Spares, TellsNone, made_alone}
+use Rattle.cube_state.specs.Carried.{CarriesOut, Does, DoesNot, effect_of, IsReadyFor, IsStep, LeavesLive, LeavesState, MayWrite, RepliesAlone, Spares, TellsNone, made_alone}
 use Rattle.cube_state.specs.Commands.{Costs, Gives, MakesNoCall, TellsDamage}
 use Rattle.cube_state.specs.Costs.{Cost, Spends}
 use Rattle.cube_state.specs.Frames.{IsQuiet, RunsOn}
@@ -43,6 +43,14 @@ goes_nowhere command none format world numbers goes = by world.kept goes
     by None is = is
     by (Some warehouse) is = subst (λ (a : Option Slice). GoesOver format warehouse.schema warehouse.facts a numbers) (none warehouse.schema world.levels) is
 
+-- what writes does not leave what the session has
+clash : (writes : Bool) → Does writes → DoesNot writes → ⊥
+clash true does not = not
+clash false does not = does
+
+pub writes_on : (command : Command) → MayWrite command → LeavesState command → ⊥
+writes_on command may leaves = clash (effect_of command).writes may leaves.0
+
 -- ---- what is particular to an end of a command
 
 -- for each world that the session stood for
@@ -61,6 +69,8 @@ pub record Replies {S : Type 0} (T : Ghosts S) (command : Command) (state next :
   pub uncalled : ForEach T state old (λ world. MakesNoCall world (reached_by state) command → new ≡ old)
   pub answered : IsTrue T.tells → (levels : List Level) → Gives levels state (T.disk old).files command reply
   pub runs : RunsOn T new next
+  -- the session may have something else then
+  pub busy : LeavesState command → ⊥
   pub schema : (declared : Schema) → schema_of state ≡ Some declared → schema_of next ≡ Some declared
   pub made : (IsStep command → ⊥) → moves_made next ≡ made_alone command (moves_made state)
   pub said : RepliesAlone command → (files : Files) (levels : List Level) → Gives levels state files command reply
@@ -115,6 +125,7 @@ module _ {S : Type 0} (T : Ghosts S) (command : Command) (none_asked : (schema :
     };
     goes_on = record {
       runs = is.runs;
+      stays = λ leaves. absurd (is.busy leaves);
       schema = is.schema;
       cache = λ none. leaves.cache;
       capacity = ap (λ (c : Cache). c.capacity) leaves.cache ∙ kept_capacity (generation (live_of state) == generation (live_of next)) before;
@@ -148,7 +159,7 @@ module _ {S : Type 0} (T : Ghosts S) (command : Command) (none_asked : (schema :
       keeps = λ numbers goes. tt;
     };
     any_files = λ t. record { damage = is.damage t levels; answered = tt; spared = is.spared t; looks = λ no dry. absurd (no may); settles = λ no. absurd (no may); fits = tt };
-    goes_on = record { runs = tt; schema = λ declared has. tt; cache = λ none. tt; capacity = same; unwritten = λ no. absurd (no may); quiet = quiet };
+    goes_on = record { runs = tt; stays = λ leaves. tt; schema = λ declared has. tt; cache = λ none. tt; capacity = same; unwritten = λ no. absurd (no may); quiet = quiet };
     leaves = record {
       made = λ no. tt;
       live = λ same. tt;

@@ -106,6 +106,10 @@ made_alone command made = cond (effect_of command).ends 0 made
 abbrev pub LeavesLive : Command → Type 0
 LeavesLive command = DoesNot (effect_of command).renews
 
+-- it leaves what the session has: it writes nothing, and drops no pending batch
+abbrev pub LeavesState : Command → Type 0
+LeavesState command = DoesNot (effect_of command).writes × DoesNot (effect_of command).ends
+
 abbrev pub TellsNone : Command → Type 0
 TellsNone command = DoesNot (effect_of command).tells
 
@@ -158,6 +162,7 @@ pub record OverAnyFiles {S : Type 0} (T : Ghosts S) (levels : List Level) (comma
 -- whether or not the site reports its content
 pub record GoesOn {S : Type 0} (T : Ghosts S) (levels : List Level) (command : Command) (state next : State) (old new : S) (before after : Cache) (result : Reply) : Type 0 where
   pub runs : OnOk result (RunsOn T new next)
+  pub stays : LeavesState command → OnOk result (next ≡ state)
   -- a declared schema stays
   pub schema : (declared : Schema) → schema_of state ≡ Some declared → OnOk result (schema_of next ≡ Some declared)
   -- no page stays cached past a new generation; otherwise only a slice changes the cache
