@@ -19,7 +19,7 @@ use slice_exec::{AnswerStop, answer_picked};
 use sql_lang::{Query, read_sql};
 use sql_slice::{Plan, plan, sql_text};
 use std::alloc::Global;
-use view_rows::SliceRows;
+use slice_rows::SliceRows;
 
 /// Answers the text of a query over the accepted facts, or refuses it by the first rule that it breaks. What the session has stays as it
 /// was, and nothing is written. An error ends the session: a file failed, a page is not sound, the rows of the slice do not add up, or

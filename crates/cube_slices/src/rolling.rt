@@ -21,7 +21,7 @@ use site_core::Site;
 use slice_exec::{AnswerStop, answer_picked};
 use slice_lang::read_slice;
 use std::alloc::Global;
-use view_rows::SliceRows;
+use slice_rows::SliceRows;
 
 /// Answers the text of a slice that may name levels, over the accepted facts with their parents, or refuses it by the first rule that it
 /// breaks. What the session has stays as it was, and nothing is written. An error ends the session: a file failed, a page is not sound, the

@@ -12,7 +12,7 @@ use site_core::{SIDES, Site};
 use slice_exec::{AnswerStop, rows_text};
 use slice_lang::read_slice;
 use std::alloc::Global;
-use view_rows::SliceRows;
+use slice_rows::SliceRows;
 
 /// Answers the text of a slice over the accepted facts, or refuses it by the first rule that it breaks. What the session has stays as it
 /// was, and nothing is written. An error ends the session: a file failed, a page is not sound, or memory ran out.

@@ -10,8 +10,8 @@ use forest_root::Store;
 use page_cache::Pages;
 use replica_route::pick;
 use site_core::Site;
+use slice_rows::SliceRows;
 use std::alloc::Global;
-use view_rows::SliceRows;
 
 /// What `answer` gives, from another view: of the covering views with fewest points one of which most last attributes are bound by
 /// equalities.
