@@ -24,9 +24,9 @@ use Rattle.std.proofs.lemmas.Result.{IfOk-weaker}
 use Rattle.std.proofs.lemmas.Slice.Zip.{AllZip-long}
 use Rattle.std.specs.List.{All}
 use Rattle.roll_up.specs.Lifted as lifted
-use Rattle.view_rows.specs.Grouped as grouped
+use Rattle.slice_rows.specs.Grouped as grouped
 use Rattle.spec_points.specs.Agree.{is_text}
-use Rattle.view_rows.specs.Regions.{is_word}
+use Rattle.view_region.specs.Regions.{is_word}
 
 pub rollup_asks : (text : List ℕ) → IsAsking (Command.Rollup text)
 rollup_asks text = record {

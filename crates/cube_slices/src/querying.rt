@@ -19,7 +19,7 @@ use slice_exec::{AnswerStop, answer_picked};
 use sql_lang::{Query, read_sql};
 use sql_slice::{Plan, plan, sql_text};
 use std::alloc::Global;
-use view_rows::SliceRows;
+use slice_rows::SliceRows;
 
 /// Answers a query over the accepted facts, or refuses its text for the first rule that it breaks. The session is unchanged, and nothing
 /// is written. An error ends the session: a file failed, a page is damaged, the rows of the slice do not add up, or memory ran out.

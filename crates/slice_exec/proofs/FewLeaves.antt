@@ -51,7 +51,7 @@ use Rattle.spec_store.proofs.Storable.{storable}
 use Rattle.range_scan.specs.Meeting.{is_inside}
 use Rattle.range_scan.specs.Packed.{HoldsTree}
 use Rattle.range_scan.proofs.Tests.{inside-told}
-use Rattle.view_rows.specs.Regions.{clamped, region_from}
+use Rattle.view_region.specs.Regions.{clamped, region_from}
 use Rattle.replica_route.specs.Together.{matching}
 use Rattle.replica_route.proofs.Bound.{AreApart, IsFree, free-interval}
 use Rattle.replica_route.proofs.Told.{view-apart}

@@ -37,8 +37,8 @@ use Rattle.range_scan.specs.Meeting.{is_inside}
 use Rattle.range_scan.proofs.Tests.{inside-from, inside-told}
 use Rattle.slice_lang.specs.Agreeing.{SliceAgrees}
 use Rattle.view_route.specs.Routes.{IsCovering}
-use Rattle.view_rows.specs.Grouped.{points_inside}
-use Rattle.view_rows.specs.Regions.{IsPlaced, region_from}
+use Rattle.view_region.specs.Regions.{IsPlaced, region_from}
+use Rattle.slice_rows.specs.Grouped.{points_inside}
 use Rattle.slice_exec.proofs.Agreed.{answers}
 use Rattle.slice_exec.proofs.ShownNames.{shown-inside}
 

@@ -12,7 +12,7 @@ use Rattle.view_route.specs.Counts.{body_counts}
 use Rattle.forest_root.specs.declared.forest.Store.{Store}
 use Rattle.spec_store.specs.Stored.{IsStoreOf}
 use Rattle.view_route.specs.Routes.{IsCovering}
-use Rattle.view_rows.specs.Grouped.{HasForm}
+use Rattle.slice_rows.specs.Grouped.{HasForm}
 use Rattle.slice_exec.specs.Answering.{AnswersFrom}
 use Rattle.slice_exec.specs.Answers.{IsJudged, IsNoDamage, IsUncovered}
 use Rattle.slice_exec.specs.Costs.{visits_over}

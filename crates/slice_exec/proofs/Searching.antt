@@ -15,8 +15,8 @@ use Rattle.forest_root.specs.declared.forest.Store.{Store}
 use Rattle.range_scan.specs.Visits.{visits}
 use Rattle.range_scan.specs.declared.walk.SearchStop.{SearchStop}
 use Rattle.range_scan.specs.declared.walk.SearchStop.TheVariants as searches
-use Rattle.view_rows.specs.declared.stop.RowsStop.{RowsStop}
-use Rattle.view_rows.specs.declared.stop.RowsStop.TheVariants as fails
+use Rattle.point_groups.specs.declared.stop.RowsStop.{RowsStop}
+use Rattle.point_groups.specs.declared.stop.RowsStop.TheVariants as fails
 use Rattle.slice_exec.specs.declared.stop.AnswerStop.{AnswerStop}
 use Rattle.slice_exec.specs.declared.stop.AnswerStop.TheVariants as stops
 use Rattle.slice_exec.specs.Answers.{region_of, rows_told, stop_at, tree_of_view, visits_of}

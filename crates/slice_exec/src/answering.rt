@@ -7,7 +7,7 @@ ghost use Rattle.spec_store.specs.Stored.{IsStoreOf};
 ghost use Rattle.page_cache.specs.Keeping.{Agrees};
 ghost use Rattle.slice_lang.specs.Agreeing.{SliceAgrees};
 ghost use Rattle.view_route.specs.Routes.{IsCovering, IsRoute};
-ghost use Rattle.view_rows.specs.Grouped.{HasForm};
+ghost use Rattle.slice_rows.specs.Grouped.{HasForm};
 ghost use Rattle.slice_exec.specs.Answering.{AnswersFrom};
 ghost use Rattle.slice_exec.specs.Answers.{IsJudged, IsNoDamage, rows_told};
 ghost use Rattle.slice_exec.specs.Searching.{SearchesView};
@@ -17,10 +17,11 @@ use crate::stop::AnswerStop;
 use fact_model::Slice;
 use forest_root::{Forest, Store};
 use page_cache::Pages;
+use point_groups::{Groups, RowsStop};
 use site_core::{SIDES, Site};
+use slice_rows::{SliceRows, rows_of};
 use std::alloc::Global;
 use view_route::route;
-use view_rows::{Groups, RowsStop, SliceRows};
 
 /// The rows of a slice: one for each group of the accepted facts that meet its conditions, ascending by key. They are made from the
 /// points of a covering view with the fewest points. Of its tree, only pages whose boxes meet the conditions and that are not cached are
@@ -90,7 +91,7 @@ fn rows_of_view<'a, T: Site>(
     let mut groups = Groups::new(alloc, attrs, slice.group.as_slice());
     find(alloc, site, pages, store, slice, view, &mut groups)?;
     told(
-        groups.rows(alloc, &store.dicts, attrs, slice),
+        rows_of(alloc, &store.dicts, attrs, slice, groups),
         &store.forest,
     )
 }

@@ -10,8 +10,8 @@ use forest_root::Store;
 use page_cache::Pages;
 use replica_route::pick;
 use site_core::Site;
+use slice_rows::SliceRows;
 use std::alloc::Global;
-use view_rows::SliceRows;
 
 /// Like `answer`, but from another view: of the covering views with the fewest points, one with the most last attributes bound by
 /// equalities.

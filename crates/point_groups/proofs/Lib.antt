@@ -1,0 +1,10 @@
+pub mod ClosedLists
+pub mod FlatLists
+pub mod FoldPlaces
+pub mod FoldSteps
+pub mod GatheredPlaces
+pub mod GivenPoints
+pub mod IndexedPlaces
+pub mod KeptGroups
+pub mod KeptPlaces
+pub mod PutLists

@@ -1,0 +1,4 @@
+pub mod Grouped
+pub mod Keys
+pub mod Ranks
+pub mod Sound

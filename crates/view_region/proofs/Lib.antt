@@ -1,0 +1,2 @@
+pub mod RegionEnds
+pub mod RegionPoints

@@ -1,8 +1,0 @@
-use Rattle.std.proofs.Common.{rules, ◌≡◌, length, ap, sym, ◌∙◌}
-use Rattle.view_rows.proofs.ClosedLists.{closed-long}
-use Rattle.view_rows.proofs.closed.ClosedPoints.len.Goals as goal
-
-pub returns-clause-count : goal.returns-clause-count
-returns-clause-count c =
-    let many : c.len.result ≡ length c.self.inside.measures.items = search (rules, c.len.ensures) in
-    many ∙ (sym (closed-long c.self.inside) ∙ ap length c.self.view_is)

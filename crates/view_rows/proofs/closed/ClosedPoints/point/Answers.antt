@@ -1,7 +1,0 @@
-use Rattle.std.proofs.Common.{ap, ◌∙◌}
-use Rattle.cube_point.specs.declared.point.Entry.{Entry}
-use Rattle.view_rows.proofs.ClosedLists.{found}
-use Rattle.view_rows.proofs.closed.ClosedPoints.point.Goals as goal
-
-pub returns : goal.returns
-returns c = (λ i. record { arity = 0; at = c.numbers_at.ensures i }) ∙ ap (λ (e : Entry). e.point) (found c.self.inside c.args.self.now c.args.number c.self.view_is c.requires)

@@ -1,8 +1,0 @@
-use Rattle.std.proofs.Common.{get_or, ◌≡◌, map, take}
-use Rattle.spec_points.specs.Answer.{column_of}
-use Rattle.view_rows.specs.Grouped.{nowhere}
-use Rattle.view_rows.proofs.lending.lend_numbers.Given as goal
-
--- the columns passed
-abbrev pub invariant-loop-column : goal.invariant-loop-column
-invariant-loop-column l = l.numbers.items ≡ map (column_of (get_or l.points l.number nowhere).cell) (take l.column-index l.columns)

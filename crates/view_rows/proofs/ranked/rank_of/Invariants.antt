@@ -1,8 +1,0 @@
-use Rattle.std.proofs.Common.{get_or}
-use Rattle.view_rows.specs.Grouped.{nowhere}
-use Rattle.view_rows.proofs.RankKeys.{IsBegun}
-use Rattle.view_rows.proofs.ranked.rank_of.Given as goal
-
--- the ranks passed are in the number, with room for the others
-abbrev pub invariant-loop-table : goal.invariant-loop-table
-invariant-loop-table l = IsBegun l.names l.view (get_or l.points l.number nowhere) l.ranks l.table-index l.rank

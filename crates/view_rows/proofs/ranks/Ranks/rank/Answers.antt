@@ -1,8 +1,0 @@
-use Rattle.std.proofs.Common.{◌<◌, length, arith}
-use Rattle.view_rows.proofs.CodeRanks.{first-rank}
-use Rattle.view_rows.proofs.ranks.Ranks.rank.Goals as goal
-
-pub returns-then-place-len : goal.returns-then-place-len
-returns-then-place-len c =
-    let low : c.args.code < length c.args.self.now.firsts.items = omega arith in
-    first-rank c.args.names.now c.args.self.now c.args.code c.index.result.now c.requires.kept low c.index.ensures
