@@ -16,10 +16,10 @@ use replica_route::pick;
 use reply_text::{plain, refused_query};
 use site_core::Site;
 use slice_exec::{AnswerStop, answer_picked};
+use slice_rows::SliceRows;
 use sql_lang::{Query, read_sql};
 use sql_slice::{Plan, plan, sql_text};
 use std::alloc::Global;
-use slice_rows::SliceRows;
 
 /// Answers a query over the accepted facts, or refuses its text for the first rule that it breaks. The session is unchanged, and nothing
 /// is written. An error ends the session: a file failed, a page is damaged, the rows of the slice do not add up, or memory ran out.

@@ -20,8 +20,8 @@ use roll_up::{LevelList, base_of, extend, fold_up};
 use site_core::Site;
 use slice_exec::{AnswerStop, answer_picked};
 use slice_lang::read_slice;
-use std::alloc::Global;
 use slice_rows::SliceRows;
+use std::alloc::Global;
 
 /// Answers a slice that may name levels, over the accepted facts with their parents, or refuses its text for the first rule that it breaks.
 /// The session is unchanged, and nothing is written. An error ends the session: a file failed, a page is damaged, the rows of the base

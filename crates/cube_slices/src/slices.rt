@@ -11,8 +11,8 @@ use reply_text::{plain, refused_slice};
 use site_core::{SIDES, Site};
 use slice_exec::{AnswerStop, rows_text};
 use slice_lang::read_slice;
-use std::alloc::Global;
 use slice_rows::SliceRows;
+use std::alloc::Global;
 
 /// Answers a slice over the accepted facts, or refuses its text for the first rule that it breaks. The session is unchanged, and nothing
 /// is written. An error ends the session: a file failed, a page is damaged, or memory ran out.
