@@ -38,33 +38,6 @@ own_at files file g = elim (cases_eq g file) [
 pub files_of-set_same : (files : List (Vec ℕ Global)) (file : ℕ) (v : Vec ℕ Global) → file < length files → v.items ≡ files_of files file → files_of (set files file v) ≡ files_of files
 files_of-set_same files file v low same = files_of-set files file v low ∙ ap (with_file (files_of files) file) same ∙ (λ i. λ g. own_at (files_of files) file g i)
 
--- the same of texts
-text_same : (texts : List (List ℕ)) (file : ℕ) (text : List ℕ) → file < length texts → texts_of (set texts file text) file ≡ text
-text_same [] file text low = absurd (omega arith)
-text_same (u ∷ texts) zero text low = refl
-text_same (u ∷ texts) (suc file) text low = text_same texts file text (omega arith)
-
-text_other : (texts : List (List ℕ)) (file : ℕ) (text : List ℕ) (g : ℕ) → g ≢ file → texts_of (set texts file text) g ≡ texts_of texts g
-text_other [] file text g other = refl
-text_other (u ∷ texts) zero text zero other = absurd (other refl)
-text_other (u ∷ texts) zero text (suc g) other = refl
-text_other (u ∷ texts) (suc file) text zero other = refl
-text_other (u ∷ texts) (suc file) text (suc g) other = text_other texts file text g (λ same. other (ap suc same))
-
-text_at : (texts : List (List ℕ)) (file : ℕ) (text : List ℕ) → file < length texts → (g : ℕ) → texts_of (set texts file text) g ≡ with_file (texts_of texts) file text g
-text_at texts file text low g = elim (cases_eq g file) [
-  | inl same ↦ subst (λ k. texts_of (set texts file text) k ≡ with_file (texts_of texts) file text k) (sym same) (text_same texts file text low ∙ sym (with_file-same (texts_of texts) file text))
-  | inr other ↦ text_other texts file text g other ∙ sym (with_file-other (texts_of texts) file text g other)
-]
-
-pub texts_of-set : (texts : List (List ℕ)) (file : ℕ) (text : List ℕ) → file < length texts → texts_of (set texts file text) ≡ with_file (texts_of texts) file text
-texts_of-set texts file text low = λ i. λ g. text_at texts file text low g i
-
-pub texts_of-at : (texts : List (List ℕ)) (file : ℕ) (d : List ℕ) → file < length texts → get_or texts file d ≡ texts_of texts file
-texts_of-at [] file d low = absurd (omega arith)
-texts_of-at (u ∷ texts) zero d low = refl
-texts_of-at (u ∷ texts) (suc file) d low = texts_of-at texts file d (omega arith)
-
 pub files_of-at : (files : List (Vec ℕ Global)) (file : ℕ) (d : Vec ℕ Global) → file < length files → (get_or files file d).items ≡ files_of files file
 files_of-at [] file d low = absurd (omega arith)
 files_of-at (u ∷ files) zero d low = refl

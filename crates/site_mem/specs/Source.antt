@@ -1,7 +1,6 @@
 -- What is known of sources in memory.
 use Rattle.std.specs.Prelude.{◌≡◌, ℕ, List, drop, length, min, Option, Some, None, Result, IsErr, OnOk, OnErr}
 use Rattle.site_mem.specs.declared.source.MemorySource.{MemorySource}
-use Rattle.site_mem.specs.declared.source.SureSource.{SureSource}
 use Rattle.site_mem.specs.Counts.{risen}
 
 -- the bytes that it was made with
@@ -50,13 +49,6 @@ pub record IsPull {T E : Type 0} (old new : MemorySource) (result : Result T E) 
   -- the bytes stay, and how many of them a pull gives
   pub bytes : source_bytes new ≡ source_bytes old
   pub piece : source_piece new ≡ source_piece old
-
--- the same of a source without failures
-abbrev pub sure_left : SureSource → List ℕ
-sure_left source = drop source.taken source.bytes
-
-abbrev pub sure_piece : SureSource → ℕ
-sure_piece source = source.piece
 
 -- as many bytes as the piece, the room and the bytes that are left allow
 abbrev pub pulled : ℕ → ℕ → List ℕ → ℕ

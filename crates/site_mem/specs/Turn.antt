@@ -1,5 +1,5 @@
 -- Calls that are to fail.
-use Rattle.std.specs.Prelude.{◌≡◌, ℕ, ◌≤◌, Bool, false, ◌==◌, ⊤, Option, Some, None, List, [], ◌∷◌, ◌++◌, Contains}
+use Rattle.std.specs.Prelude.{◌≡◌, ℕ, ◌≤◌, ⊤, Option, Some, None, List, [], ◌∷◌, ◌++◌, Contains}
 use Rattle.site_mem.specs.declared.log.Turn.{Turn}
 use Rattle.site_mem.specs.declared.log.Turn.TheVariants.{Goes, Fails, Stops, Starves}
 
@@ -19,8 +19,3 @@ IsTurn stop fails number Starves = ⊤
 abbrev pub IsNoted : {X : Type 0} → Turn → X → List X → List X → Type 0
 IsNoted Starves x old new = new ≡ old
 IsNoted _ x old new = new ≡ old ++ x ∷ []
-
--- this number is the one that was asked for
-abbrev pub is_asked : Option ℕ → ℕ → Bool
-is_asked None number = false
-is_asked (Some asked) number = asked == number

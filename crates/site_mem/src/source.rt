@@ -1,5 +1,5 @@
-//! Sources over bytes in memory.
-ghost use Rattle.std.specs.Prelude.{◌≡◌, ◌<◌, ◌≤◌, ◌+◌, ◌-◌, ◌^◌, min, true, drop, length, IsErr, IsOk, OnErr, OnOk, IfOk, None, Some};
+//! A source over bytes in memory.
+ghost use Rattle.std.specs.Prelude.{◌≡◌, ◌<◌, ◌≤◌, ◌+◌, ◌-◌, ◌^◌, min, true, drop, length, IsErr, OnErr, OnOk, IfOk, None, Some};
 ghost use Rattle.site_core.specs.Causes.{HasCause};
 ghost use Rattle.site_core.specs.Pull.{Gives, MeetsEnd};
 
@@ -18,15 +18,6 @@ pub struct MemorySource {
     ended: u64,
     ghost some: { 0 < piece },
     ghost within: { taken ≤ length bytes },
-}
-
-/// The same, of which no pull fails. It counts no pulls.
-#[derive(Drop)]
-pub struct SureSource {
-    bytes: Text,
-    taken: usize,
-    piece: usize,
-    ghost some: { 0 < piece },
 }
 
 impl MemorySource {
@@ -76,23 +67,6 @@ impl MemorySource {
     }
 }
 
-impl SureSource {
-    ghost use Rattle.site_mem.specs.Source.{sure_left, sure_piece};
-
-    /// These bytes, at most `piece` of them a pull. It takes no memory.
-    pub fn new(bytes: Text, piece: usize) -> SureSource
-        requires { 0 < piece }
-        ensures left { sure_left result ≡ bytes }
-        ensures piece { sure_piece result ≡ piece }
-    {
-        SureSource {
-            bytes,
-            taken: 0,
-            piece,
-        }
-    }
-}
-
 impl Source for MemorySource {
     ghost use Rattle.site_mem.specs.Counts.{risen};
     ghost use Rattle.site_mem.specs.Source.{source_left, source_faults, source_piece, source_number, source_ends, pulled, IsPull};
@@ -137,35 +111,8 @@ impl Source for MemorySource {
     }
 }
 
-impl Source for SureSource {
-    ghost use Rattle.site_mem.specs.Source.{sure_left, sure_piece, pulled};
-
-    ghost tells = { true };
-
-    ghost left = { λ s. sure_left s };
-
-    ghost faults = { λ _. 0 };
-
-    ghost pulls = { λ _. 0 };
-
-    ghost ends = { λ _. 0 };
-
-    fn pull(&mut self, into: &mut [u8]) -> Result<usize, Fault>
-        requires { 0 < length into.old }
-        ensures bound { IfOk result (λ count. count ≤ length into.new) }
-        ensures bytes { IfOk result
-            (λ count. Gives (sure_left self.old) (sure_left self.new) count into.new) }
-        ensures count { IfOk result
-            (λ count. count ≡ pulled (sure_piece self.old) (length into.old) (sure_left self.old)) }
-        ensures sure { IsOk result }
-        ensures piece { sure_piece self.new ≡ sure_piece self.old }
-    {
-        Ok(give(self.bytes.as_bytes(), &mut self.taken, self.piece, into))
-    }
-}
-
-// Gives the next piece and moves on behind it.
-fn give(bytes: &[u8], taken: &mut usize, piece: usize, into: &mut [u8]) -> usize
+/// Gives the next piece of the bytes of a source, of which it counts those taken. It takes no memory.
+pub fn give(bytes: &[u8], taken: &mut usize, piece: usize, into: &mut [u8]) -> usize
     requires piece { 0 < piece }
     requires some { 0 < length into.old }
     ensures bound { result ≤ length into.new }

@@ -5,8 +5,9 @@ use crate::program::{Ended, Program};
 use crate::request::MOST;
 use crate::trouble::Trouble;
 use fact_model::Text;
-use site_mem::{MemorySite, SureSite, SureSource};
+use site_mem::MemorySite;
 use std::alloc::{AllocError, Global};
+use test_sites::{SureSite, SureSource};
 
 /// How a look ended, and what it output.
 #[derive(Drop)]

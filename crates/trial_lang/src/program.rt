@@ -1,8 +1,9 @@
 //! The program that trials test.
 ghost use Rattle.std.specs.Prelude.{◌≤◌, ◌^◌};
 
-use site_mem::{MemorySource, ShortSite, SureSite, SureSource};
+use site_mem::MemorySource;
 use std::alloc::Global;
+use test_sites::{ShortSite, SureSite, SureSource};
 
 /// How a run ended.
 #[derive(Clone, Copy, PartialEq, Eq)]

@@ -5,9 +5,10 @@ use crate::program::{Ended, Program};
 use crate::trouble::Trouble;
 use crate::words::{Words, number};
 use fact_model::{Memory, Text};
-use site_mem::{MemorySite, MemorySource, ShortSite};
+use site_mem::{MemorySite, MemorySource};
 use std::alloc::Global;
 use std::{mem, str};
+use test_sites::ShortSite;
 
 /// The most bytes of a script.
 pub const MOST: u64 = 1 << 30;

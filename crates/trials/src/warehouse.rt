@@ -1,8 +1,9 @@
 //! The program of the warehouse.
 
 use cube_shell::{Status, run_within};
-use site_mem::{MemorySource, ShortSite, SureSite, SureSource};
+use site_mem::MemorySource;
 use std::alloc::Global;
+use test_sites::{ShortSite, SureSite, SureSource};
 use text_hash::Seed;
 use trial_lang::{Ended, Program};
 

@@ -169,7 +169,7 @@ pub fn failed(faults: &mut u64) -> Fault
     Fault
 }
 
-/// The fault of a call that found no memory.
+/// The fault of a call that found no memory: it raises both counts. It takes no memory.
 pub fn starved(faults: &mut u64, starved: &mut u64) -> Fault
     ensures later { faults.old ≤ faults.new }
     ensures faults { faults.new ≡ risen faults.old }
@@ -179,7 +179,7 @@ pub fn starved(faults: &mut u64, starved: &mut u64) -> Fault
     failed(faults)
 }
 
-/// Copies the bytes from a place on, as many as there are or as there is room for.
+/// Copies the bytes from a place on, as many as there are or as there is room for, and answers how many. It takes no memory.
 pub fn fill(bytes: &[u8], at: u64, into: &mut [u8]) -> usize
     ensures { Fills bytes.now at result into.new }
 {

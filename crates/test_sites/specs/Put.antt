@@ -1,8 +1,8 @@
 -- What becomes of the fields of a site of which no call fails.
 use Rattle.std.specs.Prelude.{◌≡◌, ℕ, List, [], ◌∷◌, ◌++◌, length}
 use Rattle.site_core.specs.Disk.{with_file, overwritten}
-use Rattle.site_mem.specs.declared.sure_site.Change.{Change}
-use Rattle.site_mem.specs.declared.sure_site.Change.TheVariants.{Wrote, Told}
+use Rattle.test_sites.specs.declared.sure_site.Change.{Change}
+use Rattle.test_sites.specs.declared.sure_site.Change.TheVariants.{Wrote, Told}
 use Rattle.site_mem.specs.History.{texts_of}
 
 -- one of the files has these bytes over its old ones, and its old ones are kept

@@ -6,11 +6,11 @@ use Rattle.site_core.specs.Disk.{Files, Torn, with_file, overwritten}
 use Rattle.site_core.specs.Calls.{Writes, Emits, TellsNothing, TellsFront, Stays}
 use Rattle.site_core.specs.Moments.{Elapses}
 use Rattle.site_core.proofs.Files.{Torn-refl, Torn-overwritten, with_file-same, with_file-other}
-use Rattle.site_mem.specs.declared.sure_site.Change.{Change}
-use Rattle.site_mem.specs.declared.sure_site.Change.TheVariants.{Wrote, Told}
-use Rattle.site_mem.specs.Changes.{files_before, told_before, SureSince, changed_disk}
+use Rattle.test_sites.specs.declared.sure_site.Change.{Change}
+use Rattle.test_sites.specs.declared.sure_site.Change.TheVariants.{Wrote, Told}
+use Rattle.test_sites.specs.Changes.{files_before, told_before, SureSince, changed_disk}
 use Rattle.site_mem.specs.History.{texts_of}
-use Rattle.site_mem.specs.Put.{IsPut, IsSaid}
+use Rattle.test_sites.specs.Put.{IsPut, IsSaid}
 use Rattle.site_mem.proofs.Elapsing.{stands, reverse-push, all_told, none_told}
 
 module _ (tells : List ℕ → List ℕ → Type 0) (step : Files → Files → Type 0) (now new : Files) (out more : List ℕ) (changes : List Change) (change : Change)

@@ -1,10 +1,10 @@
 -- What is known of a site of which no call fails.
 use Rattle.std.specs.Prelude.{◌≡◌, ℕ, reverse}
 use Rattle.site_core.specs.Disk.{Disk}
-use Rattle.site_mem.specs.declared.sure_site.SureSite.{SureSite}
+use Rattle.test_sites.specs.declared.sure_site.SureSite.{SureSite}
 use Rattle.site_mem.specs.Counts.{Tally}
 use Rattle.site_mem.specs.History.{texts_of}
-use Rattle.site_mem.specs.Changes.{changed_disk}
+use Rattle.test_sites.specs.Changes.{changed_disk}
 
 abbrev pub sure_disk : SureSite → Disk
 sure_disk site = changed_disk (texts_of site.files) site.told.items (reverse site.past.items)

@@ -5,12 +5,10 @@ ghost use Rattle.site_core.specs.Moments.{IsStable};
 ghost use Rattle.site_core.specs.Silent.{no_disk, no_left};
 ghost use Rattle.site_mem.specs.Counts.{Counts};
 ghost use Rattle.site_mem.specs.Tape.{IsWritten};
-ghost use Rattle.site_mem.specs.Turn.{is_asked};
+ghost use Rattle.test_sites.specs.ShortSite.{is_asked};
 
-use crate::call::Call;
-use crate::site::MemorySite;
-use crate::site::answers::failed;
 use site_core::{Fault, Site};
+use site_mem::{Call, MemorySite};
 
 /// A site in memory of which one read gives one byte fewer than the site has there. No files that are left alone do this, so
 /// it tells nothing. All else is as the site below does it, but that a write past the end of a file fails and is no call there.
@@ -21,7 +19,7 @@ pub struct ShortSite {
 }
 
 impl ShortSite {
-    ghost use Rattle.site_mem.specs.Short.{site_below, short_call};
+    ghost use Rattle.test_sites.specs.ShortSite.{site_below, short_call};
 
     /// Over this site. The call with this number, counted from 0 as the site below counts its calls, gives one byte fewer
     /// where it is a read that gives some. It takes no memory.
@@ -49,19 +47,19 @@ impl ShortSite {
 
 impl Site for ShortSite {
     ghost use Rattle.site_mem.specs.Site.{site_disk, site_tape, site_calls, stable_files, IsCall};
-    ghost use Rattle.site_mem.specs.Short.{site_below, short_call, shortened, tally_below};
+    ghost use Rattle.test_sites.specs.ShortSite.{site_below, short_call, shortened, tally_below};
 
     ghost tells = { false };
 
     ghost disk = { λ _. no_disk };
 
-    ghost disk_faults = { λ s. s.site.disk_faults };
+    ghost disk_faults = { λ s. (tally_below s).disk_faults };
 
-    ghost told_faults = { λ s. s.site.told_faults };
+    ghost told_faults = { λ s. (tally_below s).told_faults };
 
-    ghost reads = { λ s. s.site.reads };
+    ghost reads = { λ s. (tally_below s).reads };
 
-    ghost writes = { λ s. s.site.writes };
+    ghost writes = { λ s. (tally_below s).writes };
 
     ghost read_now = { λ s tells. no_left tells };
 
@@ -93,7 +91,7 @@ impl Site for ShortSite {
         ensures tape { site_tape (site_below self.new) ≡ site_tape (site_below self.old) }
         ensures short { short_call self.new ≡ short_call self.old }
     {
-        let asked = is_asked(self.short, self.site.log.next);
+        let asked = is_asked(self.short, self.site.number());
         let count = self.site.read(file, at, into)?;
         Ok(if asked {
             count.saturating_sub(1)
@@ -119,9 +117,8 @@ impl Site for ShortSite {
         ensures kept { stable_files (site_below self.new) ≡ stable_files (site_below self.old) }
         ensures short { short_call self.new ≡ short_call self.old }
     {
-        if at > self.site.tape.bytes(file).len() as u64 {
-            self.site.writes = self.site.writes.saturating_add(1);
-            return Err(failed(&mut self.site.disk_faults));
+        if at > self.site.file(file).len() as u64 {
+            return Err(self.site.refuse_write());
         }
         self.site.write(file, at, bytes)
     }

@@ -2,7 +2,7 @@
 ghost use Rattle.std.specs.Prelude.{◌≡◌, ◌<◌, ◌≤◌, length, IfOk, OnOk, OnErr};
 ghost use Rattle.site_core.specs.Disk.{overwritten, with_file};
 ghost use Rattle.site_mem.specs.History.{texts_of};
-ghost use Rattle.site_mem.specs.Put.{IsPut, IsSaid};
+ghost use Rattle.test_sites.specs.Put.{IsPut, IsSaid};
 
 use crate::sure_site::Change;
 use fact_model::Text;

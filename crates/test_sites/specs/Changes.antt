@@ -2,8 +2,8 @@
 use Rattle.std.specs.Prelude.{◌≡◌, ◌⊎◌, ℕ, ◌+◌, ◌≤◌, List, [], ◌∷◌, length, take}
 use Rattle.std.proofs.Common.{inl, inr, le_trans}
 use Rattle.site_core.specs.Disk.{Files, Disk, with_file}
-use Rattle.site_mem.specs.declared.sure_site.Change.{Change}
-use Rattle.site_mem.specs.declared.sure_site.Change.TheVariants.{Wrote, Told}
+use Rattle.test_sites.specs.declared.sure_site.Change.{Change}
+use Rattle.test_sites.specs.declared.sure_site.Change.TheVariants.{Wrote, Told}
 
 -- the files before a change
 abbrev pub files_before : Change → Files → Files

@@ -1,8 +1,8 @@
 use Rattle.std.proofs.Common.{◌<◌, ℕ, List, length, ◌∙◌, ap, arith}
 use Rattle.site_core.specs.Disk.{with_file, overwritten}
 use Rattle.site_mem.specs.History.{texts_of}
-use Rattle.site_mem.proofs.Arrays.{texts_of-set, texts_of-at}
-use Rattle.site_mem.proofs.sure_site.changes.replace_file.Goals as goal
+use Rattle.test_sites.proofs.Texts.{texts_of-set, texts_of-at}
+use Rattle.test_sites.proofs.sure_site.changes.replace_file.Goals as goal
 
 pub returns-clause-old : goal.returns-clause-old
 returns-clause-old c =

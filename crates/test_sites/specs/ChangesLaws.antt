@@ -1,8 +1,8 @@
 -- The laws of a site that hold of every list of changes.
 use Rattle.std.proofs.Common.{◌≡◌, inl, inr, ℕ, suc, ◌≤◌, List, [], ◌∷◌, length, refl, arith}
 use Rattle.site_core.specs.Disk.{Files}
-use Rattle.site_mem.specs.declared.sure_site.Change.{Change}
-use Rattle.site_mem.specs.Changes.{files_before, told_before, SureSince}
+use Rattle.test_sites.specs.declared.sure_site.Change.{Change}
+use Rattle.test_sites.specs.Changes.{files_before, told_before, SureSince}
 
 pub sure_counts_now : (now : Files) (out : List ℕ) (changes : List Change) (t : ℕ) (files : Files) → t ≤ length changes
     → files ≡ now → SureSince now out changes t out files

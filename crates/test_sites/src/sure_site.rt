@@ -8,11 +8,10 @@ ghost use Rattle.site_mem.specs.History.{texts_of};
 
 mod changes;
 
-use crate::call::Call;
-use crate::site::answers::{fill, starved};
 use changes::{put, say};
 use fact_model::Text;
 use site_core::{Fault, Site};
+use site_mem::{Call, fill, starved};
 use std::alloc::Global;
 
 /// Four files and an output in memory, of which no call fails and each write is stable at once. A fault comes from want of
@@ -40,7 +39,7 @@ pub enum Change {
 }
 
 impl SureSite {
-    ghost use Rattle.site_mem.specs.SureSite.{sure_disk, sure_starved, IsUnasked};
+    ghost use Rattle.test_sites.specs.SureSite.{sure_disk, sure_starved, IsUnasked};
 
     /// These files, and nothing told. It takes no memory.
     pub fn new(alloc: Global, files: [Text; 4]) -> SureSite
@@ -85,8 +84,8 @@ impl SureSite {
 }
 
 impl Site for SureSite {
-    ghost use Rattle.site_mem.specs.ChangesLaws.{sure_counts_now, sure_only_now};
-    ghost use Rattle.site_mem.specs.SureSite.{sure_disk, sure_starved, sure_tally};
+    ghost use Rattle.test_sites.specs.ChangesLaws.{sure_counts_now, sure_only_now};
+    ghost use Rattle.test_sites.specs.SureSite.{sure_disk, sure_starved, sure_tally};
     ghost use Rattle.std.specs.Prelude.{refl};
 
     ghost tells = { true };

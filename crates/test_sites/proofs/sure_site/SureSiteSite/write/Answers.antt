@@ -1,5 +1,5 @@
-use Rattle.site_mem.proofs.Changing.{Writes-put, Writes-unput}
-use Rattle.site_mem.proofs.sure_site.SureSiteSite.write.Goals as goal
+use Rattle.test_sites.proofs.Changing.{Writes-put, Writes-unput}
+use Rattle.test_sites.proofs.sure_site.SureSiteSite.write.Goals as goal
 
 pub returns-in-Ok-clause-disk : goal.returns-in-Ok-clause-disk
 returns-in-Ok-clause-disk c = Writes-put _ _ _ _ _ _ _ _ c.in-Ok.ensures.ok
