@@ -1,4 +1,4 @@
-//! The points of a tree that was read, kept in the leaves in which they stood.
+//! The points of a tree that was read, kept in the leaves that held them.
 #![tactic(auto)]
 
 mod tree;

@@ -51,8 +51,8 @@ impl TreePoints {
         &self.views[arity]
     }
 
-    /// Keeps a leaf of so many points of an arity, behind leaves that are full; it stood in the page with this number. Only want of memory
-    /// makes it fail, and all is then as before.
+    /// Keeps a leaf of `count` points of an arity, after leaves that are full; `number` is that of the page it was read from. The only
+    /// error is out of memory; the value is then unchanged.
     pub fn push(
         &mut self,
         arity: usize,

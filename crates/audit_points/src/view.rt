@@ -11,7 +11,7 @@ use page_entry::{Coded, HEADER, PAGE, lent_entry, size_of_entry};
 use std::alloc::Global;
 use std::marker::Model;
 
-/// The points of one arity, in their leaves, of which all but the last are full.
+/// The points of one arity, in their leaves, all full but the last.
 #[derive(Drop)]
 pub struct ViewPoints {
     alloc: Global,
@@ -80,14 +80,14 @@ impl ViewPoints {
         self.shape.measures
     }
 
-    /// The number of the page that was the first leaf; `None` where there is no leaf.
+    /// The page number of the first leaf; `None` if there is no leaf.
     pub fn first(&self) -> Option<u64>
         ensures { result ≡ self.now.first }
     {
         self.first
     }
 
-    /// The point with this number, counted from 0, where it is kept.
+    /// The point with this number, counted from 0, read in place in its leaf.
     pub fn point(&self, index: usize) -> Coded<'_>
         requires { index < length (points_of self.now) }
         ensures point { result ≡ get_or (points_of self.now) index result }
@@ -101,8 +101,8 @@ impl ViewPoints {
         )
     }
 
-    /// Keeps a leaf of so many points, behind leaves that are full; it stood in the page with this number. Only want of memory makes it fail,
-    /// and all is then as before.
+    /// Keeps a leaf of `count` points, after leaves that are full; `number` is that of the page it was read from. The only error is out of
+    /// memory; the value is then unchanged.
     pub fn push(&mut self, page: &[u8; PAGE], count: usize, number: u64) -> Result<(), Memory>
         requires page { HasEntries self.old.shape page.now }
         requires count { count ≡ page_count page.now }
@@ -120,7 +120,7 @@ impl ViewPoints {
     }
 }
 
-/// The first page, where there was one, and otherwise this one.
+/// The first page if there was one, otherwise this one.
 fn first_or(first: Option<u64>, number: u64) -> Option<u64>
     ensures { result ≡ first_or first number }
 {

@@ -14,7 +14,7 @@ use Rattle.spec_points.specs.Weights.{count_in, weight}
 abbrev pub RollsUp : View → View → List Entry → List Entry → Type 0
 RollsUp fine coarse es cs = rolled_up fine coarse (map pair_of es) ≡ map pair_of cs
 
--- the counts of the points add up to so many facts
+-- the counts of the points add up to this number of facts
 abbrev pub AddUp : ℕ → List Entry → Type 0
 AddUp facts es = weight count_in (map pair_of es) ≡ facts
 
@@ -22,12 +22,12 @@ AddUp facts es = weight count_in (map pair_of es) ≡ facts
 abbrev pub projected_at : List ℕ → List ℕ → List ℕ
 projected_at dims place = padded (map (λ d. slice_index place d) dims)
 
--- the dimensions of the finer view in which the attributes of the coarser one stand, in the coarser view's order
+-- the dimensions of the finer view that hold the attributes of the coarser one, in the coarser view's order
 pub record AreDims (fine coarse : View) (dims : List ℕ) : Type 0 where
   pub few : length dims ≤ 8
   pub place : (place : List ℕ) → length place ≡ 8 → projected fine coarse place ≡ projected_at dims place
 
--- points of a view as they are read of accepted pages: in order, each as a leaf may hold it
+-- points of a view as read from accepted pages: in order, and each one that a leaf may hold
 pub record AreRead (kept : Kept) : Type 0 where
   pub order : ascend entry_before (points_of kept) ≡ true
   pub good : All (FitsLeaf kept.shape) (points_of kept)

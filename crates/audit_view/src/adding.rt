@@ -6,7 +6,7 @@ ghost use Rattle.audit_view.specs.Rolling.{AddUp};
 
 use audit_points::ViewPoints;
 
-/// Whether the counts of a view's points add up to so many facts.
+/// Whether the counts of a view's points add up to `facts`.
 pub fn do_add_up(view: &ViewPoints, facts: u64) -> bool
     ensures { IsTrue result ↔ AddUp facts (points_of view.now) }
 {

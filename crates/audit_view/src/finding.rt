@@ -1,4 +1,4 @@
-//! Where a point of a view stands.
+//! Where a view has a point.
 
 ghost use Rattle.std.specs.Prelude.{◌≡◌, ◌↔◌, ◌≤◌, ◌<◌, true, IsTrue, IfNone, IfSome, get_or, length};
 ghost use Rattle.cube_point.specs.declared.point.Entry as points;
@@ -10,7 +10,8 @@ use audit_points::ViewPoints;
 use cube_point::Point;
 use std::cmp::Ordering;
 
-/// The number of the point of a view that stands where this one does, looked for from a number on and then by halving.
+/// The number of the view's point at the same place as `point`. It tries `near` and `near + 1` first, then searches by
+/// halving.
 pub(crate) fn find(view: &ViewPoints, point: &Point, near: usize) -> Option<usize>
     requires { near ≤ length (points_of view.now) }
     ensures found { IfSome result (StandsAt (points_of view.now) point.now.at) }
@@ -25,7 +26,7 @@ pub(crate) fn find(view: &ViewPoints, point: &Point, near: usize) -> Option<usiz
     halve(view, point)
 }
 
-/// Whether the point with this number, if there is one, stands where this one does.
+/// Whether the point with this number exists and is at the same place as `point`.
 fn is_at(view: &ViewPoints, point: &Point, index: usize) -> bool
     ensures { IsTrue result → StandsAt (points_of view.now) point.now.at index }
 {
@@ -38,7 +39,7 @@ fn is_at(view: &ViewPoints, point: &Point, index: usize) -> bool
     }
 }
 
-/// The number of the point of a view that stands where this one does.
+/// The number of the view's point at the same place as `point`, found by halving.
 fn halve(view: &ViewPoints, point: &Point) -> Option<usize>
     ensures found { IfSome result (StandsAt (points_of view.now) point.now.at) }
     ensures none { ascend entry_before (points_of view.now) ≡ true → IfNone result (IsNowhere (points_of view.now) point.now.at) }

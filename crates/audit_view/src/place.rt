@@ -7,7 +7,8 @@ ghost use Rattle.audit_view.specs.Rolling.{projected_at};
 use cube_point::Point;
 use page_entry::Coded;
 
-/// The point of the coarser view, whose attributes stand in these dimensions of the finer one.
+/// The entry's point in the coarser view. `dims` are the finer view's dimensions that hold the coarser view's
+/// attributes.
 pub(crate) fn projected(entry: &Coded<'_>, dims: &[usize]) -> Point
     requires few { length dims.now ≤ 8 }
     ensures { result.at ≡ projected_at dims.now entry.now.point.at }

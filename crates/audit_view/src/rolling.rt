@@ -17,8 +17,8 @@ use fact_model::Memory;
 use page_entry::Coded;
 use std::alloc::Global;
 
-/// Whether the points of a coarser view are those of a finer one, grouped by the attributes of the coarser view, which stand in these
-/// dimensions of the finer one, with their cells joined. Only want of memory makes it fail.
+/// Whether the points of a coarser view are those of a finer one, grouped by the coarser view's attributes, with their cells joined.
+/// `dims` are the finer view's dimensions that hold these attributes. The only error is out of memory.
 pub fn is_roll_up(
     alloc: Global,
     fine: &ViewPoints,
@@ -41,7 +41,7 @@ pub fn is_roll_up(
     Ok(are_all(&totals, coarse))
 }
 
-/// So many joins of no cells.
+/// `count` totals of nothing.
 fn none(alloc: Global, count: usize) -> Result<Vec<Total>, Memory>
     ensures { IfOk result (λ totals. AreNone count totals.items) }
 {
@@ -52,8 +52,8 @@ fn none(alloc: Global, count: usize) -> Result<Vec<Total>, Memory>
     Ok(totals)
 }
 
-/// Joins the cell of a point of the finer view where its point of the coarser view stands, and answers its number. `None` where there is
-/// no such point, the cell has no facts, or the counts there pass 64 bits.
+/// Joins the cell of a point of the finer view to the total of its point in the coarser view, and returns that point's number. `None` if
+/// there is no such point, the cell has no facts, or the count there passes 64 bits.
 fn take_in(
     totals: &mut Vec<Total>,
     coarse: &ViewPoints,
@@ -78,7 +78,7 @@ fn take_in(
     }
 }
 
-/// Whether what came at each point of the coarser view is its cell.
+/// Whether the total at each point of the coarser view is its cell.
 fn are_all(totals: &Vec<Total>, coarse: &ViewPoints) -> bool
     requires { length totals.now.items ≡ length (points_of coarse.now) }
     ensures { (sums : ℕ → Option cells.Cell) → AreRead coarse.now

@@ -1,4 +1,4 @@
-//! Cells added up exactly, whatever their sums are on the way.
+//! Cells added up exactly, even if a sum passes 128 bits on the way.
 
 ghost use Rattle.std.specs.Prelude.{◌≡◌, ◌↔◌, ◌≤◌, ◌<◌, ◌+◌, ◌^◌, ◌+ℤ◌, ◌<ℤ◌, ◌≤ℤ◌, ℕ, pos, Some, Option, IsTrue, FitsSigned, false, length};
 ghost use Rattle.std.specs.Int.{w128};
@@ -8,7 +8,7 @@ ghost use Rattle.audit_view.specs.Totals.{HoldsSum, IsCell, IsSteady, exact_part
 
 use fact_model::{Cell, Part};
 
-/// A part whose sum is `low`, and 2^128 for each of the ups, less 2^128 for each of the downs.
+/// A part whose sum is `low`, plus 2^128 for each of the ups, less 2^128 for each of the downs.
 #[derive(Clone, Copy)]
 pub(crate) struct ExactPart {
     pub(crate) low: i128,
@@ -26,7 +26,7 @@ pub(crate) struct Total {
 }
 
 impl ExactPart {
-    /// This part.
+    /// A part as an exact part.
     fn of(part: &Part) -> ExactPart
         ensures { result ≡ exact_part part.now }
     {
@@ -39,7 +39,7 @@ impl ExactPart {
         }
     }
 
-    /// Whether it is this part.
+    /// Whether it equals this part.
     fn is(self, part: Part) -> bool
         ensures { IsTrue result ↔ (part_in self ≡ part) }
     {
@@ -73,7 +73,7 @@ impl ExactPart {
         }
     }
 
-    /// The same where the number and `low` do not add up within 128 bits.
+    /// The same, if the number and `low` do not add up within 128 bits.
     #[tactic(auto, unfolding(crate::specs::Totals::exact_sum))]
     fn past(self, sum: i128) -> ExactPart
         requires past { FitsSigned w128 (self.low +ℤ sum) → ⊥ }
@@ -149,7 +149,7 @@ impl Total {
         }
     }
 
-    /// Joins a cell; false where it has no facts, or the counts do not add up within 64 bits. Then nothing is changed.
+    /// Joins a cell. False if it has no facts, or the counts do not add up within 64 bits; then nothing is changed.
     pub(crate) fn add(&mut self, cell: &Cell) -> bool
         requires { IsSteady self.old }
         ensures joined { (measures : ℕ) (sum : Option cells.Cell) → cell.now.measures ≡ measures → HoldsSum measures sum self.old
@@ -168,7 +168,8 @@ impl Total {
         self.join(cell)
     }
 
-    /// Joins a cell of some facts to one; false where the counts do not add up within 64 bits. Then nothing is changed.
+    /// Joins a cell with facts to a total with facts. False if the counts do not add up within 64 bits; then nothing is
+    /// changed.
     fn join(&mut self, cell: &Cell) -> bool
         requires steady { IsSteady self.old }
         requires some { 0 < self.old.count }
@@ -194,7 +195,7 @@ impl Total {
         true
     }
 
-    /// Whether it is this cell.
+    /// Whether it equals this cell.
     pub(crate) fn is(&self, cell: &Cell) -> bool
         ensures is { IsTrue result ↔ IsCell self.now cell.now }
         ensures four { length cell.now.parts ≡ 4 }
@@ -212,7 +213,7 @@ impl Total {
     }
 }
 
-/// The sum of two numbers, less 2^128, where it is past the greatest of 128 bits.
+/// The sum of two numbers less 2^128, for a sum above the greatest number of 128 bits.
 fn lowered(low: i128, sum: i128) -> i128
     requires past { FitsSigned w128 (low +ℤ sum) → ⊥ }
     requires up { pos 0 <ℤ sum }
@@ -221,7 +222,7 @@ fn lowered(low: i128, sum: i128) -> i128
     (low + i128::MIN) + (sum + i128::MIN)
 }
 
-/// The sum of two numbers, and 2^128, where it is past the least of 128 bits.
+/// The sum of two numbers plus 2^128, for a sum below the least number of 128 bits.
 fn raised(low: i128, sum: i128) -> i128
     requires past { FitsSigned w128 (low +ℤ sum) → ⊥ }
     requires down { sum ≤ℤ pos 0 }

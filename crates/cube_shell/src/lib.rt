@@ -1,4 +1,4 @@
-//! The warehouse behind its top call: a script in, one reply out for each command.
+//! The warehouse as one call: a script in, one reply out for each command.
 #![tactic(auto)]
 
 mod top_call;

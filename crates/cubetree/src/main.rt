@@ -29,14 +29,15 @@ fn report(rt: &HostRuntime, status: Status) -> io::Result<()> {
     }
 }
 
-/// A seed that is drawn for this run. Where the system gives no bytes it is a fixed one: then texts can be chosen for it.
+/// A random seed for this run. If the system gives no bytes, it is a fixed one, and texts can then be chosen to share a
+/// hash.
 fn drawn_seed(rt: &HostRuntime) -> Seed {
     let mut bytes = [0; 16];
     let _ = rt.fill_bytes(&mut bytes);
     Seed::new(u128::from_le_bytes(bytes))
 }
 
-/// Runs the script, where the words can be read as texts.
+/// Runs the script, if the words of the command line are texts.
 fn run_here(rt: &HostRuntime) -> Status {
     match words(rt) {
         Ok(words) => run(

@@ -15,7 +15,7 @@ pub fn words(rt: &HostRuntime) -> io::Result<Vec<String>> {
     Ok(words)
 }
 
-/// How the run ends where its words cannot be had: for want of memory, or since one is no text.
+/// The status if the words cannot be read: the program is out of memory, or a word is not a text.
 pub fn fault_of_words(error: &io::Error) -> Status
     ensures memory { error_kind error.now ≡ ErrorKind.OutOfMemory → result ≡ Status.Memory }
     ensures usage { error_kind error.now ≢ ErrorKind.OutOfMemory → result ≡ Status.Usage }

@@ -12,7 +12,7 @@ use Rattle.delta_agg.specs.declared.runs.ViewRuns.{ViewRuns}
 use Rattle.delta_agg.specs.Batch.{HasPlace}
 use Rattle.delta_agg.specs.Rows.{IsOrdered, row_place}
 
--- a fact of these numbers alone
+-- a fact of these numbers, without values
 abbrev pub bare : List ℤ → Fact
 bare numbers = record { values = []; measures = numbers }
 
@@ -20,15 +20,15 @@ bare numbers = record { values = []; measures = numbers }
 abbrev pub facts_at : List (List ℤ) → List ℕ → List Fact
 facts_at numbers rows = map (λ row. bare (get_or numbers row [])) rows
 
--- the part of no number
+-- the part used as a default: of no number
 abbrev pub no_part : Part
 no_part = record { sum = pos 0; low = pos 0; high = pos 0 }
 
--- the entry of rows of one place: the place of the first, and the cell of all
+-- the entry of rows that share one place: the place of the first, and the cell of all
 abbrev pub run_entry : ℕ → View → List (List ℕ) → List (List ℤ) → List ℕ → Entry
 run_entry measures view coded numbers rows = entry_of (row_place view coded (slice_index rows 0), cell_of measures (facts_at numbers rows))
 
--- what lies between a cut and the next
+-- the elements between a cut and the next
 abbrev pub run_at : List ℕ → List ℕ → ℕ → List ℕ
 run_at order cuts at = take (slice_index cuts (at + 1) - slice_index cuts at) (drop (slice_index cuts at) order)
 
@@ -52,11 +52,11 @@ tree_entries measures coded numbers views = flat_map (view_entries measures code
 abbrev pub views_in : List ViewRuns → List View
 views_in views = map (λ (v : ViewRuns). v.view) views
 
--- what stands past the views
+-- the default past the views
 abbrev pub no_view : ViewRuns
 no_view = record { view = []; runs = record { order = []; cuts = [] } }
 
--- codes and numbers of at most 262,144 rows, whose sums keep within their types
+-- codes and numbers of at most 262,144 rows, whose sums fit their types
 pub record IsBatch (measures : ℕ) (coded : List (List ℕ)) (numbers : List (List ℤ)) : Type 0 where
   pub lists : length coded ≡ length numbers
   pub some : 1 ≤ measures
@@ -65,13 +65,13 @@ pub record IsBatch (measures : ℕ) (coded : List (List ℕ)) (numbers : List (L
   pub masses : KeepMasses (map bare numbers)
   pub few : length numbers ≤ 262144
 
--- the rows have places in the view, and are in its order
+-- the rows have places in the view, and are in the view's order
 pub record IsRuns (coded : List (List ℕ)) (v : ViewRuns) : Type 0 where
   pub arity : length v.view ≤ 8
   pub places : All (HasPlace v.view) coded
   pub ordered : IsOrdered v.view coded v.runs.order v.runs.cuts
 
--- at most nine views, and the rows in the order of each
+-- at most nine views, each with the rows in its order
 pub record IsTree (coded : List (List ℕ)) (views : List ViewRuns) : Type 0 where
   pub nine : length views ≤ 9
   pub each : All (IsRuns coded) views

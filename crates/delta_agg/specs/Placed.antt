@@ -8,6 +8,6 @@ use Rattle.delta_agg.specs.Batch.{point_at}
 abbrev pub placed_at : View → List (List ℕ) → ℕ → Placed
 placed_at view coded row = record { point = point_at view (get_or coded row []); row = row }
 
--- what stands past the end
+-- the default past the end
 abbrev pub no_placed : Placed
 no_placed = record { point = record { arity = 0; at = [] }; row = 0 }

@@ -20,15 +20,15 @@ row_before view coded i j = is_lt (point_cmp (row_place view coded i) (row_place
 abbrev pub same_place : View → List (List ℕ) → ℕ → ℕ → Bool
 same_place view coded i j = is_eq (point_cmp (row_place view coded i) (row_place view coded j))
 
--- another place than that of the row before begins there in the order
+-- the row at this position in the order has another place than the row before it
 abbrev pub begins : View → List (List ℕ) → List ℕ → ℕ → Bool
 begins view coded order at = (at == 0) || not (same_place view coded (slice_index order (at - 1)) (slice_index order at))
 
--- where a test says that something begins, up to an end, and this end
+-- the positions below an end where a test says that something begins, and then this end
 abbrev pub cuts_by : (ℕ → Bool) → ℕ → List ℕ
 cuts_by starts end = filter starts (range_with_len 0 end) ++ end ∷ []
 
--- all rows in the order of their places in the view, and where each place begins there
+-- all rows in the order of their places in the view, and the position where each place begins
 pub record IsOrdered (view : View) (coded : List (List ℕ)) (order cuts : List ℕ) : Type 0 where
   pub moved : IsPermutation (range_with_len 0 (length coded)) order
   pub sorted : IsSortedBy (row_before view coded) order
@@ -36,7 +36,7 @@ pub record IsOrdered (view : View) (coded : List (List ℕ)) (order cuts : List 
 
 -- ---- places as numbers
 
--- no coordinate is above its top
+-- no coordinate is above the top of its attribute
 abbrev pub IsUnder : List ℕ → List ℕ → Type 0
 IsUnder tops coordinates = (a : ℕ) → a < length tops → slice_index coordinates a ≤ slice_index tops a
 
@@ -44,7 +44,7 @@ IsUnder tops coordinates = (a : ℕ) → a < length tops → slice_index coordin
 abbrev pub digit_of : List ℕ → ℕ → Digit
 digit_of tops a = record { attr = a; top = slice_index tops a }
 
--- how many coordinates a digit tells apart, from 0 on
+-- the number of coordinates that a digit can hold, from 0 on
 abbrev pub span : Digit → ℕ
 span d = d.top + 1
 
@@ -52,12 +52,12 @@ span d = d.top + 1
 abbrev pub digits_of : List ℕ → View → List Digit
 digits_of tops view = map (digit_of tops) (reverse view)
 
--- how many numbers digits make
+-- the number of values that the digits can hold
 abbrev pub room : List Digit → ℕ
 room [] = 1
 room (d ∷ digits) = span d * room digits
 
--- a number with digits behind it
+-- a number with digits appended
 abbrev pub number_from : ℕ → List Digit → List ℕ → ℕ
 number_from number [] coordinates = number
 number_from number (d ∷ digits) coordinates = number_from (number * span d + slice_index coordinates d.attr) digits coordinates
@@ -66,7 +66,7 @@ number_from number (d ∷ digits) coordinates = number_from (number * span d + s
 abbrev pub HasDigit : List ℕ → Digit → Type 0
 HasDigit coordinates d = (1 ≤ slice_index coordinates d.attr) × (slice_index coordinates d.attr < span d)
 
--- the number of a row's place, and behind it the row
+-- the number of a row's place, followed by the row
 abbrev pub row_key : List Digit → List (List ℕ) → ℕ → ℕ
 row_key digits coded row = number_from 0 digits (get_or coded row []) * 2 ^ 18 + row
 

@@ -9,7 +9,7 @@ ghost use Rattle.delta_agg.specs.Orders.{bare, facts_at, no_part};
 use fact_batch::FlatRows;
 use fact_model::{Cell, Part};
 
-/// The cell of these rows, of which there is one at least.
+/// The cell of these rows; there is at least one.
 pub(crate) fn cell_of(measures: u8, numbers: &FlatRows<i128>, rows: &[u32]) -> Cell
     requires four { measures ≤ 4 }
     requires each { All (λ row. length row ≡ measures) numbers.now }
@@ -66,7 +66,7 @@ fn add(cell: &mut Cell, numbers: &[i128])
     }
 }
 
-/// The part with one number more.
+/// The part with one more number.
 fn joined(part: &Part, number: i128) -> Part
     requires { FitsSigned w128 (part.now.sum +ℤ number) }
     ensures { result ≡ join_parts part.now (part_of (number ∷ [])) }

@@ -13,7 +13,7 @@ use std::alloc::Global;
 pub(crate) struct Digit {
     /// The attribute whose coordinate it is.
     pub(crate) attr: u32,
-    /// The greatest coordinate that there may be.
+    /// The greatest coordinate that can occur.
     pub(crate) top: u64,
 }
 
@@ -64,7 +64,7 @@ pub(crate) fn digits_of(alloc: Global, view: &[u32], tops: &[u64]) -> Result<Vec
     Ok(digits)
 }
 
-/// Whether the digits make at most so many numbers; it may say no where they do.
+/// Whether the digits hold at most `most` numbers. It may answer false although they do.
 pub(crate) fn room_within(digits: &[Digit], most: u128) -> bool
     ensures { IsTrue result → room digits.now ≤ most }
 {

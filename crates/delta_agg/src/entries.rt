@@ -8,7 +8,7 @@ use crate::runs::ViewRuns;
 use cube_point::{Entry, Point};
 use fact_batch::FlatRows;
 
-/// The point of the run at this place.
+/// The point of the run with this number.
 pub(crate) fn point_of(coded: &FlatRows<u64>, view: &ViewRuns, at: usize) -> Point
     requires runs { IsRuns coded.now view.now }
     requires at { at < run_count view.now }
@@ -18,7 +18,7 @@ pub(crate) fn point_of(coded: &FlatRows<u64>, view: &ViewRuns, at: usize) -> Poi
     point(view.view.as_slice(), coded.row(row as usize))
 }
 
-/// The entry of the run at this place.
+/// The entry of the run with this number.
 pub(crate) fn entry_of(
     measures: u8,
     coded: &FlatRows<u64>,

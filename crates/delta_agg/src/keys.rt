@@ -1,4 +1,4 @@
-//! The rows of a batch in the order of their keys.
+//! The rows of a batch, sorted by keys.
 ghost use Rattle.std.specs.Prelude.{◌≡◌, ◌<◌, ◌≤◌, ◌^◌, ℕ, Bool, List, IfOk, map, length};
 ghost use Rattle.std.specs.List.Sorted.{IsPermutation, IsSortedBy};
 ghost use Rattle.delta_agg.specs.Keys.{IsSortedOut, key_begins};
@@ -8,7 +8,7 @@ use crate::runs::Runs;
 use fact_model::{ListOf, Memory};
 use std::alloc::Global;
 
-/// A row with what tells its place in a view.
+/// A row with a key for its place in a view.
 pub(crate) trait RowKey {
     /// The row.
     ghost row_of: { Self → ℕ };
@@ -16,24 +16,24 @@ pub(crate) trait RowKey {
     /// Whether the first place comes before the second.
     ghost before: { Self → Self → Bool };
 
-    /// Whether both have one place.
+    /// Whether both have the same place.
     ghost same: { Self → Self → Bool };
 
     /// The row.
     fn row(&self) -> u32
         ensures { result ≡ row_of self.now };
 
-    /// Whether both have one place.
+    /// Whether both have the same place.
     fn has_place_of(&self, other: &Self) -> bool
         ensures { result ≡ same self.now other.now };
 
-    /// Puts keys into ascending order. It takes no memory.
+    /// Sorts keys in ascending order. Does not allocate.
     fn sort(keys: &mut [Self])
         ensures moved { IsPermutation keys.old keys.new }
         ensures sorted { IsSortedBy before keys.new };
 }
 
-/// The rows of keys in ascending order, cut where another place begins.
+/// The rows of keys in ascending order, cut wherever another place begins.
 pub(crate) fn runs_of_keys<K: RowKey>(alloc: Global, keys: &mut [K]) -> Result<Runs, Memory>
     requires { length keys.old ≤ 2 ^ 18 }
     ensures { IfOk result (λ runs. IsSortedOut K.row_of K.before K.same keys.old runs.order runs.cuts) }
@@ -58,7 +58,7 @@ fn rows_of<K: RowKey>(alloc: Global, keys: &[K]) -> Result<Vec<u32>, Memory>
     Ok(rows)
 }
 
-/// Where another place than that of the key before begins, and the end.
+/// The positions where the place differs from the one before, and then the end.
 fn cuts_of<K: RowKey>(alloc: Global, keys: &[K]) -> Result<Vec<u32>, Memory>
     requires { length keys.now ≤ 2 ^ 18 }
     ensures { (past : K) → IfOk result (λ cuts. cuts.items ≡ cuts_by (key_begins K.same past keys.now) (length keys.now)) }
@@ -73,7 +73,7 @@ fn cuts_of<K: RowKey>(alloc: Global, keys: &[K]) -> Result<Vec<u32>, Memory>
     Ok(cuts)
 }
 
-/// How many places the keys have, where those of one place stand together.
+/// How many places the keys have, if keys of one place are neighbours.
 fn count<K: RowKey>(keys: &[K]) -> usize
     ensures { result ≤ length keys.now }
 {
@@ -86,7 +86,7 @@ fn count<K: RowKey>(keys: &[K]) -> usize
     count
 }
 
-/// Whether another place than that of the key before begins there.
+/// Whether the key at this position has another place than the key before it.
 fn begins<K: RowKey>(keys: &[K], at: usize) -> bool
     requires { at < length keys.now }
     ensures { (past : K) → result ≡ key_begins K.same past keys.now at }

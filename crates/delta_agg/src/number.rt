@@ -1,4 +1,4 @@
-//! Keys that are one number: that of a row's place, and behind it the row.
+//! Keys that are one number: that of a row's place, followed by the row.
 ghost use Rattle.std.specs.Prelude.{◌≡◌, ◌<◌, ◌≤◌, ◌+◌, ◌*◌, ◌^◌, ◌==◌, ℕ, List, OnOk, map, length};
 ghost use Rattle.std.specs.List.{All, range_with_len};
 ghost use Rattle.std.specs.Ordering.{nat_cmp, is_lt};
@@ -9,7 +9,7 @@ use crate::keys::RowKey;
 use fact_batch::FlatRows;
 use fact_model::Memory;
 
-/// The most rows that a key tells apart.
+/// The most rows that a key can tell apart.
 const MOST_ROWS: u64 = 1 << 18;
 
 /// A number that is wide enough for some places.
@@ -19,19 +19,19 @@ pub(crate) trait Number: RowKey + Copy {
 
     ghost MOST_PLACES: { ℕ };
 
-    /// The most places that a key tells apart.
+    /// The most places that a key can tell apart.
     const MOST_PLACES: u128;
 
     /// Zero.
     fn zero() -> Self
         ensures { number result ≡ 0 };
 
-    /// The number with a digit behind it, which is at most `top`.
+    /// The number with a digit of at most `top` appended.
     fn with_digit(self, top: u64, coordinate: u64) -> Self
         requires { number self * (top + 1) + coordinate < MOST_PLACES }
         ensures { number result ≡ number self * (top + 1) + coordinate };
 
-    /// The key of a place of this number.
+    /// The key of this row, whose place has this number.
     fn with_row(self, row: usize) -> Self
         requires places { number self < MOST_PLACES }
         requires rows { row < 2 ^ 18 }
@@ -118,7 +118,7 @@ impl Number for u128 {
     }
 }
 
-/// Makes the keys of all rows. It takes memory where the list had less room before.
+/// Makes the keys of all rows. Allocates only if the list has too little room.
 pub(crate) fn make_keys<K: Number>(
     keys: &mut Vec<K>,
     digits: &[Digit],

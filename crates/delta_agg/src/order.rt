@@ -13,7 +13,7 @@ use fact_batch::FlatRows;
 use fact_model::{ListOf, Memory};
 use std::alloc::Global;
 
-/// Memory for keys, which is used again for each view.
+/// Memory for keys, reused for each view.
 #[derive(Drop)]
 pub(crate) struct Keys {
     short: Vec<u64>,
@@ -30,7 +30,7 @@ impl Keys {
     }
 }
 
-/// The runs of a view. `tops` are the greatest coordinates.
+/// The runs of a view. `tops` has the greatest coordinate of each attribute.
 pub(crate) fn runs_of(
     alloc: Global,
     view: &[u32],
@@ -55,7 +55,7 @@ pub(crate) fn runs_of(
     })
 }
 
-/// All rows in the order of the view, cut into runs: by the smallest keys that tell its places apart.
+/// All rows in the order of the view, cut into runs. It uses the smallest keys that can tell its places apart.
 fn ordered(
     alloc: Global,
     view: &[u32],

@@ -1,4 +1,4 @@
-//! The rows of a batch in the order of a view, by their places themselves.
+//! The rows of a batch in the order of a view, sorted by the places themselves.
 ghost use Rattle.std.specs.Prelude.{◌≡◌, ◌<◌, ◌≤◌, ◌^◌, IfOk, length, map};
 ghost use Rattle.std.specs.List.{All, range_with_len};
 ghost use Rattle.std.specs.Ordering.{is_eq};

@@ -1,4 +1,4 @@
-//! The points of a batch in one tree, lent.
+//! The points of a batch in one tree, borrowed from the batch.
 ghost use Rattle.std.specs.Prelude.{◌≡◌, ◌<◌, ◌≤◌, ℕ, ℤ, List, length, get_or, sum_by};
 ghost use Rattle.std.specs.List.{All};
 ghost use Rattle.cube_point.specs.declared.point.Entry as declared;
@@ -10,8 +10,8 @@ use cube_point::{Entry, Point};
 use fact_batch::FlatRows;
 use std::marker::Model;
 
-/// The points of a batch in one tree, each with the cell of its facts, in point order. Contracts see the list of the entries. Each is
-/// made when it is asked for.
+/// The points of a batch in one tree, in point order, each with the cell of its facts. Contracts see the list of the entries. A point
+/// is made when it is asked for.
 #[derive(Drop)]
 pub struct Points<'a> {
     measures: u8,
@@ -61,7 +61,7 @@ impl<'a> Points<'a> {
         self.count
     }
 
-    /// The point at this place, counted from 0. It takes no memory.
+    /// The point at this position, counted from 0. Does not allocate.
     pub fn point(&self, at: usize) -> Point
         requires { at < length self.now }
         ensures { (d : declared.Entry) → result ≡ (get_or self.now at d).point }
@@ -70,7 +70,7 @@ impl<'a> Points<'a> {
         point_of(self.coded, &self.views[place.view], place.at)
     }
 
-    /// The point at this place, counted from 0, with the cell of its facts. It takes no memory.
+    /// The point at this position, counted from 0, with the cell of its facts. Does not allocate.
     pub fn entry(&self, at: usize) -> Entry
         requires { at < length self.now }
         ensures { (d : declared.Entry) → result ≡ get_or self.now at d }
@@ -86,7 +86,7 @@ impl<'a> Points<'a> {
     }
 }
 
-/// How many points the views have together.
+/// How many points the views have in total.
 fn count_of(coded: &FlatRows<u64>, views: &[ViewRuns]) -> usize
     requires few { length coded.now ≤ 262144 }
     requires tree { IsTree coded.now views.now }
@@ -99,16 +99,16 @@ fn count_of(coded: &FlatRows<u64>, views: &[ViewRuns]) -> usize
     count
 }
 
-/// Where a point of a tree stands.
+/// Where a tree has a point.
 #[derive(Clone, Copy, Debug, PartialEq, Eq)]
 struct Standing {
-    /// Which of the views it is a point of.
+    /// The number of its view.
     view: usize,
-    /// Its place among the points of this view.
+    /// Its position among the points of this view.
     at: usize,
 }
 
-/// Where the point at this place stands, counted over the views one after another.
+/// Where the tree has the point at this position, counted over the views one after another.
 fn place_of(views: &[ViewRuns], at: usize) -> Standing
     requires some { All (λ v. 1 ≤ length v.runs.cuts) views.now }
     requires at { at < sum_by run_count views.now }

@@ -4,16 +4,16 @@ ghost use Rattle.delta_agg.specs.Orders.{run_at, run_count};
 
 use fact_model::ListOf;
 
-/// All rows of a batch in the order of their places in a view, and where in it each place begins, with the end.
+/// All rows of a batch in the order of their places in a view, the position where each place begins, and the end.
 #[derive(Drop)]
 pub(crate) struct Runs {
     /// The rows, counted from 0.
     pub(crate) order: ListOf<u32>,
-    /// Where the rows of each place begin, ascending, and behind them how many rows there are.
+    /// The positions where the rows of each place begin, ascending, and then the number of rows.
     pub(crate) cuts: ListOf<u32>,
 }
 
-/// A view with its runs: of each place the rows that have it.
+/// A view with its runs. A run is the rows that share one place.
 #[derive(Drop)]
 pub(crate) struct ViewRuns {
     /// The attributes of the view.
@@ -34,7 +34,7 @@ impl ViewRuns {
         self.runs.cuts.as_slice().len() - 1
     }
 
-    /// The rows of the run at this place.
+    /// The rows of the run with this number.
     pub(crate) fn run(&self, at: usize) -> &[u32]
         requires at { at + 1 < length self.now.runs.cuts }
         requires rises { slice_index self.now.runs.cuts at ≤ slice_index self.now.runs.cuts (at + 1) }
@@ -47,7 +47,7 @@ impl ViewRuns {
         &self.runs.order.as_slice()[from..to]
     }
 
-    /// The first row of the run at this place.
+    /// The first row of the run with this number.
     pub(crate) fn first(&self, at: usize) -> u32
         requires at { at < length self.now.runs.cuts }
         requires within { slice_index self.now.runs.cuts at < length self.now.runs.order }

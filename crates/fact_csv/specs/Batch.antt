@@ -15,7 +15,7 @@ use Rattle.fact_csv.specs.declared.refusal.RowRefusal.{RowRefusal}
 use Rattle.fact_csv.specs.declared.refusal.RowRefusal.TheVariants as refusals
 use Rattle.fact_csv.specs.Gathered.{gathered}
 
--- a value of a number attribute is 0 to the greatest that it may have
+-- a value of a number attribute lies between 0 and the greatest value that it may have
 abbrev pub coordinate_in : ℕ → ℕ → Option ℤ → Result Value RowRefusal
 coordinate_in row field None = Err (refusals.Number row field)
 coordinate_in row field (Some (negsuc k)) = Err (refusals.Number row field)
@@ -42,7 +42,7 @@ value_answers row attrs fields = map (λ p. value_in p.1.0.kind row p.0 p.1.1) (
 abbrev pub values_in : ℕ → List Attr → List (List ℕ) → Result (List Value) RowRefusal
 values_in row attrs fields = gathered (value_answers row attrs fields)
 
--- what each field behind the first so many gives its measure
+-- what each field after the attributes' fields gives its measure
 abbrev pub measure_answers : ℕ → ℕ → List (List ℕ) → List (Result ℤ RowRefusal)
 measure_answers row attrs fields = map (λ p. measure_in row p.0 p.1) (enumerate_from (attrs + 1) (drop attrs fields))
 
@@ -75,7 +75,7 @@ facts_in schema rows = gathered (fact_answers schema rows)
 abbrev pub batch_of : Schema → List ℕ → Result (List Fact) RowRefusal
 batch_of schema block = cond (nat_lt 262144 (length (records_of block))) (Err refusals.Rows) (facts_in schema (records_of block))
 
--- the refusal is the one that reading gives, unless memory was short
+-- the refusal is the one that the definition gives, unless memory was short
 abbrev pub Refuses : {A : Type 0} → Result A RowRefusal → RowRefusal → Type 0
 Refuses read refusal = refusal ≢ refusals.Memory → read ≡ Err refusal
 

@@ -18,8 +18,8 @@ use std::alloc::Global;
 /// The most rows of a batch.
 pub const MOST_ROWS: u64 = 262_144;
 
-/// Reads the rows of a block as facts. It is refused exactly where there are more than 262,144 rows, and otherwise where a
-/// row is faulty; then the first faulty row is named, by its number of fields and else by its first faulty field.
+/// Reads the rows of a block as facts. It is refused exactly if there are more than 262,144 rows, or else a row is faulty. Then
+/// the first faulty row is named: its number of fields if that is wrong, otherwise its first faulty field.
 pub fn read_batch(alloc: Global, schema: &Schema, block: &[u8]) -> Result<Batch, RowRefusal>
     ensures read { IfOk result (λ facts. batch_of schema.now block.now ≡ Ok facts) }
     ensures refused { IfErr result (Refuses (batch_of schema.now block.now)) }
@@ -33,7 +33,7 @@ pub fn read_batch(alloc: Global, schema: &Schema, block: &[u8]) -> Result<Batch,
     let measures = schema.measures.as_slice().len();
     let mut builder = BatchBuilder::new(alloc, attrs, measures);
     let mut so_far: Result<(), RowRefusal> = Ok(());
-    // Too many rows are refused before any fault, so the records behind the first fault are counted.
+    // Too many rows come before any other fault, so the records after the first fault are counted too.
     for row in 0..MOST_ROWS {
         if !read_record(&mut reader, &mut fields)? {
             return batch_from(builder, so_far);
@@ -46,7 +46,7 @@ pub fn read_batch(alloc: Global, schema: &Schema, block: &[u8]) -> Result<Batch,
     batch_from(builder, so_far)
 }
 
-/// Adds the fact of the next row to those of the rows so far, or answers the first fault.
+/// Adds the fact of the next row to those so far, or returns the first fault.
 fn with_row(
     schema: &Schema,
     row: u64,

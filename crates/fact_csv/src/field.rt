@@ -8,8 +8,8 @@ use cube_schema::Kind;
 use fact_batch::BatchBuilder;
 use fact_model::{GREATEST_NUMBER, LONGEST_TEXT, read_number};
 
-/// Adds the value that a field gives an attribute of this kind, or answers its fault. After a fault nothing is said of the
-/// builder.
+/// Adds the value that a field gives an attribute of this kind, or returns its fault. After a fault the content of the
+/// builder is unspecified.
 pub fn read_value(
     kind: Kind,
     row: u64,

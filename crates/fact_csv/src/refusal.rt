@@ -9,7 +9,7 @@ use fact_model::Memory;
 pub enum RowRefusal {
     /// There are more than 262,144 rows.
     Rows,
-    /// This row has not one field for each attribute and measure.
+    /// This row does not have one field for each attribute and measure.
     Fields(u64),
     /// This field is not a number of its kind.
     Number {
@@ -25,7 +25,7 @@ pub enum RowRefusal {
         /// The number of the field.
         field: u64,
     },
-    /// Memory was short.
+    /// Out of memory.
     Memory,
 }
 

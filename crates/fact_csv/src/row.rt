@@ -11,7 +11,7 @@ use csv::ByteRecord;
 use cube_schema::{Attr, Schema};
 use fact_batch::BatchBuilder;
 
-/// Adds the fact of a row, or answers its first fault. After a fault nothing is said of the builder.
+/// Adds the fact of a row, or returns its first fault. After a fault the content of the builder is unspecified.
 pub fn read_row(
     schema: &Schema,
     row: u64,
@@ -34,7 +34,7 @@ pub fn read_row(
     Ok(())
 }
 
-/// Adds the values that the first fields give the attributes, or answers the first fault.
+/// Adds the values that the first fields give the attributes, or returns the first fault.
 fn read_values(
     attrs: &[Attr],
     row: u64,
@@ -53,7 +53,7 @@ fn read_values(
     Ok(())
 }
 
-/// Adds the numbers that the fields behind the first so many give the measures, or answers the first fault.
+/// Adds the numbers that the fields after the attributes' fields give the measures, or returns the first fault.
 fn read_measures(
     attrs: usize,
     row: u64,
@@ -72,7 +72,7 @@ fn read_measures(
     Ok(())
 }
 
-/// The field at this place, counted from 0; empty past the last.
+/// The field at this index, counted from 0; empty past the last one.
 fn field(fields: &ByteRecord, place: usize) -> &[u8]
     ensures { result.now ≡ get_or (fields_of fields.now) place [] }
 {

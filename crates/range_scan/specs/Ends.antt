@@ -1,4 +1,4 @@
--- What the first and the last point of a leaf tell of those between them.
+-- What the first and the last point of a leaf show about those between them.
 use Rattle.std.specs.Prelude.{◌≡◌, ℕ, Bool, ◌<◌, ◌≤◌, ◌-◌, List, get_or, length, slice_index}
 use Rattle.cube_point.specs.Boxes.{IsInside}
 use Rattle.cube_point.specs.declared.bounds.Region.{Region}
@@ -20,6 +20,6 @@ pub record TellAll (wide : Bool) (first last : Point) (region : Region) : Type 0
   pub same : (i : ℕ) → apart < i → i < 8 → slice_index first.at i ≡ slice_index last.at i
   pub before : IsOpenBefore wide apart region
 
--- the first and the last of these entries tell that all lie in the region
+-- the first and the last of these entries show that all lie in the region
 abbrev pub DoEndsTellAll : Bool → List Entry → Region → Type 0
 DoEndsTellAll wide es region = (d : Entry) → TellAll wide (get_or es 0 d).point (get_or es (length es - 1) d).point region

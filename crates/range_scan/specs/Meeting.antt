@@ -21,7 +21,7 @@ is_inside region e = (e.point.arity == region.arity) && lies_within region e
 unfoldable pub is_met : Region → Bounds → Bool
 is_met region b = list_all (λ i. nat_le (max (slice_index b.low i) (slice_index region.bounds.low i)) (min (slice_index b.high i) (slice_index region.bounds.high i))) (range_with_len 0 8)
 
--- some place that is zero past so many dimensions lies between the region's ends
+-- some place that is zero past `dims` dimensions lies between the region's ends
 pub record HoldsSome (dims : ℕ) (region : Region) : Type 0 where
   pub used : (i : ℕ) → i < dims → slice_index region.bounds.low i ≤ slice_index region.bounds.high i
   pub unused : (i : ℕ) → dims ≤ i → i < 8 → slice_index region.bounds.low i ≡ 0

@@ -15,7 +15,7 @@ pub record HoldsTree (tree : Place) (bytes : List ℕ) (points : List Entry) : T
   pub count : length (pages_of tree.shape tree.first views) ≡ tree.pages
   pub bytes_are : take (PAGE * tree.pages) (drop (PAGE * tree.first) bytes) ≡ flat_map (page_bytes tree.shape) (pages_of tree.shape tree.first views)
 
--- no damage is told
+-- no damage is reported
 abbrev pub IsUndamaged : SearchStop → Type 0
 IsUndamaged (stops.Damaged page) = ⊥
 IsUndamaged stops.Disk = Unit {0}

@@ -1,4 +1,4 @@
--- What a search of a tree answers, whatever the file holds.
+-- What a search of a tree answers, for any bytes in the file.
 use Rattle.std.specs.Prelude.{◌≡◌, ℕ, ◌+◌, ◌*◌, ◌<◌, ◌≤◌, List, [], ◌∷◌, ◌++◌, length, Result, Ok, Err, IsOk}
 use Rattle.std.specs.List.{All}
 use Rattle.cube_point.specs.declared.bounds.Region.{Region}
@@ -19,19 +19,19 @@ abbrev pub children_in : PointPage → List Child
 children_in (Leaf es) = []
 children_in (Inner cs) = cs
 
--- the page is there and lawful, and no child stands before the tree's first page
+-- the page is there and lawful, and no child comes before the tree's first page
 pub record IsSound (tree : Place) (bytes : List ℕ) (number : ℕ) : Type 0 where
   pub whole : PAGE * (number + 1) ≤ length bytes
   pub lawful : IsOk (taken tree.shape number (page_at bytes number))
   pub within : All (λ (c : Child). tree.first ≤ c.page) (children_in (page_of tree.shape bytes number))
 
--- each page that the search goes to is sound, and they are no more than the tree has; their points in the region are found
+-- each page that the search visits is sound, and there are no more of these than the tree has; their points in the region are found
 pub record IsAnswer (tree : Place) (region : Region) (bytes : List ℕ) (found : List Entry) : Type 0 where
   pub sound : All (IsSound tree bytes) (visits tree region bytes)
   pub few : length (visits tree region bytes) ≤ tree.pages
   pub points : found ≡ found_in tree region bytes (visits tree region bytes)
 
--- of the pages that the search goes to, this is the first that is not sound, or the first that is one more than the tree has
+-- of the pages that the search visits, this is the first that is not sound, or the first that is one more than the tree has
 pub record IsFirstBad (tree : Place) (region : Region) (bytes : List ℕ) (number : ℕ) : Type 0 where
   pub before : List ℕ
   pub after : List ℕ
@@ -40,14 +40,14 @@ pub record IsFirstBad (tree : Place) (region : Region) (bytes : List ℕ) (numbe
   pub few : length before ≤ tree.pages
   pub bad : length before < tree.pages → IsSound tree bytes number → ⊥
 
--- all pages that the search goes to are sound, and their points in the region are found; or the first page that is bad
+-- all pages that the search visits are sound, and their points in the region are found; or this is the first bad page
 abbrev pub IsSearched : Place → Region → List ℕ → Result (Unit {0}) SearchStop → Type 0
 IsSearched tree region bytes (Ok done) = IsAnswer tree region bytes (found_in tree region bytes (visits tree region bytes))
 IsSearched tree region bytes (Err (stops.Damaged page)) = IsFirstBad tree region bytes page
 IsSearched tree region bytes (Err stops.Disk) = Unit {0}
 IsSearched tree region bytes (Err stops.Memory) = Unit {0}
 
--- damage that is told is one of these pages
+-- the damage reported is in one of these pages
 abbrev pub NamesPage : ℕ → ℕ → SearchStop → Type 0
 NamesPage first count (stops.Damaged page) = (first ≤ page) × (page < first + count)
 NamesPage first count stops.Disk = Unit {0}

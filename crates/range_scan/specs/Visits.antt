@@ -1,4 +1,4 @@
--- The pages that a search of a tree goes to, and the points that it finds there, whatever the file holds.
+-- The pages that a search of a tree visits, and the points that it finds there, for any bytes in the file.
 use Rattle.std.specs.Prelude.{ℕ, zero, suc, ◌+◌, List, [], ◌∷◌, map, flat_map, filter, Result, Ok, Err}
 use Rattle.cube_point.specs.declared.bounds.Region.{Region}
 use Rattle.cube_point.specs.declared.point.Entry.{Entry}
@@ -30,31 +30,30 @@ held_if shape page (Err bad) = Leaf []
 unfoldable pub page_of : Shape → List ℕ → ℕ → PointPage
 page_of shape bytes number = held_if shape (page_at bytes number) (taken shape number (page_at bytes number))
 
--- the pages of the children whose box meets the region, in their order
+-- the pages of the children whose boxes meet the region, in order
 abbrev pub met : Region → List Child → List ℕ
 met region cs = map (λ c. c.page) (filter (λ c. is_met region c.bounds) cs)
 
--- the pages below a page that the search goes to
+-- the pages below a page that the search visits
 abbrev pub below : Region → PointPage → List ℕ
 below region (Leaf es) = []
 below region (Inner cs) = met region cs
 
--- the ends of the ways of at most so many pages from this page down, over boxes that meet the region: each page before
--- those below it
+-- the ends of the paths of at most this many pages from a page down, over boxes that meet the region: each page before those below it
 abbrev pub ways : Region → (ℕ → PointPage) → ℕ → ℕ → List ℕ
 ways region pages zero number = []
 ways region pages (suc most) number = number ∷ flat_map (ways region pages most) (below region (pages number))
 
--- the ends of all ways from this page down: children stand before their page, so no way has more pages than its number and one
+-- the ends of all paths from this page down: children come before their page, so no path has more pages than the page's number plus 1
 abbrev pub all_ways : Region → (ℕ → PointPage) → ℕ → List ℕ
 all_ways region pages number = ways region pages (suc number) number
 
--- the top page, which is the last of a tree
+-- the top page: the last one of a tree
 abbrev pub top_page : ℕ → ℕ → List ℕ
 top_page first zero = []
 top_page first (suc pages) = (first + pages) ∷ []
 
--- the pages that the search goes to, in order: the end of each way from the top page down
+-- the pages that the search visits, in order: the end of each path from the top page down
 unfoldable pub visits : Place → Region → List ℕ → List ℕ
 visits tree region bytes = flat_map (all_ways region (page_of tree.shape bytes)) (top_page tree.first tree.pages)
 

@@ -1,4 +1,4 @@
-//! Which children of an inner page a search goes to, told where their bytes lie.
+//! Which children of an inner page a search visits, read from their bytes in place.
 
 ghost use Rattle.std.specs.Prelude.{◌≡◌, ◌↔◌, ◌<◌, ◌≤◌, ◌+◌, ◌++◌, IsTrue, OnOk, IfOk, drop, length, reverse};
 ghost use Rattle.std.specs.List.{All};
@@ -19,8 +19,8 @@ use fact_model::Memory;
 use page_entry::{HEADER, PAGE};
 use page_fmt::{child_page_at, ends_at, size_of_child};
 
-/// Puts the children of an inner page whose boxes meet the region behind the others, the first child last, since the last
-/// page ahead is visited next. False, where a child stands before the tree's first page.
+/// Appends the children of an inner page whose boxes meet the region, the first child last, since the last page ahead is
+/// visited next. False if a child comes before the tree's first page.
 pub(crate) fn take_children(
     page: &[u8; PAGE],
     query: &Query<'_>,
@@ -42,7 +42,7 @@ pub(crate) fn take_children(
     ensures ahead { OnOk result (AreAhead query.now.tree.now ahead.new.items) }
 {
     let shape = &query.tree.shape;
-    // The pages of children ascend, so the first one tells it of all.
+    // The pages of children ascend, so the first one decides for all.
     if child_page_at(page, shape, HEADER) < query.tree.first {
         return Ok(false);
     }
@@ -53,7 +53,7 @@ pub(crate) fn take_children(
     Ok(true)
 }
 
-/// Whether a region holds a place that is zero past so many dimensions. Where it does not, no box in these dimensions meets it.
+/// Whether a region holds a place that is zero past `dims` dimensions. If not, no box in these dimensions meets it.
 fn holds_some(region: &Region, dims: u8) -> bool
     requires { dims ≤ 8 }
     ensures { IsTrue result ↔ HoldsSome dims region.now }
@@ -71,8 +71,8 @@ fn holds_some(region: &Region, dims: u8) -> bool
     true
 }
 
-/// Puts the children that meet the region behind the others, the first child last. It stands apart, so that its loops have all registers, and
-/// asks once whether the ends are wide.
+/// Appends the children that meet the region, the first child last. A separate function, so that its loops have all registers. It tests once
+/// whether the ends are wide.
 #[inline(never)]
 #[tactic(auto, using(page_entry::proofs::Widths::as_it_is))]
 fn take_met(
@@ -132,7 +132,7 @@ fn take_each(
     Ok(())
 }
 
-/// Whether the box of the child that begins at a place meets a region. The last dimension is looked at first, since points are ordered by it
+/// Whether the box of the child that begins at a place meets a region. The last dimension is tested first, since points are ordered by it
 /// first.
 #[inline(always)]
 fn is_met(page: &[u8; PAGE], shape: &Shape, at: usize, region: &Region) -> bool

@@ -1,4 +1,4 @@
-//! Whether a leaf lies whole in the region, by its first and its last point.
+//! Whether a whole leaf lies in the region, by its first and its last point.
 
 ghost use Rattle.std.specs.Prelude.{◌≡◌, ◌≢◌, ◌↔◌, ◌<◌, ◌≤◌, ◌+◌, ℕ, IsTrue, filter, length, slice_index};
 ghost use Rattle.page_entry.specs.Entries.{HasEntries, entries, page_count};
@@ -10,7 +10,7 @@ ghost use Rattle.range_scan.specs.Meeting.{is_inside};
 use cube_point::{Point, Region, Shape, inside};
 use page_entry::{PAGE, lent_entry};
 
-/// Whether the ends of an accepted leaf tell that all its points lie in the region.
+/// Whether the ends of an accepted leaf show that all its points lie in the region.
 pub(crate) fn is_whole(page: &[u8; PAGE], shape: &Shape, count: u16, region: &Region) -> bool
     requires page { HasEntries shape.now page.now }
     requires said { count ≡ page_count page.now }
@@ -26,8 +26,8 @@ pub(crate) fn is_whole(page: &[u8; PAGE], shape: &Shape, count: u16, region: &Re
     tell_all(&first.point(), &last.point(), region, shape.wide)
 }
 
-/// Whether all points between two in point order lie in the region. They have the coordinates that both have past the last
-/// dimension in which the two differ, and there one between theirs; before it they may have any.
+/// Whether all points between two in point order lie in the region. Past the last dimension in which the two differ they
+/// have the coordinates of both, in that dimension one between theirs, and before it any.
 fn tell_all(first: &Point, last: &Point, region: &Region, wide: bool) -> bool
     ensures { IsTrue result ↔ TellAll wide first.now last.now region.now }
 {
@@ -36,7 +36,7 @@ fn tell_all(first: &Point, last: &Point, region: &Region, wide: bool) -> bool
         && is_open_before(region, wide, last_apart(first, last))
 }
 
-/// The last dimension in which two points differ, and the first one where they do not.
+/// The last dimension in which two points differ; the first dimension if they do not.
 fn last_apart(first: &Point, last: &Point) -> usize
     ensures few { result < 8 }
     ensures same { (i : ℕ) → result < i → i < 8 → slice_index first.now.at i ≡ slice_index last.now.at i }
@@ -51,7 +51,7 @@ fn last_apart(first: &Point, last: &Point) -> usize
     0
 }
 
-/// Whether the region holds every used coordinate of a page, in each dimension before this one.
+/// Whether the region holds every used coordinate of a page in each dimension before this one.
 fn is_open_before(region: &Region, wide: bool, dimension: usize) -> bool
     requires { dimension ≤ 8 }
     ensures { IsTrue result ↔ IsOpenBefore wide dimension region.now }
@@ -59,7 +59,8 @@ fn is_open_before(region: &Region, wide: bool, dimension: usize) -> bool
     first_bound(region, wide, dimension) == dimension
 }
 
-/// The first of so many dimensions in which the region does not hold every used coordinate of a page; their number where there is none.
+/// The first of `dimensions` dimensions in which the region does not hold every used coordinate of a page; `dimensions` if there is
+/// none.
 pub(crate) fn first_bound(region: &Region, wide: bool, dimensions: usize) -> usize
     requires { dimensions ≤ 8 }
     ensures few { result ≤ dimensions }

@@ -99,8 +99,8 @@ fn take_all<G: Taker>(
     Ok(())
 }
 
-/// Gives the points of a leaf that lie in the region to the taker, each tested. It stands apart, so that its loops have all registers, and asks once
-/// whether coordinates are wide.
+/// Gives the points of a leaf that lie in the region to the taker, testing each one. A separate function, so that its loops have all registers. It
+/// tests once whether coordinates are wide.
 #[inline(never)]
 #[tactic(auto, using(page_entry::proofs::Widths::as_it_is))]
 fn take_inside<G: Taker>(
@@ -131,7 +131,7 @@ fn take_inside<G: Taker>(
     take_by(page, &narrow, query.region, count, taker)
 }
 
-/// The same, for pages of this shape. A point is looked at only where the coordinate in the first dimension that is bound lies in the region.
+/// The same, for pages of this shape. A point is tested only if its coordinate in the first bound dimension lies in the region.
 #[inline(always)]
 fn take_by<G: Taker>(
     page: &[u8; PAGE],
@@ -155,7 +155,7 @@ fn take_by<G: Taker>(
     take_each(page, shape, region, count, taker)
 }
 
-/// The same, where each point is looked at.
+/// The same, testing each point.
 #[inline(always)]
 fn take_each<G: Taker>(
     page: &[u8; PAGE],
@@ -180,7 +180,7 @@ fn take_each<G: Taker>(
     Ok(())
 }
 
-/// The same, where one coordinate of each point is looked at first, where its bytes lie.
+/// The same, but one coordinate of each point is tested first, in its bytes.
 #[inline(always)]
 fn take_bound<G: Taker>(
     page: &[u8; PAGE],
@@ -214,7 +214,7 @@ fn take_bound<G: Taker>(
     Ok(())
 }
 
-/// Whether the coordinate in a dimension of the point of the entry that begins at a place tells that it does not lie in the region.
+/// Whether the coordinate in `dimension` of the entry that begins at `at` shows that its point is outside the region.
 #[inline(always)]
 fn is_out(page: &[u8; PAGE], wide: bool, at: usize, region: &Region, dimension: usize) -> bool
     requires eight { dimension < 8 }

@@ -1,4 +1,4 @@
-//! The search: from the top page down to each child whose box meets the region, from left to right.
+//! The search: from the top page down to each child whose box meets the region, left to right.
 
 ghost use Rattle.std.specs.Prelude.{◌≡◌, ◌<◌, ◌≤◌, ◌+◌, ◌^◌, IsTrue, IfOk, IfErr, OnOk, List, [], ◌∷◌, ◌++◌, filter, length, nat_eq};
 ghost use Rattle.std.specs.List.{All, IsDistinct};
@@ -32,7 +32,7 @@ pub enum SearchStop {
         /// The number of the page in its file.
         page: u64,
     },
-    /// Want of memory.
+    /// Out of memory.
     Memory,
 }
 
@@ -43,9 +43,9 @@ pub(crate) struct Query<'a> {
     pub(crate) region: &'a Region,
 }
 
-/// Gives the points of a tree inside a region to a taker, in the order of its leaves, which in a packed tree is point order. It goes to
-/// the top page, and to each page whose box and all boxes above it meet the region, and reads those that are not kept. No file is
-/// changed, also after an error; kept pages that are as a read gives them stay so.
+/// Gives the points of a tree inside a region to a taker, in the order of its leaves, which in a packed tree is point order. It visits
+/// the top page, and each page whose box and all boxes above it meet the region, and reads the pages that are not kept. No file is
+/// changed, even after an error; kept pages that are as a read gives them stay so.
 ///
 /// `Damaged` names the first of these pages that is short or not lawful, or has a child before the tree's first page; or the
 /// first that is one more than the tree has.
@@ -90,7 +90,7 @@ pub fn search<T: Site, G: Taker>(
         → HoldsTree tree.now ((T.disk site.old).files tree.now.file) points
         → IsDistinct nat_eq (visits tree.now region.now ((T.disk site.old).files tree.now.file)) }
 
-    // Whatever the file holds.
+    // For any bytes in the file.
     ensures page { IfErr result (NamesPage tree.now.first tree.now.pages) }
     ensures lies { LiesIn tree.now.file pages.old → LiesIn tree.now.file pages.new }
     ensures capacity { pages.new.capacity ≡ pages.old.capacity }
@@ -133,7 +133,7 @@ fn walk<T: Site, G: Taker>(
 {
     // The pages that are still to be visited, the next one last.
     let mut ahead = top_page(alloc, query.tree)?;
-    // A packed tree has no more ways than pages.
+    // A packed tree has no more paths than pages.
     for _ in 0..query.tree.pages {
         match ahead.pop() {
             None => return Ok(()),
@@ -146,7 +146,7 @@ fn walk<T: Site, G: Taker>(
     }
 }
 
-/// The top page alone, where the tree has pages.
+/// Only the top page, if the tree has pages.
 fn top_page(alloc: Global, tree: &Place) -> Result<Vec<u64>, Memory>
     requires { tree.now.first + tree.now.pages ≤ 2 ^ 50 }
     ensures { IfOk result (λ ahead. ahead.items ≡ top_page tree.now.first tree.now.pages) }
@@ -197,7 +197,7 @@ fn visit<T: Site, G: Taker>(
     }
 }
 
-/// A page that the cache does not give, told of the search.
+/// The search's error for a page that the cache does not give.
 fn stop_at(stop: CacheStop, number: u64) -> SearchStop
     ensures { result ≡ stop_at number stop }
 {

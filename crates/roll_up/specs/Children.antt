@@ -1,4 +1,4 @@
--- A value as the index of parents has it, and what its hash takes in.
+-- A value as the index of parents holds it, and what its hash takes in.
 use Rattle.std.specs.Prelude.{◌≡◌, ℕ, true, List, [], ◌∷◌, Option, Some, None}
 use Rattle.std.specs.Cmp.{IsEquivalence, eq_by_cmp_equiv}
 use Rattle.std.specs.Hash.{HashWrites, u64}
@@ -14,16 +14,16 @@ abbrev pub child_of : Option ℕ → List ℕ → Value
 child_of (Some n) text = Number n
 child_of None text = Word text
 
--- the bytes of a text at once, and those of a number at once
+-- a text as one write of its bytes, a number as one write
 abbrev pub fed : Value → HashWrites
 fed (Word text) = text ∷ []
 fed (Number n) = u64 n
 
--- ---- what an index asks of its keys
+-- ---- what an index requires of its keys
 
 pub same-equiv : IsEquivalence same_value
 same-equiv = eq_by_cmp_equiv value-total
 
--- values that are the same are hashed alike
+-- equal values are hashed alike
 pub fed-alike : (v w : Value) → same_value v w ≡ true → fed v ≡ fed w
 fed-alike v w same = ap fed (equal-from_is value_cmp value-total value_cmp-IsAntisymmetric v w same)

@@ -1,4 +1,4 @@
--- The keys of base rows, lifted, and the base rows rolled up by them.
+-- The keys of base rows, rolled up, and the base rows rolled up by them.
 use Rattle.std.specs.Prelude.{◌≡◌, ℕ, ◌-◌, ℤ, Bool, cond, List, [], ◌∷◌, map, get_or, length, nat_eq, nat_lt}
 use Rattle.std.specs.List.{list_all}
 use Rattle.fact_model.specs.Rows.{as_row}
@@ -17,19 +17,19 @@ use Rattle.roll_up.specs.Parents.{parent_of}
 
 -- ---- values
 
--- a key's value of an attribute that is grouped; the number 0 for one that is not
+-- a key's value of an attribute, if it is grouped; otherwise the number 0
 abbrev pub value_for : List ℕ → Key → ℕ → Value
 value_for [] key a = Number 0
 value_for (g ∷ group) [] a = Number 0
 value_for (g ∷ group) (v ∷ key) a = cond (nat_eq g a) v (value_for group key a)
 
--- the condition is met by the value
+-- the value meets the condition
 abbrev pub is_met : Cond → Value → Bool
 is_met (Equal attr value) v = same_value value v
 is_met (Between attr low high) v = is_between low high v
 
 module _ (arity : ℕ) (levels : List Level) where
-  -- the value of an attribute of the extended schema, by the values of the attributes: itself, or the parent that its level gives
+  -- the value of an attribute of the extended schema, given the values of the attributes: itself, or the parent by its level
   abbrev pub lifted_at : (ℕ → Value) → ℕ → Value
   lifted_at at a = cond (nat_lt a arity) (at a) (get_or (map (λ (l : Level). Word (parent_of l.parents (at l.attr))) levels) (a - arity) (Number 0))
 
@@ -46,7 +46,7 @@ module _ (arity : ℕ) (levels : List Level) where
     abbrev pub is_kept : Key → Bool
     is_kept key = list_all (λ c. is_met c (value_in key (attr_of c))) (level_conds arity s)
 
-    -- the groups of the rows whose keys meet the conditions on levels, by their keys rolled up
+    -- the rows whose keys meet the conditions on levels, grouped by their rolled-up keys
     abbrev pub groups_of : List Row → List (Key × List ℤ)
     groups_of rows = folded s.columns is_kept rolled rows
 

@@ -8,7 +8,7 @@ use Rattle.fact_model.specs.declared.fact.Value.{Value}
 abbrev pub Parent : Type 0
 Parent = Value × List ℕ
 
--- the parent of a value; the empty text where it has none
+-- the parent of a value; the empty text if it has none
 abbrev pub parent_of : List Parent → Value → List ℕ
 parent_of [] v = []
 parent_of (p ∷ parents) v = cond (same_value v p.0) p.1 (parent_of parents v)

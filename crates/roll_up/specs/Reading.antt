@@ -1,4 +1,4 @@
--- The level of a block, or the first reason against it. Rows and fields count from 1.
+-- The level that a block gives, or the first reason against it. Rows and fields count from 1.
 use Rattle.std.specs.Prelude.{◌≡◌, ◌≢◌, ℕ, suc, ◌+◌, ◌==◌, Bool, not, ◌&&◌, cond, List, [], ◌∷◌, ◌++◌, get_or, length, nat_le, nat_lt, Option, Some, None, Result, Ok, Err}
 use Rattle.std.specs.List.{list_any}
 use Rattle.std.specs.Str.{bytes_eq}
@@ -23,12 +23,12 @@ abbrev pub as_number : Option ℕ → Option Value
 as_number None = None
 as_number (Some n) = Some (Number n)
 
--- the value of an attribute that a field writes
+-- the value of an attribute that a field writes, if it is one
 abbrev pub value_of : Kind → List ℕ → Option Value
 value_of (kind.Word max) field = Some (Word field)
 value_of kind.Number field = as_number (coordinate_in field)
 
--- a value and its parent, both of at most 255 bytes as they are written, where the value stands in no row before
+-- a value and its parent, both of at most 255 bytes as written, if no earlier row has the value
 abbrev pub pair_from : List Parent → ℕ → List ℕ → List ℕ → Option Value → Result Parent LevelRefusal
 pair_from before row field parent None = Err (refused.Number row)
 pair_from before row field parent (Some value) =
@@ -37,7 +37,7 @@ pair_from before row field parent (Some value) =
     (cond (has_parent before value) (Err (refused.Repeated row)) (Ok (value, parent)))
     (Err (refused.Long row 2))) (Err (refused.Long row 1))
 
--- the pair of a row, which has two fields, behind those of the rows before, or its first fault
+-- the pair of a row of two fields that follows rows with these pairs, or its first fault
 abbrev pub pair_in : Kind → List Parent → ℕ → List (List ℕ) → Result Parent LevelRefusal
 pair_in kind before row fields =
     cond (length fields == 2) (pair_from before row (get_or fields 0 []) (get_or fields 1 []) (value_of kind (get_or fields 0 []))) (Err (refused.Fields row))
@@ -49,17 +49,17 @@ abbrev pub with_pair : List Parent → Result Parent LevelRefusal → Result (Li
 with_pair before (Err refusal) = Err refusal
 with_pair before (Ok pair) = Ok (before ++ pair ∷ [])
 
--- one row more behind pairs, or the first fault
+-- the pairs with those of one more row, or the first fault
 abbrev pub after_row : Kind → ℕ → List (List ℕ) → Result (List Parent) LevelRefusal → Result (List Parent) LevelRefusal
 after_row kind row fields (Err refusal) = Err refusal
 after_row kind row fields (Ok before) = with_pair before (pair_in kind before row fields)
 
--- the pairs of rows behind others, or the first fault
+-- the pairs with those of more rows, or the first fault
 abbrev pub after_rows : Kind → ℕ → List (List (List ℕ)) → Result (List Parent) LevelRefusal → Result (List Parent) LevelRefusal
 after_rows kind row [] so_far = so_far
 after_rows kind row (fields ∷ rows) so_far = after_rows kind (suc row) rows (after_row kind row fields so_far)
 
--- the pairs of the rows of a block, which are at most 262,144, or the first fault
+-- the pairs of a block of at most 262,144 rows, or the first fault
 abbrev pub parents_in : Kind → List ℕ → Result (List Parent) LevelRefusal
 parents_in kind block = cond (nat_lt 262144 (length (records_of block))) (Err refused.Rows) (after_rows kind 1 (records_of block) (Ok []))
 

@@ -1,4 +1,4 @@
-//! A value and its parent as the index of parents has them, and what a value is looked up by.
+//! A value and its parent as the index of parents holds them, and the key for looking up a value.
 ghost use Rattle.std.specs.Prelude.{◌≡◌, IfOk};
 ghost use Rattle.std.specs.Cmp.{on_equiv, partial_equiv_from_equiv};
 ghost use Rattle.fact_model.specs.Value.{same_value};
@@ -13,10 +13,10 @@ use std::alloc::Global;
 use std::hash::{Hash, Hasher};
 use std::marker::Model;
 
-/// The most bytes of a text that lies in the index itself.
+/// The most bytes of a text that is stored in the index itself.
 const SHORT: usize = 22;
 
-/// A text, which lies in the index itself where it is short.
+/// A text, stored in the index itself if it is short.
 #[derive(Drop)]
 pub(crate) struct EntryText {
     bytes: SmallVec<u8, SHORT>,
@@ -31,7 +31,7 @@ impl Model for EntryText {
 }
 
 impl EntryText {
-    /// No bytes. It takes no memory.
+    /// No bytes. Does not allocate.
     fn empty(alloc: Global) -> EntryText {
         EntryText {
             bytes: SmallVec::new(alloc),
@@ -71,7 +71,7 @@ impl Model for Child {
 }
 
 impl Child {
-    /// The value of its own.
+    /// A copy of the value.
     pub(crate) fn of(alloc: Global, value: LentValue<'_>) -> Result<Child, Memory>
         ensures { IfOk result (λ child. child ≡ value_of value.entry) }
     {
@@ -87,7 +87,7 @@ impl Child {
         }
     }
 
-    /// The value, lent.
+    /// The value, borrowed.
     fn lent(&self) -> ChildRef<'_>
         ensures { value_of result.value ≡ self.now }
     {
@@ -123,7 +123,7 @@ impl Hash for Child {
     }
 }
 
-/// A value whose parent is looked up. It takes no memory.
+/// A value whose parent is looked up. Does not allocate.
 #[derive(Clone, Copy)]
 pub(crate) struct ChildRef<'a> {
     pub(crate) value: LentValue<'a>,
@@ -143,7 +143,7 @@ impl Eq for ChildRef<'_> {
     ghost laws = { on_equiv (λ child. value_of child.value) same-equiv };
 }
 
-// All bytes at once, so that a hasher takes them by words.
+// All bytes in one write, so that a hasher takes them word by word.
 impl Hash for ChildRef<'_> {
     ghost hash_input = { λ child. fed (value_of child.value) };
 
@@ -169,7 +169,7 @@ impl Equivalent<Child> for ChildRef<'_> {
     }
 }
 
-/// Whether the values are the same.
+/// Whether the values are equal.
 fn is_same(left: LentValue<'_>, right: LentValue<'_>) -> bool
     ensures { result ≡ same_value (value_of left.entry) (value_of right.entry) }
 {

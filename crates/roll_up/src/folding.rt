@@ -20,9 +20,8 @@ use fact_model::{Memory, Rows, Slice};
 use row_fold::{LentRow, LentRows, LentValue, RowFold};
 use std::alloc::Global;
 
-/// Rolls the rows of the base slice up: those whose keys meet the conditions on levels, grouped anew, and their numbers joined. Where the
-/// rows are those of facts, these are the rows of the facts with their parents. Only a key that is new is copied. An error is want of
-/// memory.
+/// Rolls up the rows of the base slice: those whose keys meet the conditions on levels are grouped anew, and their numbers joined. If the
+/// rows are those of facts, the result is the rows of the facts with their parents. Only new keys are copied. An error is out of memory.
 pub fn fold_up<R: LentRows>(
     alloc: Global,
     schema: &Schema,
@@ -43,7 +42,7 @@ pub fn fold_up<R: LentRows>(
     fold_rows(alloc, schema, levels, slice, rows)
 }
 
-/// The same, whatever the rows are.
+/// The same, for any rows.
 fn fold_rows<R: LentRows>(
     alloc: Global,
     schema: &Schema,
@@ -89,7 +88,7 @@ fn fold_of<'a, R: LentRows>(
     Ok(fold)
 }
 
-/// Takes in a row, where it meets the conditions on levels.
+/// Takes in a row if it meets the conditions on levels.
 fn take_row<'a>(
     alloc: Global,
     lifting: &Lifting<'a>,
@@ -99,7 +98,7 @@ fn take_row<'a>(
 ) -> Result<(), Memory>
     requires group { lifting.now.group.now ≡ (base lifting.now.arity lifting.now.levels.now lifting.now.slice.now).group }
     requires room { CanTake lifting.now.slice.now.columns fold.old row.now.numbers.items }
-    // The groups of rows are then those of the rows with this one behind them.
+    // If the groups were those of some rows, they are now those of the rows followed by this one.
     ensures { OnOk result ((rows : List answers.Row) → fold.old ≡ groups_of lifting.now.arity lifting.now.levels.now lifting.now.slice.now rows
         → fold.new ≡ groups_of lifting.now.arity lifting.now.levels.now lifting.now.slice.now (rows ++ row_in row.now ∷ [])) }
 {

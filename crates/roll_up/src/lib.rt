@@ -1,4 +1,5 @@
-//! Levels, which give each value of an attribute a parent: reading one, and rolling rows of a slice up to the parents.
+//! Levels, which give each value of an attribute a parent: reading a level, and rolling up rows of a slice to the
+//! parents.
 #![tactic(auto)]
 
 mod base;

@@ -12,18 +12,18 @@ use row_fold::LentValue;
 /// What a roll-up asks of the base rows.
 #[derive(Clone, Copy)]
 pub(crate) struct Lifting<'a> {
-    /// How many attributes there are. From there on a number names a level.
+    /// The number of attributes. Numbers from there on are levels.
     pub(crate) arity: u32,
     /// The levels.
     pub(crate) levels: &'a [Level],
     /// The slice by the extended schema.
     pub(crate) slice: &'a Slice,
-    /// What the base slice groups by.
+    /// The attributes that the base slice groups by.
     pub(crate) group: &'a [u32],
 }
 
 impl<'a> Lifting<'a> {
-    /// Puts into the room, which is used for row after row, the key of a base row, rolled up.
+    /// Puts the rolled-up key of a base row into `room`, which is reused for each row.
     pub(crate) fn roll(
         &self,
         key: &[LentValue<'a>],
@@ -52,7 +52,7 @@ impl<'a> Lifting<'a> {
         true
     }
 
-    /// A base row's value of an attribute of the extended schema. It is the number 0 for one that there is not.
+    /// A base row's value of an attribute of the extended schema; the number 0 if there is no such attribute.
     fn value(&self, key: &[LentValue<'a>], attr: u32) -> LentValue<'a>
         requires { self.now.group.now ≡ (base self.now.arity self.now.levels.now self.now.slice.now).group }
         ensures { value_of result ≡ value_in self.now.arity self.now.levels.now self.now.slice.now (map value_of key.now) attr }
@@ -67,7 +67,7 @@ impl<'a> Lifting<'a> {
     }
 }
 
-/// A key's value of an attribute that is grouped, and the number 0 for one that is not.
+/// A key's value of an attribute, if it is grouped; otherwise the number 0.
 fn value_for<'a>(group: &[u32], key: &[LentValue<'a>], attr: u32) -> LentValue<'a>
     ensures { value_of result ≡ value_for group.now (map value_of key.now) attr }
 {
@@ -79,7 +79,7 @@ fn value_for<'a>(group: &[u32], key: &[LentValue<'a>], attr: u32) -> LentValue<'
     LentValue::Number(0)
 }
 
-/// The parent that a level gives the value of its attribute in a key.
+/// The parent by a level of the value that a key has of the level's attribute.
 fn parent_for<'a>(group: &[u32], key: &[LentValue<'_>], level: &'a Level) -> &'a [u8]
     ensures { result.now ≡ parent_of level.now.parents (value_for group.now (map value_of key.now) level.now.attr) }
 {

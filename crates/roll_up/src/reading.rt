@@ -26,8 +26,8 @@ const MOST_ROWS: u64 = 262_144;
 /// The most attributes and levels together.
 const MOST_ATTRS: usize = 16;
 
-/// Reads a level of this name, whose block has for values of an attribute their parents, one row for each. The hash of its values has this seed. It is refused by the first
-/// reason against it in the order of the refusals; of rows the first faulty one is named.
+/// Reads a level of this name. Each row of the block has a value of the attribute and its parent. The values are hashed with this seed. A refusal is
+/// the first reason against the level, in the order of the refusals; of several faulty rows it names the first.
 pub fn read_level(
     alloc: Global,
     seed: Seed,
@@ -41,7 +41,7 @@ pub fn read_level(
     requires fit { Fit schema.now levels.now }
     // The level, or the first reason against it.
     ensures exact { Answers result (level_of schema.now levels.now name.now attr.now block.now) }
-    // It fits behind the others.
+    // It fits after the others.
     ensures fits { IfOk result (λ level. Fit schema.now (levels.now ++ level ∷ [])) }
 {
     read_named(
@@ -115,7 +115,7 @@ fn read_parents(
     let mut fields = ByteRecord::new(alloc);
     let mut parents = ParentList::new(alloc, seed);
     let mut so_far: Result<(), LevelRefusal> = Ok(());
-    // Too many rows are refused before any fault, so the records behind the first fault are counted.
+    // Too many rows come before any other fault, so the records after the first fault are counted too.
     for row in 0..MOST_ROWS {
         if !read_record(&mut reader, &mut fields)? {
             return parents_from(parents, so_far);
@@ -128,7 +128,7 @@ fn read_parents(
     parents_from(parents, so_far)
 }
 
-/// Adds the pair of the next row to those of the rows so far, or answers the first fault.
+/// Adds the pair of the next row to those so far, or returns the first fault.
 fn with_row(
     alloc: Global,
     kind: Kind,
@@ -143,7 +143,7 @@ fn with_row(
     read_row(alloc, kind, row, fields, parents)
 }
 
-/// Adds the pair of a row, or answers its first fault. After a fault nothing is said of the pairs.
+/// Adds the pair of a row, or returns its first fault. After a fault the pairs are unspecified.
 fn read_row(
     alloc: Global,
     kind: Kind,
@@ -171,7 +171,7 @@ fn read_row(
     Ok(())
 }
 
-/// The value of an attribute that a field writes.
+/// The value of an attribute that a field writes, if it is one.
 fn read_value(kind: Kind, bytes: &[u8]) -> Option<LentValue<'_>>
     ensures { option_map lent.value_of result ≡ value_of kind bytes.now }
 {
@@ -197,7 +197,7 @@ fn parents_from(
     }
 }
 
-/// The field at this place, counted from 0; empty past the last.
+/// The field at this index, counted from 0; empty past the last one.
 fn field(fields: &ByteRecord, place: usize) -> &[u8]
     ensures { result.now ≡ get_or (fields_of fields.now) place [] }
 {

@@ -5,7 +5,7 @@ use Rattle.fact_model.specs.declared.slice.Column.{Column}
 use Rattle.fact_model.specs.declared.slice.Column.TheVariants.{Count, Sum, Min, Max}
 use Rattle.fact_model.specs.Fact.{mass_limit}
 
--- counts and sums are added; of two least numbers the lesser is that of both, and of two greatest the greater
+-- counts and sums are added; of two least numbers the lesser is kept, and of two greatest the greater
 abbrev pub join_number : Column → ℤ → ℤ → ℤ
 join_number Count m n = m +ℤ n
 join_number (Sum measure) m n = m +ℤ n
@@ -19,7 +19,7 @@ join_numbers (c ∷ columns) [] ns = []
 join_numbers (c ∷ columns) (m ∷ ms) [] = []
 join_numbers (c ∷ columns) (m ∷ ms) (n ∷ ns) = join_number c m n ∷ join_numbers columns ms ns
 
--- the magnitude of the number of a column; 0 where there is none
+-- the magnitude of a column's number; 0 if there is none
 abbrev pub size_at : ℕ → List ℤ → ℕ
 size_at column numbers = nat_abs (get_or numbers column (pos 0))
 

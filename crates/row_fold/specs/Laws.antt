@@ -8,11 +8,11 @@ use Rattle.fact_model.specs.Rows.{as_row, rows}
 use Rattle.fact_model.specs.Value.{Key}
 use Rattle.row_fold.specs.Folds.{KeepsMass, folded, parted}
 
--- the rows of facts fold to what the facts give
+-- the rows of facts fold to what the facts themselves give
 abbrev pub RowsFold : Type 0
 RowsFold = (s : Slice) (test : Key → Bool) (part : Key → Key) (facts : List Fact) → folded s.columns test part (rows facts s) ≡ parted s test part facts
 
--- the rows of several lists of facts, one after the other, fold to what all the facts give
+-- the rows of several lists of facts, one after another, fold to what all the facts give
 abbrev pub ListsFold : Type 0
 ListsFold = (s : Slice) (test : Key → Bool) (part : Key → Key) (lists : List (List Fact))
     → folded s.columns test part (flat_map (λ facts. rows facts s) lists) ≡ parted s test part (flat_map (λ facts. facts) lists)
@@ -22,6 +22,6 @@ abbrev pub ListsJoin : Type 0
 ListsJoin = (s : Slice) (lists : List (List Fact))
     → map as_row (folded s.columns (λ k. true) (λ k. k) (flat_map (λ facts. rows facts s) lists)) ≡ rows (flat_map (λ facts. facts) lists) s
 
--- where the magnitudes of each column fit, the rows of the facts add up
+-- if the magnitudes of each column fit, the rows of the facts add up
 abbrev pub RowsAdd : Type 0
 RowsAdd = (s : Slice) (facts : List Fact) → All (KeepsMass facts) s.columns → AddUp (rows facts s)

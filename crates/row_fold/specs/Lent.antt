@@ -1,4 +1,4 @@
--- Values and keys that are lent.
+-- Borrowed values and keys.
 use Rattle.std.specs.Prelude.{ℤ, List, map, Vec}
 use Rattle.std.specs.declared.alloc.Global.{Global}
 use Rattle.fact_model.specs.Value.{Key}
@@ -14,10 +14,10 @@ abbrev pub value_of : LentValue → Value
 value_of (Word bytes) = values.Word bytes.now
 value_of (Number n) = values.Number n
 
--- a key that is lent and its numbers
+-- a borrowed key and its numbers
 abbrev pub group_of : Vec LentValue Global × Vec ℤ Global → Key × List ℤ
 group_of entry = (map value_of entry.0.items, entry.1.items)
 
--- the row that is lent
+-- the row that is borrowed
 abbrev pub row_in : LentRow → Row
 row_in row = record { key = map value_of row.key.items; numbers = row.numbers.items }

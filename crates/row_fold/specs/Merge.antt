@@ -4,7 +4,7 @@ use Rattle.std.specs.declared.cmp.Ordering.{Ordering}
 use Rattle.std.specs.Ordering.{is_lt}
 
 module _ {E : Type 0} (before : E → E → Bool) (join : E → E → E) where
-  -- one old entry put into the new ones; `more` merges what is behind it
+  -- one old entry merged into the new ones; `more` merges the entries after it
   abbrev pub merge_one : E → (List E → List (E × Bool)) → List E → List (E × Bool)
   merge_one o more [] = (o, true) ∷ more []
   merge_one o more (d ∷ new) =
@@ -14,7 +14,7 @@ module _ {E : Type 0} (before : E → E → Bool) (join : E → E → E) where
         | false ↦ elim (before d o) [ true ↦ (d, false) ∷ later | false ↦ (join o d, true) ∷ more new ]
       ]
 
-  -- all entries in order, each with whether an old entry is in it
+  -- all entries in order, each with whether an old entry is part of it
   abbrev pub merged : List E → List E → List (E × Bool)
   merged [] new = map (λ d. (d, false)) new
   merged (o ∷ old) new = merge_one o (merged old) new
@@ -27,7 +27,7 @@ entries_of marked = map (λ e. e.0) marked
 abbrev pub before : {K C : Type 0} → (K → K → Ordering) → (K × C) → (K × C) → Bool
 before R d e = is_lt (R d.0 e.0)
 
--- two entries of one key as one
+-- two entries of one key joined
 abbrev pub join_entries : {K C : Type 0} → (C → C → C) → (K × C) → (K × C) → (K × C)
 join_entries join d e = (d.0, join d.1 e.1)
 

@@ -1,4 +1,4 @@
-//! Rows taken in one after another, in any order, and those of one key joined.
+//! Rows taken in one after another, in any order; rows of one key are joined.
 ghost use Rattle.std.specs.Prelude.{◌≡◌, ◌++◌, [], ◌∷◌, List, IfOk, OnErr, OnOk, map};
 ghost use Rattle.fact_model.specs.Rows.{as_row};
 ghost use Rattle.fact_model.specs.declared.slice.Row as answers;
@@ -12,7 +12,7 @@ use std::alloc::Global;
 use std::collections::BTreeMap;
 use std::marker::Model;
 
-/// Groups of rows, which contracts see as the list of their keys and numbers, ascending by key.
+/// Groups of rows. Contracts see the list of their keys and numbers, ascending by key.
 #[derive(Drop)]
 pub struct RowFold<'a> {
     groups: Groups<'a>,
@@ -32,7 +32,7 @@ impl<'a> Model for RowFold<'a> {
 }
 
 impl<'a> RowFold<'a> {
-    /// No groups. It takes no memory.
+    /// No groups. Does not allocate.
     pub fn new(alloc: Global) -> RowFold<'a>
         ensures { result ≡ [] }
     {
@@ -41,7 +41,8 @@ impl<'a> RowFold<'a> {
         }
     }
 
-    /// Takes in a row: its numbers are joined to those of the group of its key, or it is a group more. After `Memory` all is as before.
+    /// Takes in a row: its numbers are joined to those of the group of its key, or it becomes a new group. After `Memory` all is as
+    /// before.
     pub fn take(
         &mut self,
         alloc: Global,
@@ -50,7 +51,7 @@ impl<'a> RowFold<'a> {
         numbers: &[i128],
     ) -> Result<(), Memory>
         requires { CanTake columns.now self.old numbers.now }
-        // Groups of rows are then those of the rows with this one behind them.
+        // If the groups were those of some rows, they are now those of the rows followed by this one.
         ensures taken { OnOk result ((rows : List answers.Row) → self.old ≡ by_key columns.now rows → self.new ≡ by_key columns.now (rows ++ row_of key.now numbers.now ∷ [])) }
         ensures unchanged { OnErr result (self.new ≡ self.old) }
     {

@@ -1,4 +1,4 @@
-//! The numbers of two rows as one.
+//! The numbers of two rows, joined.
 ghost use Rattle.std.specs.Prelude.{◌≡◌, ◌≤◌, ◌+◌, nat_abs};
 ghost use Rattle.fact_model.specs.Fact.{mass_limit};
 ghost use Rattle.row_fold.specs.Joins.{CanJoin, join_number, join_numbers};
@@ -15,7 +15,7 @@ pub fn join_numbers(columns: &[Column], numbers: &[i128], sums: &mut [i128])
     }
 }
 
-/// The number of both.
+/// The two numbers of a column, joined.
 fn join_number(column: Column, number: i128, sum: i128) -> i128
     requires { nat_abs number + nat_abs sum ≤ mass_limit }
     ensures { result ≡ join_number column number sum }

@@ -1,12 +1,12 @@
-//! Laws of the rows of facts, for whoever folds them.
+//! Laws of folding the rows of facts.
 ghost use Rattle.row_fold.specs.Laws.{ListsFold, ListsJoin, RowsAdd, RowsFold};
 
-/// Folding the rows of facts by a part of their keys is grouping the facts by that part.
+/// Folding the rows of facts by a part of their keys gives the same as grouping the facts by that part.
 pub fn rows_of_facts_fold()
     ensures { RowsFold }
 {}
 
-/// The same of the rows of several lists of facts, one after the other.
+/// The same for the rows of several lists of facts, one after another.
 pub fn lists_of_facts_fold()
     ensures { ListsFold }
 {}

@@ -1,4 +1,4 @@
-//! Rows that are lent one after another.
+//! Rows that are borrowed one after another.
 ghost use Rattle.std.specs.Prelude.{◌≡◌, ◌<◌, [], List, OnOk, get_or, length};
 ghost use Rattle.fact_model.specs.declared.slice.Row as answers;
 ghost use Rattle.row_fold.specs.Lent.{row_in};
@@ -7,7 +7,7 @@ use crate::lent::LentValue;
 use fact_model::Memory;
 use std::alloc::Global;
 
-/// A row whose texts are lent.
+/// A row whose texts are borrowed.
 #[derive(Drop)]
 pub struct LentRow<'a> {
     /// The values of the grouped attributes, in the order of grouping.
@@ -17,7 +17,7 @@ pub struct LentRow<'a> {
 }
 
 impl<'a> LentRow<'a> {
-    /// A row of nothing, to be made another. It takes no memory.
+    /// An empty row, to be filled later. Does not allocate.
     pub fn new(alloc: Global) -> LentRow<'a>
         ensures key { result.key.items ≡ [] }
         ensures numbers { result.numbers.items ≡ [] }
@@ -29,7 +29,7 @@ impl<'a> LentRow<'a> {
     }
 }
 
-/// Rows in order, of which each is lent.
+/// Rows in order, each of which can be borrowed.
 pub trait LentRows {
     /// The rows.
     ghost rows: { Self → List answers.Row };
@@ -38,7 +38,7 @@ pub trait LentRows {
     fn count(&self) -> usize
         ensures { result ≡ length (rows self.now) };
 
-    /// Makes a row the one of this place, counted from 0. Want of memory alone makes it fail.
+    /// Fills `row` with the row at this position, counted from 0. The only error is out of memory.
     fn lend<'a>(&'a self, place: usize, row: &mut LentRow<'a>) -> Result<(), Memory>
         requires { place < length (rows self.now) }
         ensures { (d : answers.Row) → OnOk result (row_in row.new ≡ get_or (rows self.now) place d) };

@@ -1,11 +1,11 @@
-//! Values that are lent.
+//! Borrowed values.
 ghost use Rattle.std.specs.Prelude.{◌≡◌, IfOk, map};
 ghost use Rattle.row_fold.specs.Lent.{value_of};
 
 use fact_model::{ListOf, Memory, Text, Value, ValueList};
 use std::alloc::Global;
 
-/// A value whose text is lent. Such values have the order of values.
+/// A value whose text is borrowed. Such values have the order of values.
 #[derive(Clone, Copy, Debug, PartialEq, Eq, PartialOrd, Ord)]
 pub enum LentValue<'a> {
     /// The value of a text attribute.
@@ -15,7 +15,7 @@ pub enum LentValue<'a> {
 }
 
 impl<'a> LentValue<'a> {
-    /// The value, lent.
+    /// The value, borrowed.
     pub fn of(value: &'a Value) -> LentValue<'a>
         ensures { value_of result ≡ value.now }
     {
@@ -25,7 +25,7 @@ impl<'a> LentValue<'a> {
         }
     }
 
-    /// A value of its own.
+    /// An owned copy of the value.
     pub fn to_value(self, alloc: Global) -> Result<Value, Memory>
         ensures { IfOk result (λ value. value ≡ value_of self.entry) }
     {
@@ -39,7 +39,7 @@ impl<'a> LentValue<'a> {
     }
 }
 
-/// Values of their own.
+/// Owned copies of the values.
 pub(crate) fn to_values(alloc: Global, key: &[LentValue<'_>]) -> Result<ValueList, Memory>
     ensures { IfOk result (λ values. values ≡ map value_of key.now) }
 {

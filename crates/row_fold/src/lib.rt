@@ -1,5 +1,5 @@
-//! One fold of rows: rows of which a part of the key is the same are joined, counts and sums added, and of least and greatest numbers the
-//! least and the greatest kept. Folding the rows of facts is grouping the facts.
+//! Folding rows: rows that agree in a part of the key are joined. Counts and sums are added, and of least and greatest numbers the least
+//! and the greatest are kept. Folding the rows of facts gives the same as grouping the facts.
 #![tactic(auto)]
 
 mod fold;

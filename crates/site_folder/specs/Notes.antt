@@ -7,7 +7,7 @@ use Rattle.site_folder.specs.declared.notes.Notes.{Notes}
 abbrev pub IsNoted : List Bool → ℕ → Type 0
 IsNoted is_synced file = IsTrue (slice_index_or is_synced file false)
 
--- the first so many files are
+-- the first `count` files are noted as synced
 abbrev pub AreNotedTo : ℕ → List Bool → Type 0
 AreNotedTo count is_synced = (g : ℕ) → g < count → IsNoted is_synced g
 
@@ -15,7 +15,7 @@ AreNotedTo count is_synced = (g : ℕ) → g < count → IsNoted is_synced g
 abbrev pub AreSynced : List Bool → Ledger → Type 0
 AreSynced is_synced ledger = (g : ℕ) → IsNoted is_synced g → IsTrue (ledger.synced g)
 
--- what is noted is so, of the folder and of its files
+-- what is noted holds, for the folder and for its files
 pub record AreTrue (notes : Notes) (ledger : Ledger) : Type 0 where
   pub listed : IsTrue notes.is_listed → IsTrue ledger.listed
   pub synced : AreSynced notes.is_synced ledger
@@ -25,7 +25,7 @@ pub record AreAllNoted (notes : Notes) : Type 0 where
   pub listed : IsTrue notes.is_listed
   pub synced : AreNotedTo 4 notes.is_synced
 
--- Syncs are asked for of files that are not noted alone, of each once at most; what is open stays open, and what is synced synced.
+-- Syncs are asked for only of files that are not noted, and of each at most once; what is open stays open, and what is synced stays synced.
 pub record AsksDue (is_synced : List Bool) (old new : Ledger) : Type 0 where
   pub opened : (g : ℕ) → IsTrue (old.opened g) → IsTrue (new.opened g)
   pub synced : (g : ℕ) → IsTrue (old.synced g) → IsTrue (new.synced g)

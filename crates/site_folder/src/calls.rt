@@ -1,4 +1,4 @@
-//! What a site asks of its host, in calls of the system.
+//! What a site asks of its host, call by call.
 ghost use Rattle.std.specs.Prelude.{◌≡◌, ◌<◌, ◌≤◌, ◌+◌, ◌++◌, ◌⊎◌, ◌^◌, ◌↔◌, IsTrue, length, IfOk, OnOk};
 ghost use Rattle.std.specs.IoError.{error_kind};
 ghost use Rattle.site_core.specs.Calls.{Rests, Settles, Stays, Fills, Writes, Emits};
@@ -13,7 +13,7 @@ use crate::host::Host;
 use std::io;
 use std::io::ErrorKind;
 
-/// Opens a file that is there, and answers whether it was. A file that is not there is no fault.
+/// Opens a file if it is there, and returns whether it was. A file that is not there is no fault.
 pub fn find<H: Host>(host: &mut H, file: u32) -> io::Result<bool>
     requires { file < 4 }
     ensures found { IfOk result (IsFound file (H.ledger host.new)) }
@@ -27,15 +27,15 @@ pub fn find<H: Host>(host: &mut H, file: u32) -> io::Result<bool>
     }
 }
 
-/// Whether no `u64` is so many bytes behind a place.
+/// Whether the place `count` bytes after `at` is past the end of u64.
 fn is_too_far(at: u64, count: usize) -> bool
     ensures { IsTrue result ↔ 2 ^ 64 ≤ at + count }
 {
     at.checked_add(count as u64).is_none()
 }
 
-/// Reads an open file from a place on until the buffer is full or the file ends, and answers how many bytes it gave. Where
-/// the buffer would pass the greatest place, that is a fault.
+/// Reads an open file from a place on until the buffer is full or the file ends, and returns the number of bytes read. A
+/// buffer that would end past the greatest place is a fault.
 pub fn fill<H: Host>(host: &mut H, file: u32, at: u64, into: &mut [u8]) -> io::Result<usize>
     requires file { file < 4 }
     requires open { IsTrue ((H.ledger host.old).opened file) }
@@ -57,7 +57,7 @@ pub fn fill<H: Host>(host: &mut H, file: u32, at: u64, into: &mut [u8]) -> io::R
     Ok(count)
 }
 
-/// Writes all bytes to an open file at a place. Where they would pass the greatest place, that is a fault.
+/// Writes all bytes to an open file at a place. Bytes that would end past the greatest place are a fault.
 pub fn put<H: Host>(host: &mut H, file: u32, at: u64, bytes: &[u8]) -> io::Result<()>
     requires file { file < 4 }
     requires open { IsTrue ((H.ledger host.old).opened file) }
@@ -78,7 +78,7 @@ pub fn put<H: Host>(host: &mut H, file: u32, at: u64, bytes: &[u8]) -> io::Resul
     Ok(())
 }
 
-/// Writes all bytes to the output, and has it hold none back.
+/// Writes all bytes to the output, and flushes it.
 pub fn tell<H: Host>(host: &mut H, bytes: &[u8]) -> io::Result<()>
     ensures told { IsTrue H.tells → OnOk result ((H.disk host.new).told ≡ (H.disk host.old).told ++ bytes.now) }
     ensures flushed { OnOk result (IsTrue (H.ledger host.new).flushed) }
@@ -93,7 +93,8 @@ pub fn tell<H: Host>(host: &mut H, bytes: &[u8]) -> io::Result<()>
     host.flush()
 }
 
-/// Syncs each file that is there and is not noted as synced, and notes it; one that is not there has nothing to sync.
+/// Syncs each file that is there and is not noted as synced, and notes it. A file that is not there has nothing to
+/// sync.
 pub fn sync_files<H: Host>(host: &mut H, is_synced: &mut [bool; 4]) -> io::Result<()>
     requires { AreSynced is_synced.old (H.ledger host.old) }
     ensures synced { OnOk result (AreSyncedTo 4 (H.ledger host.new)) }
@@ -112,7 +113,7 @@ pub fn sync_files<H: Host>(host: &mut H, is_synced: &mut [bool; 4]) -> io::Resul
     Ok(())
 }
 
-/// Syncs a file, where it is there.
+/// Syncs a file if it is there.
 fn sync_file<H: Host>(host: &mut H, file: u32) -> io::Result<()>
     requires { file < 4 }
     ensures synced { OnOk result (IsTrue ((H.ledger host.new).synced file)) }

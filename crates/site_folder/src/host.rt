@@ -12,27 +12,27 @@ ghost use Rattle.site_folder.specs.Reads.{ReadsAt};
 use std::io;
 use std::io::ErrorKind;
 
-/// Four files of a folder, numbered 0 to 3, and an output, call by call.
+/// Four files of a folder, numbered 0 to 3, and an output, with one method for each call.
 ///
-/// Each method is one call of the system: it may do a part of what was asked, and says how much.
+/// Each method is one call of the system: it may do only a part of what was asked, and returns how much.
 pub trait Host {
-    /// Whether it tells its files, its output and its moments. Where it does not, a clause on content says nothing.
+    /// Whether the host reports its files, its output and its moments. If not, a clause on content says nothing.
     ghost tells: { Bool };
 
-    /// The files as a read gives them, the told bytes, and what a stop may leave.
+    /// The files as a read gives them, the bytes written to the output, and what a stop may leave.
     ghost disk: { Self → Disk };
 
     /// What is open, what is synced, and how often a sync was asked for.
     ghost ledger: { Self → Ledger };
 
-    /// How often a call on the files has failed, but for a file that is not there. Like the next count it never falls, and stands still at
-    /// the end of a `u64`.
+    /// How often a call on the files has failed, not counting files that are not there. This count and the next one never fall, and stop
+    /// at the greatest u64.
     ghost disk_faults: { Self → ℕ };
 
     /// How often the output has failed.
     ghost told_faults: { Self → ℕ };
 
-    /// Opens a file that is there, unless it is open. Where it is not there the error is `NotFound`; then it has no bytes, and nothing
+    /// Opens a file that is there, unless it is open. If it is not there, the error is `NotFound`; then it has no bytes, and nothing
     /// that is not synced.
     fn open(&mut self, file: u32) -> io::Result<()>
         requires { file < 4 }
@@ -49,7 +49,7 @@ pub trait Host {
         ensures told_faults { told_faults self.new ≡ told_faults self.old }
         ensures disk { IsTrue tells → Rests (disk self.old) (disk self.new) };
 
-    /// Opens a file, and makes it where it is not there. The folder may then have to be synced.
+    /// Opens a file, and makes it if it is not there. Then the folder may need a sync.
     fn make(&mut self, file: u32) -> io::Result<()>
         requires { file < 4 }
         ensures opened { OnOk result (IsTrue ((ledger self.new).opened file)) }
@@ -77,8 +77,8 @@ pub trait Host {
         ensures faults { FaultsOf disk_faults told_faults self.old self.new result }
         ensures disk { IsTrue tells → Rests (disk self.old) (disk self.new) };
 
-    /// One write of an open file at a place: some of the first of these bytes, and none only in a fault. After a fault any part may have been
-    /// written.
+    /// One write of an open file at a place: it takes some of the first of these bytes, and none only in a fault. After a fault any part may
+    /// have been written.
     fn write_at(&mut self, file: u32, at: u64, bytes: &[u8]) -> io::Result<usize>
         requires file { file < 4 }
         requires open { IsTrue ((ledger self.old).opened file) }
@@ -92,7 +92,7 @@ pub trait Host {
         ensures faults { FaultsOf disk_faults told_faults self.old self.new result }
         ensures disk { IsTrue tells → Writes file at bytes.now (disk self.old) (disk self.new) };
 
-    /// The fault of a place so many bytes behind another that no call can name, since it is no `u64`.
+    /// The error for a place `count` bytes after `at` that is past the end of u64, so that no call can name it.
     fn too_far(&mut self, at: u64, count: usize) -> io::Error
         requires { 2 ^ 64 ≤ at + count }
         ensures cause { Rose (disk_faults self.old) (disk_faults self.new) }
@@ -102,7 +102,8 @@ pub trait Host {
         ensures keeps { Keeps (ledger self.old) (ledger self.new) }
         ensures disk { IsTrue tells → Rests (disk self.old) (disk self.new) };
 
-    /// Syncs an open file. After a fault a read may give any of what a stop may leave: a system may drop what it could not write.
+    /// Syncs an open file. After a fault a read may give anything that a stop may leave: a system may drop what it could not
+    /// write.
     fn sync_file(&mut self, file: u32) -> io::Result<()>
         requires file { file < 4 }
         requires open { IsTrue ((ledger self.old).opened file) }
@@ -112,14 +113,15 @@ pub trait Host {
         ensures faults { FaultsOf disk_faults told_faults self.old self.new result }
         ensures disk { IsTrue tells → Settles Stays (disk self.old) (disk self.new) result };
 
-    /// Syncs the folder, so that files which were made are found again. After a fault the same holds as for a file.
+    /// Syncs the folder, so that files made in it are found again. After a fault the same holds as for a file.
     fn sync_folder(&mut self) -> io::Result<()>
         ensures listed { OnOk result (IsTrue (ledger self.new).listed) }
         ensures keeps { Keeps (ledger self.old) (ledger self.new) }
         ensures faults { FaultsOf disk_faults told_faults self.old self.new result }
         ensures disk { IsTrue tells → Settles Stays (disk self.old) (disk self.new) result };
 
-    /// One write of the output: some of the first of these bytes, and none only in a fault. The output may hold them back.
+    /// One write of the output: it takes some of the first of these bytes, and none only in a fault. The output may hold
+    /// them back.
     fn put(&mut self, bytes: &[u8]) -> io::Result<usize>
         requires { 0 < length bytes.now }
         ensures taken { IfOk result (λ count. 0 < count) }
@@ -129,7 +131,7 @@ pub trait Host {
         ensures faults { FaultsOf told_faults disk_faults self.old self.new result }
         ensures disk { IsTrue tells → Emits bytes.now (disk self.old) (disk self.new) };
 
-    /// Gives out what the output holds back.
+    /// Flushes the output: writes what it holds back.
     fn flush(&mut self) -> io::Result<()>
         ensures flushed { OnOk result (IsTrue (ledger self.new).flushed) }
         ensures keeps { Keeps (ledger self.old) (ledger self.new) }
@@ -143,10 +145,10 @@ pub trait Host {
     ghost counts_now: { (host : Self) (t : ℕ) (files : Files) → IsTrue tells → t ≤ (disk host).clock
         → (disk host).may_leave files → (disk host).left_since t (disk host).told files };
 
-    /// Since this moment there is no other.
+    /// There is no moment after this one.
     ghost only_now: { (host : Self) (told : List ℕ) (files : Files) → IsTrue tells
         → (disk host).left_since (disk host).clock told files → (told ≡ (disk host).told) × (disk host).may_leave files };
 
-    /// Where all is synced, a stop now leaves what a read gives.
+    /// If all is synced, a stop now leaves what a read gives.
     ghost stable_now: { (host : Self) → IsTrue tells → IsAllSynced (ledger host) → IsStable (disk host) };
 }

@@ -4,14 +4,14 @@ ghost use Rattle.std.specs.Prelude.{length};
 use crate::reader::Reader;
 use site_core::{Fault, Source};
 
-/// What a reader gives, one read a pull, with the faults that it counts.
+/// The bytes of a reader, one read for each pull, with the faults that it counts.
 #[derive(Drop)]
 pub struct Input<R> {
     reader: R,
 }
 
 impl<R> Input<R> {
-    /// A reader of which nothing was asked yet. It takes no memory.
+    /// A reader that was not called yet. Does not allocate.
     pub fn new(reader: R) -> Self {
         Input { reader }
     }

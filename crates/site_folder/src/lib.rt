@@ -1,7 +1,8 @@
-//! The site over four files of a folder and an output, and the source over a reader, from single calls of the system.
+//! The site over four files of a folder and an output, and the source over a reader, made of single calls of the
+//! system.
 //!
-//! What the system does in one call is said by two traits, `Host` and `Reader`. All loops over such calls, their order and
-//! what becomes of their faults are proved here, for every host and reader that keeps to its trait.
+//! Two traits, `Host` and `Reader`, say what the system does in one call. All loops over such calls, their order and the
+//! handling of their faults are proved here, for every host and reader that keeps to its trait.
 #![tactic(auto)]
 
 mod calls;

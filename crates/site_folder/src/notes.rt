@@ -2,10 +2,10 @@
 ghost use Rattle.std.specs.Prelude.{◌≡◌, ℕ, false};
 ghost use Rattle.site_folder.specs.Notes.{IsNoted};
 
-/// What was synced since it was last written: only the rest has to be.
+/// What was synced after its last write. Only the rest needs a sync.
 #[derive(Drop)]
 pub struct Notes {
-    /// The folder, since a file was made in it.
+    /// The folder, after the last file was made in it.
     pub is_listed: bool,
     /// Each of the four files, by its number.
     pub is_synced: [bool; 4],

@@ -7,22 +7,23 @@ use std::io;
 
 /// Bytes that the system gives, call by call.
 pub trait Reader {
-    /// Whether it tells its bytes. Where it does not, a clause on content says nothing.
+    /// Whether the reader reports its bytes. If not, a clause on content says nothing.
     ghost tells: { Bool };
 
     /// The bytes that are left.
     ghost left: { Self → List ℕ };
 
-    /// How often a read has failed. The count never falls, and stands still at the end of a `u64`.
+    /// How often a read has failed. The count never falls, and stops at the greatest u64.
     ghost faults: { Self → ℕ };
 
     /// How many reads were asked for.
     ghost reads: { Self → ℕ };
 
-    /// How many of them have met the end.
+    /// How many reads have met the end.
     ghost ends: { Self → ℕ };
 
-    /// One read: the next bytes into the front of `into`, and none only at the end. A read that fails takes nothing.
+    /// One read: it puts the next bytes at the beginning of `into`, and none only at the end. A read that fails takes
+    /// nothing.
     fn read(&mut self, into: &mut [u8]) -> io::Result<usize>
         requires { 0 < length into.old }
         ensures bound { IfOk result (λ count. count ≤ length into.new) }

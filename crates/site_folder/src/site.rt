@@ -15,9 +15,9 @@ use crate::notes::Notes;
 use site_core::{Fault, Site};
 use std::io;
 
-/// Four files of a folder and an output, with the faults that its host counts, and two counts of its own, of reads and
-/// writes, which begin at 0. A file is opened when it is first asked for, and made at its first write. A sync
-/// syncs what was written or made since it was last synced.
+/// Four files of a folder and an output, with the faults that the host counts, and two counts of its own, of reads and
+/// of writes, which begin at 0. A file is opened when it is first asked for, and made at its first write. A sync syncs
+/// what was written or made since its last sync.
 #[derive(Drop)]
 pub struct FolderSite<H: Host> {
     /// Where the files lie and the output goes.
@@ -29,7 +29,7 @@ pub struct FolderSite<H: Host> {
 }
 
 impl<H: Host> FolderSite<H> {
-    /// A host of which nothing was asked yet. It takes no memory.
+    /// A host that was not called yet. Does not allocate.
     pub fn new(host: H) -> FolderSite<H>
         ensures host { result.host ≡ host }
         ensures reads { result.reads ≡ 0 }
@@ -44,7 +44,7 @@ impl<H: Host> FolderSite<H> {
     }
 }
 
-/// A fault of the host is one of the site.
+/// Turns a fault of the host into one of the site.
 fn answer<T: Drop>(outcome: io::Result<T>) -> Result<T, Fault>
     ensures ok { IfOk result (λ value. outcome ≡ Ok value) }
     ensures failed { OnErr result (IsErr outcome) }
@@ -55,7 +55,7 @@ fn answer<T: Drop>(outcome: io::Result<T>) -> Result<T, Fault>
     }
 }
 
-/// The length of a file, which is 0 where it is not there.
+/// The length of a file; 0 if it is not there.
 fn length_of<H: Host>(host: &mut H, file: u32) -> io::Result<u64>
     requires { file < 4 }
     ensures answer { IsTrue H.tells → IfOk result (λ count. count ≡ length ((H.disk host.old).files file)) }
@@ -67,7 +67,8 @@ fn length_of<H: Host>(host: &mut H, file: u32) -> io::Result<u64>
     Ok(0)
 }
 
-/// Fills `into` with the bytes of a file from a place, as many as it has; none where it is not there.
+/// Fills `into` with the bytes of a file from a place on, up to the end of the file. A file that is not there gives
+/// none.
 fn read_from<H: Host>(host: &mut H, file: u32, at: u64, into: &mut [u8]) -> io::Result<usize>
     requires { file < 4 }
     ensures bound { IfOk result (λ count. count ≤ length into.new) }
@@ -80,7 +81,7 @@ fn read_from<H: Host>(host: &mut H, file: u32, at: u64, into: &mut [u8]) -> io::
     Ok(0)
 }
 
-/// Opens a file, and makes it where it is not there; then the folder has to be synced.
+/// Opens a file, and makes it if it is not there; the folder then needs a sync.
 fn find_or_make<H: Host>(host: &mut H, is_listed: &mut bool, file: u32) -> io::Result<()>
     requires file { file < 4 }
     requires listed { IsTrue is_listed.old → IsTrue (H.ledger host.old).listed }
@@ -98,8 +99,8 @@ fn find_or_make<H: Host>(host: &mut H, is_listed: &mut bool, file: u32) -> io::R
     host.make(file)
 }
 
-/// Puts bytes at a place of a file, which is made where it is not there. Its note is taken back first, since a write that fails may have
-/// changed the file, too.
+/// Writes bytes at a place of a file, and makes the file if it is not there. The file's note is cleared first, since a write that fails
+/// may have changed the file too.
 fn write_to<H: Host>(
     host: &mut H,
     notes: &mut Notes,
@@ -123,7 +124,7 @@ fn write_to<H: Host>(
     put(host, file, at, bytes)
 }
 
-/// Syncs all files that are not noted as synced, and the folder where a file may have been made since it was synced.
+/// Syncs all files that are not noted as synced, and the folder if a file may have been made since it was synced.
 fn sync_all<H: Host>(host: &mut H, notes: &mut Notes) -> io::Result<()>
     requires { AreTrue notes.old (H.ledger host.old) }
     ensures synced { OnOk result (IsAllSynced (H.ledger host.new)) }
@@ -187,7 +188,7 @@ impl<H: Host> Site for FolderSite<H> {
         answer(read_from(&mut self.host, file, at, into))
     }
 
-    /// Writes bytes, and leaves the notes of other files, and that of the folder where it makes no file.
+    /// Writes bytes. The notes of other files stay, and so does that of the folder if no file is made.
     fn write(&mut self, file: u32, at: u64, bytes: &[u8]) -> Result<(), Fault>
         requires file { file < 4 }
         requires place { IsTrue H.tells → at ≤ length ((H.disk self.old.host).files file) }

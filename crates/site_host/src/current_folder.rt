@@ -14,7 +14,7 @@ use std::io;
 use std::io::{ErrorKind, Write};
 
 /// The files `root`, `names`, `side0` and `side1` of the current folder, and standard output, with the counts of their faults, which begin
-/// at 0. It tells nothing of their bytes.
+/// at 0. It reports nothing about their bytes.
 #[derive(Drop)]
 pub struct CurrentFolder<'a> {
     rt: &'a HostRuntime,
@@ -25,11 +25,11 @@ pub struct CurrentFolder<'a> {
 }
 
 impl<'a> CurrentFolder<'a> {
-    /// The current folder, of whose files none is open yet.
+    /// The current folder, with no file open yet.
     ///
-    /// A process may begin with one of its three streams closed, and the next file that is opened then takes its descriptor. So the folder
-    /// itself is opened first, three times, and kept: a read or a write of a stream that was closed is a fault then, since a folder gives
-    /// and takes no bytes.
+    /// A process may start with one of its three streams closed, and the next file that is opened then takes its descriptor. So the folder
+    /// itself is opened three times before any file, and kept. A read or a write of a stream that was closed is then a fault, since a
+    /// folder neither gives nor takes bytes.
     pub fn new(rt: &'a HostRuntime) -> CurrentFolder<'a>
         ensures disk_faults { result.disk_faults ≡ 0 }
         ensures told_faults { result.told_faults ≡ 0 }
@@ -47,7 +47,7 @@ impl<'a> CurrentFolder<'a> {
         }
     }
 
-    /// Opens a file, which is made where it is not there if that is asked for.
+    /// Opens a file. If it is not there and `create` is true, it is made.
     fn open_with(&mut self, file: u32, create: bool) -> io::Result<()>
         requires { file < 4 }
         ensures opened { OnOk result (IsSome (file_in self.new.files.files file)) }
@@ -133,7 +133,7 @@ fn sync_here(rt: &HostRuntime) -> io::Result<()> {
     File::open(rt, ".")?.sync_all()
 }
 
-/// One write of standard output, of some bytes.
+/// One write to standard output, of some of the bytes.
 fn write_out(rt: &HostRuntime, bytes: &[u8]) -> io::Result<usize>
     ensures some { IfOk result (λ count. 0 < count) }
     ensures bound { IfOk result (λ count. count ≤ length bytes.now) }
@@ -141,7 +141,7 @@ fn write_out(rt: &HostRuntime, bytes: &[u8]) -> io::Result<usize>
     taken(io::writer(rt).write(bytes)?)
 }
 
-/// How a file is opened: to be read and written as it is, and made where it is not there if that is asked for.
+/// How a file is opened: for reading and writing, with its content kept; `create` makes it if it is not there.
 fn options(create: bool) -> OpenOptions
     ensures { result ≡ with_create (with_write (with_read new_options true) true) create }
 {

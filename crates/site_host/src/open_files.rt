@@ -8,14 +8,14 @@ use std::fs::{File, OpenFile};
 use std::io;
 use std::os::unix::fs::FileExt;
 
-/// The four files by their numbers, as far as they are open.
+/// The four files by their numbers, if they are open.
 #[derive(Drop)]
 pub struct OpenFiles {
     files: [Option<DataFile>; 4],
 }
 
 impl OpenFiles {
-    /// None is open.
+    /// No file is open.
     pub fn new() -> OpenFiles {
         OpenFiles {
             files: [None, None, None, None],
@@ -30,7 +30,8 @@ impl OpenFiles {
         self.files[file as usize].is_some()
     }
 
-    /// Keeps a file that was opened. One with the descriptor of a stream is closed again, and that is a fault.
+    /// Keeps a file that was opened. If it has the descriptor of a standard stream, it is closed again, and that is a
+    /// fault.
     pub fn keep(&mut self, file: u32, open: File) -> io::Result<()>
         requires { file < 4 }
         ensures kept { OnOk result (file_in self.new.files file ≡ Some «open») }
@@ -66,7 +67,7 @@ impl OpenFiles {
         self.get(file)?.read_at(into, at)
     }
 
-    /// One write of an open file, of some bytes.
+    /// One write of an open file, of some of the bytes.
     pub fn write_at(&self, file: u32, at: u64, bytes: &[u8]) -> io::Result<usize>
         requires { file < 4 }
         ensures some { IfOk result (λ count. 0 < count) }

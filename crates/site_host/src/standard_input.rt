@@ -6,7 +6,8 @@ use site_folder::Reader;
 use std::io;
 use std::io::Read;
 
-/// A reader of std, with the count of its faults, which begins at 0. It tells nothing of its bytes, and counts no reads.
+/// A reader of std, with the count of its faults, which begins at 0. It reports nothing about its bytes, and counts no
+/// reads.
 #[derive(Drop)]
 pub struct StandardInput<R> {
     reader: R,
@@ -14,7 +15,7 @@ pub struct StandardInput<R> {
 }
 
 impl<R> StandardInput<R> {
-    /// A reader of which nothing was asked yet.
+    /// A reader that was not called yet.
     pub fn new(reader: R) -> StandardInput<R>
         ensures { result.faults ≡ 0 }
     {

@@ -1,4 +1,4 @@
--- What files keep of what the plain machine knows: the accepted facts, and nothing of a batch that is pending.
+-- What files keep of the state of the plain machine: the accepted facts, and nothing of a pending batch.
 use Rattle.std.specs.Prelude.{◌≡◌, ◌≤◌, ℕ, length, Some, None}
 use Rattle.site_core.specs.Disk.{Files}
 use Rattle.cube_schema.specs.Lawful.{IsSchema}

@@ -1,4 +1,4 @@
--- What a stop among commands may leave: which bytes are told, and what files keep.
+-- What a stop among commands may leave: which bytes are printed, and what the files keep.
 use Rattle.std.specs.Prelude.{◌≡◌, ◌⊎◌, ℕ, ◌+◌, ◌≤◌, List, ◌++◌, length, Some, slice_get}
 use Rattle.site_core.specs.Disk.{Files}
 use Rattle.script_lang.specs.Script.{commands}
@@ -22,8 +22,8 @@ pub record AfterStop (world : World) (commands : List Command) (before told : Li
   pub acknowledged : acked world commands (length front) ≤ stage
   pub not_ahead : stage ≤ acked world commands (length front) + 1
 
--- A stop within one command leaves a front of its reply, and files that keep the world before or behind it: those behind it
--- where the whole reply was told.
+-- A stop within one command leaves a front of its reply, and files that keep the world before or after the command: the
+-- world after it, if the whole reply was printed.
 pub record Meanwhile (world : World) (command : Command) (before told : List ℕ) (files : Files) : Type 0 where
   pub front : List ℕ
   pub rest : List ℕ
@@ -32,8 +32,7 @@ pub record Meanwhile (world : World) (command : Command) (before told : List ℕ
   pub kept : Keeps files world.kept ⊎ Keeps files (act world command).0.kept
   pub acknowledged : front ≡ (act world command).1 → Keeps files (act world command).0.kept
 
--- Of these commands some are carried out, and the others are left. What a stop leaves that is right from here on is right from
--- the start.
+-- Some of these commands are carried out, and the rest are left. If what a stop leaves is right from here on, it is right from the start.
 pub record Carried (world : World) (commands : List Command) (before : List ℕ) (now : World) (rest : List Command) (told : List ℕ) : Type 0 where
   pub front : List ℕ
   pub tells : told ≡ before ++ front
@@ -41,13 +40,13 @@ pub record Carried (world : World) (commands : List Command) (before : List ℕ)
   pub final : final world commands ≡ final now rest
   pub onto : (t : List ℕ) (files : Files) → AfterStop now rest told t files → AfterStop world commands before t files
 
--- What a stop in a run over this script leaves, from this state, with these bytes told: each history that ended in it goes on with the run to
--- what the files keep, and in that history each numbered batch is accepted once. What was acknowledged is in it.
+-- What a stop in a run over this script leaves, from this state, once these bytes are printed: each history that ended in this state
+-- continues with the run to what the files keep, and in that history each numbered batch is accepted once. What was acknowledged is in it.
 pub record GoesOnOnce (kept : Kept) (script before told : List ℕ) (files : Files) : Type 0 where
   pub run : Run
   pub over : run.script ≡ script
   pub keeps : Keeps files run.kept
-  -- the bytes told are a front of the replies, and the stage is the one that they acknowledge, or the next one
+  -- the bytes printed are a front of the replies, and the stage is the one that they acknowledge, or the next one
   pub front : List ℕ
   pub tells : told ≡ before ++ front
   pub acknowledged : acked (bare kept) (commands script) (length front) ≤ run.stage

@@ -1,2 +1,2 @@
-//! What files keep of what the plain machine knows, and what a stop among commands may leave of it. Definitions and theorems, no code.
+//! What files keep of the state of the plain machine, and what a stop among commands may leave. Definitions and theorems, no code.
 #![tactic(auto)]

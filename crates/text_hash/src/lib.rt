@@ -1,16 +1,16 @@
-//! What the hash of texts begins with.
+//! The seed of the hashes of texts.
 #![tactic(auto)]
 
 use std::hash::{BuildHasher, DefaultHasher, Hasher};
 
-/// What the hash of texts begins with. A run draws one, so nobody can choose texts of one hash for it. No answer depends on it.
+/// The seed of the hashes of texts. Each run draws one, so nobody can choose texts that share a hash. No answer depends on it.
 #[derive(Clone, Copy)]
 pub struct Seed {
     start: DefaultHasher,
 }
 
 impl Seed {
-    /// The seed of a drawn number. It takes no memory.
+    /// Makes a seed from a drawn number. Does not allocate.
     pub fn new(drawn: u128) -> Seed {
         let mut start = DefaultHasher::new();
         start.write(&drawn.to_le_bytes());
