@@ -29,7 +29,7 @@ pub struct FolderSite<H: Host> {
 }
 
 impl<H: Host> FolderSite<H> {
-    /// A host that was not called yet. Does not allocate.
+    /// A host that has not been called yet. Does not allocate.
     pub fn new(host: H) -> FolderSite<H>
         ensures host { result.host ≡ host }
         ensures reads { result.reads ≡ 0 }
