@@ -48,7 +48,7 @@ view_entries measures coded numbers v = map (entry_at measures coded numbers v) 
 abbrev pub tree_entries : ℕ → List (List ℕ) → List (List ℤ) → List ViewRuns → List Entry
 tree_entries measures coded numbers views = flat_map (view_entries measures coded numbers) views
 
--- the views alone
+-- only the views
 abbrev pub views_in : List ViewRuns → List View
 views_in views = map (λ (v : ViewRuns). v.view) views
 

@@ -23,7 +23,7 @@ abbrev pub as_number : Option ℕ → Option Value
 as_number None = None
 as_number (Some n) = Some (Number n)
 
--- the value of an attribute that a field writes, if it is one
+-- the value of an attribute that a field writes, if it writes one
 abbrev pub value_of : Kind → List ℕ → Option Value
 value_of (kind.Word max) field = Some (Word field)
 value_of kind.Number field = as_number (coordinate_in field)

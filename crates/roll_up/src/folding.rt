@@ -21,7 +21,7 @@ use row_fold::{LentRow, LentRows, LentValue, RowFold};
 use std::alloc::Global;
 
 /// Rolls up the rows of the base slice: those whose keys meet the conditions on levels are grouped anew, and their numbers joined. If the
-/// rows are those of facts, the result is the rows of the facts with their parents. Only new keys are copied. An error is out of memory.
+/// rows are those of facts, the result is the rows of the facts with their parents. Only new keys are copied. The only error is out of memory.
 pub fn fold_up<R: LentRows>(
     alloc: Global,
     schema: &Schema,

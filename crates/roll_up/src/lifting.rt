@@ -79,7 +79,7 @@ fn value_for<'a>(group: &[u32], key: &[LentValue<'a>], attr: u32) -> LentValue<'
     LentValue::Number(0)
 }
 
-/// The parent by a level of the value that a key has of the level's attribute.
+/// The parent that a level gives to a key's value of the level's attribute.
 fn parent_for<'a>(group: &[u32], key: &[LentValue<'_>], level: &'a Level) -> &'a [u8]
     ensures { result.now ≡ parent_of level.now.parents (value_for group.now (map value_of key.now) level.now.attr) }
 {

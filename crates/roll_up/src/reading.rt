@@ -171,7 +171,7 @@ fn read_row(
     Ok(())
 }
 
-/// The value of an attribute that a field writes, if it is one.
+/// The value of an attribute that a field writes, if it writes one.
 fn read_value(kind: Kind, bytes: &[u8]) -> Option<LentValue<'_>>
     ensures { option_map lent.value_of result ≡ value_of kind bytes.now }
 {

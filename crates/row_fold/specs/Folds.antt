@@ -30,7 +30,7 @@ folded columns test part rows = groups key_cmp (λ (r : Row). part r.key) (all_j
 abbrev pub parted : Slice → (Key → Bool) → (Key → Key) → List Fact → List (Key × List ℤ)
 parted s test part facts = groups key_cmp (λ x. part (key_of s.group x)) (numbers_of s.columns) (filter (λ x. holds s x && test (key_of s.group x)) facts)
 
--- the magnitudes that a column adds up over the facts together fit in 128 bits
+-- the magnitudes that a column adds up over the facts fit in 128 bits in total
 abbrev pub KeepsMass : List Fact → Column → Type 0
 KeepsMass facts Count = length facts ≤ mass_limit
 KeepsMass facts (Sum m) = mass m facts ≤ mass_limit

@@ -1,4 +1,4 @@
--- What calls on a host leave alone, beside what they are for.
+-- What calls on a host leave unchanged, apart from what they are for.
 use Rattle.std.specs.Prelude.{IsTrue, Result}
 use Rattle.site_core.specs.Calls.{Rests}
 use Rattle.site_folder.specs.Faults.{FaultsOf}

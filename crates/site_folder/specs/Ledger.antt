@@ -1,4 +1,4 @@
--- Which of four files are open, and what of them is synced.
+-- Which of four files are open, and what is synced.
 use Rattle.std.specs.Prelude.{◌≡◌, ◌≢◌, ℕ, ◌+◌, ◌<◌, ◌≤◌, Bool, IsTrue}
 
 pub record Ledger : Type 0 where

@@ -11,7 +11,7 @@ pub struct Input<R> {
 }
 
 impl<R> Input<R> {
-    /// A reader that was not called yet. Does not allocate.
+    /// A reader that has not been called yet. Does not allocate.
     pub fn new(reader: R) -> Self {
         Input { reader }
     }

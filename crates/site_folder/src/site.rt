@@ -29,7 +29,7 @@ pub struct FolderSite<H: Host> {
 }
 
 impl<H: Host> FolderSite<H> {
-    /// A host that was not called yet. Does not allocate.
+    /// A host that has not been called yet. Does not allocate.
     pub fn new(host: H) -> FolderSite<H>
         ensures host { result.host ≡ host }
         ensures reads { result.reads ≡ 0 }
@@ -67,7 +67,7 @@ fn length_of<H: Host>(host: &mut H, file: u32) -> io::Result<u64>
     Ok(0)
 }
 
-/// Fills `into` with the bytes of a file from a place on, up to the end of the file. A file that is not there gives
+/// Fills `into` with the bytes of a file from a place on, until it is full or the file ends. A file that is not there gives
 /// none.
 fn read_from<H: Host>(host: &mut H, file: u32, at: u64, into: &mut [u8]) -> io::Result<usize>
     requires { file < 4 }

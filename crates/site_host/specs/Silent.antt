@@ -1,4 +1,4 @@
--- A host that reports which files are open, and nothing about their bytes and its output.
+-- A host that reports which files are open, and nothing about their bytes or its output.
 use Rattle.std.specs.Prelude.{true, List, Option, is_some}
 use Rattle.site_folder.specs.Ledger.{Ledger}
 use Rattle.site_host.specs.declared.data_file.DataFile.{DataFile}

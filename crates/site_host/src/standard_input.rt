@@ -15,7 +15,7 @@ pub struct StandardInput<R> {
 }
 
 impl<R> StandardInput<R> {
-    /// A reader that was not called yet.
+    /// A reader that has not been called yet.
     pub fn new(reader: R) -> StandardInput<R>
         ensures { result.faults ≡ 0 }
     {

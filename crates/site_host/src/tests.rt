@@ -43,7 +43,7 @@ fn lengths(rt: &impl Abort, site: &mut FolderSite<CurrentFolder<'_>>, wanted: [u
 fn files_are_made_written_synced_and_read_back(rt: HostRuntime) -> Result<(), Fail> {
     let room = enter_room(&rt, "files")?;
     let mut site = FolderSite::new(CurrentFolder::new(&rt));
-    // A file that is not there has length 0, gives no bytes, and is not made by reading it.
+    // A file that is not there has length 0, gives no bytes, and is not made by these calls.
     lengths(&rt, &mut site, [0, 0, 0, 0]);
     reads(&rt, &mut site, 1, 0, b"");
     assert_eq!(rt; site.sync(), Ok(()));

@@ -20,7 +20,7 @@ abbrev pub is_text : Value → Bool
 is_text (Word t) = true
 is_text (Number n) = false
 
--- `text` tells which attributes are texts; an attribute that the fact does not have is none
+-- `text` says which attributes are texts; an attribute that the fact does not have is not a text
 abbrev pub AgreesFact : (ℕ → Bool) → Fact → Type 0
 AgreesFact text x = (a : ℕ) → is_text (value_at x a) ≡ text a
 
@@ -53,25 +53,25 @@ abbrev pub AgreesCond : (ℕ → Bool) → Cond → Type 0
 AgreesCond text (Equal a v) = is_text v ≡ text a
 AgreesCond text (Between a low high) = text a ≡ false
 
--- the measure is one of four
+-- the measure is one of the first four
 abbrev pub AgreesColumn : Column → Type 0
 AgreesColumn Count = Unit {0}
 AgreesColumn (Sum m) = m < 4
 AgreesColumn (Min m) = m < 4
 AgreesColumn (Max m) = m < 4
 
--- no attribute stands twice in the conditions
+-- no attribute has two conditions
 abbrev pub Once : List Cond → Type 0
 Once [] = Unit {0}
 Once (c ∷ conds) = AllByRecursion (λ d. (attr_of d == attr_of c) ≡ false) conds × Once conds
 
--- the conditions are of the right kinds and on different attributes, and the columns on measures that there are
+-- the conditions have the right kinds and different attributes, and the columns have existing measures
 pub record AgreesSlice (text : ℕ → Bool) (s : Slice) : Type 0 where
   pub conds : All (AgreesCond text) s.conds
   pub once : Once s.conds
   pub columns : All AgreesColumn s.columns
 
--- the view has all grouped and bound attributes
+-- the view has all attributes that are grouped or have a condition
 pub record Covers (view : View) (s : Slice) : Type 0 where
   pub group : All (λ a. among view a ≡ true) s.group
   pub conds : All (λ c. among view (attr_of c) ≡ true) s.conds

@@ -24,7 +24,7 @@ Interval = ℕ × ℕ
 abbrev pub within : Interval → ℕ → Bool
 within i c = nat_le i.0 c && nat_le c i.1
 
--- the interval that no code is in
+-- the empty interval
 abbrev pub nothing : Interval
 nothing = (1, 0)
 
@@ -32,7 +32,7 @@ nothing = (1, 0)
 abbrev pub top_coord : ℕ
 top_coord = 2 ^ 64 - 1
 
--- the interval of one code, or of none
+-- the interval of one code; the empty one for none
 abbrev pub just : Option ℕ → Interval
 just None = nothing
 just (Some c) = (c, c)
@@ -47,7 +47,7 @@ abbrev pub interval : Names → List Cond → ℕ → Interval
 interval names [] a = (1, top_coord)
 interval names (c ∷ conds) a = cond (attr_of c == a) (codes_of (names a) c) (interval names conds a)
 
--- the region of conditions in a view: eight intervals, those past the view for zero alone
+-- the region of conditions in a view: eight intervals; those past the view hold only zero
 abbrev pub region : Names → List Cond → View → List Interval
 region names conds view = map (interval names conds) view ++ replicate (8 - length view) (0, 0)
 
@@ -64,7 +64,7 @@ coordinate [] place a = 0
 coordinate (v ∷ view) [] a = 0
 coordinate (v ∷ view) (c ∷ place) a = cond (v == a) c (coordinate view place a)
 
--- the values of the grouped attributes at a place; `text` tells which attributes are texts
+-- the values of the grouped attributes at a place; `text` says which attributes are texts
 abbrev pub key_at : (ℕ → Bool) → Names → View → List ℕ → List ℕ → Key
 key_at text names view group place = map (λ a. unwrap_or (value_in (text a) (names a) (coordinate view place a)) (Number 0)) group
 
@@ -85,7 +85,7 @@ column_of c (Max m) = (get_or c.parts m (part_of [])).high
 abbrev pub row_from : List Column → (Key × Cell) → Row
 row_from columns group = as_row (group.0, map (column_of group.1) columns)
 
--- the points inside the region, grouped by the values of the grouped attributes, their cells joined: a row for each key, ascending
+-- the points inside the region, grouped by the values of the grouped attributes, with their cells joined: a row for each key, ascending
 abbrev pub answer : (ℕ → Bool) → Names → View → Slice → List PlacedCell → List Row
 answer text names view s entries =
     map (row_from s.columns) (groups key_cmp (λ e. key_at text names view s.group e.0) joined (filter (λ e. inside (region names s.conds view) e.0) entries))

@@ -1,4 +1,4 @@
--- The points of a batch by coordinates that are handed in, one list for each fact.
+-- The points of a batch by given coordinates, one list for each fact.
 use Rattle.std.specs.Prelude.{◌≡◌, ℕ, List, map, get_or}
 use Rattle.fact_model.specs.declared.fact.Fact.{Fact}
 use Rattle.fact_model.specs.Fact.{value_at}
@@ -11,7 +11,7 @@ use Rattle.spec_points.specs.Points.{View, PlacedCell, Names, padded, coord}
 abbrev pub CodedFact : Type 0
 CodedFact = List ℕ × Fact
 
--- the place in a view, by the coordinates handed in
+-- the place in a view, by the given coordinates
 abbrev pub place_in : View → CodedFact → List ℕ
 place_in view p = padded (map (λ a. get_or p.0 a 0) view)
 
@@ -19,6 +19,6 @@ place_in view p = padded (map (λ a. get_or p.0 a 0) view)
 abbrev pub delta_points : ℕ → View → List CodedFact → List PlacedCell
 delta_points measures view pairs = groups point_cmp (place_in view) (λ ps. cell_of measures (map (λ (p : CodedFact). p.1) ps)) pairs
 
--- the coordinates handed in are those that the names give
+-- the given coordinates are those that the names give
 abbrev pub CodedBy : Names → View → CodedFact → Type 0
 CodedBy names view p = map (λ a. get_or p.0 a 0) view ≡ map (λ a. coord (names a) (value_at p.1 a)) view

@@ -12,6 +12,6 @@ entry_of e = record { point = record { arity = arity_of e.0; at = e.0 }; cell = 
 abbrev pub pair_of : Entry → PlacedCell
 pair_of entry = (entry.point.at, entry.cell)
 
--- the first entry with the cells of both
+-- the first entry, with its cell joined to that of the second
 abbrev pub both : Entry → Entry → Entry
 both o d = record { point = o.point; cell = join o.cell d.cell }

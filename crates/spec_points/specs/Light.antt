@@ -10,7 +10,7 @@ use Rattle.spec_points.specs.Weights.{weight, size_at, count_in}
 abbrev pub KeepMasses : List Fact → Type 0
 KeepMasses facts = (m : ℕ) → m < 4 → mass m facts ≤ mass_limit
 
--- cells of so many measures that all of them join: no sum or count of some of them passes its type
+-- cells of this many measures that can all be joined: no sum or count of any part of them passes its type
 pub record IsLight (measures : ℕ) (es : List PlacedCell) : Type 0 where
   pub masses : (m : ℕ) → m < 4 → weight (size_at m) es ≤ mass_limit
   pub count : weight count_in es < 2 ^ 64

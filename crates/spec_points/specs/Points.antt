@@ -25,7 +25,7 @@ padded codes = codes ++ replicate (8 - length codes) 0
 abbrev pub Names : Type 0
 Names = ℕ → List Text
 
--- the code of a value; 0 for a value that has none
+-- the code of a value; 0 if it has none
 abbrev pub coord : List Text → Value → ℕ
 coord names v = unwrap_or (code_in names v) 0
 
@@ -49,7 +49,7 @@ tree_by names measures views facts = flat_map (λ view. points_by names measures
 abbrev pub tree_points : ℕ → List View → List Fact → List PlacedCell
 tree_points measures views facts = tree_by (names_of facts) measures views facts
 
--- views of at most eight attributes, each of fewer than the next
+-- views of at most eight attributes, each with fewer than the next
 abbrev pub Rises : List View → Type 0
 Rises [] = Unit {0}
 Rises (v ∷ []) = length v ≤ 8

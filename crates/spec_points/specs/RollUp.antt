@@ -9,6 +9,6 @@ use Rattle.spec_points.specs.Answer.{coordinate, joined}
 abbrev pub projected : View → View → List ℕ → List ℕ
 projected fine coarse place = padded (map (coordinate fine place) coarse)
 
--- the finer view's points, grouped by their places in the coarser view, their cells joined
+-- the finer view's points, grouped by their places in the coarser view, with their cells joined
 abbrev pub rolled_up : View → View → List PlacedCell → List PlacedCell
 rolled_up fine coarse entries = groups point_cmp (λ e. projected fine coarse e.0) joined entries

@@ -1,4 +1,4 @@
--- The packer: steps that each write the next page of a tree.
+-- The packer: each step writes the next page of a tree.
 use Rattle.std.specs.Prelude.{ℕ, ◌+◌, ◌≡◌, ◌≤◌, true, false, List, [], ◌∷◌, ◌++◌, flat_map, Some, None}
 use Rattle.spec_tree.specs.Tree.{Page, Leaf, Inner}
 use Rattle.spec_tree.specs.Counts.{tree_leaves, counts_of, reach}
@@ -7,12 +7,12 @@ use Rattle.spec_tree.specs.Levels.{no_levels, full_level, rest_level, children_a
 
 -- what a packer holds between two pages
 pub record State (E C : Type 0) : Type 0 where
-  pub to_come : List E  -- the entries that are still to come, in order
+  pub to_come : List E  -- the entries still to come, in order
   pub buffer : List E  -- the entries of the next leaf
   pub levels : List (List C)  -- the children that are in no page yet, lowest level first
   pub next_page : ℕ  -- the number of the next page
 
--- a tree that twelve levels hold: by its number of leaves, and with inner pages that have room for two children
+-- a tree that fits in twelve levels, by its number of leaves, and whose inner pages have room for two children
 pub record IsPackable {E : Type 0} (arity : E → ℕ) (room : ℕ → ℕ) (k : ℕ) (views : List (ℕ × List E)) : Type 0 where
   pub views_fit : AreViews arity room views
   pub fanout : 2 ≤ k
@@ -33,11 +33,11 @@ pub record IsDone {E C : Type 0} (k : ℕ) (s : State E C) : Type 0 where
   pub full : full_level k s.levels ≡ None
   pub rest : rest_level s.levels ≡ None
 
--- `child` is the child for a leaf, and `over` that for an inner page with these children, each with its page's number
+-- `child` gives the child for a leaf, and `over` that for an inner page with these children; both take the page's number
 module _ {E C : Type 0} (arity : E → ℕ) (room : ℕ → ℕ) (k : ℕ) (child : List E → ℕ → C) (over : List C → ℕ → C) where
-  -- from the first state the page is written, and the second state is left
+  -- the page is written from the first state, and the second state is left
   pub data Packs : State E C → Page E C → State E C → Type 0 where
-    -- an entry goes into the buffer first, where no level is full and the leaf has not ended
+    -- an entry goes into the buffer first, if no level is full and the leaf has not ended
     takes_entry : {e : E} {es b : List E} {ls : List (List C)} {n : ℕ} {page : Page E C} {t : State E C}
         → full_level k ls ≡ None → leaf_ends arity room b (e ∷ es) ≡ false
         → Packs (record { to_come = es; buffer = b ++ e ∷ []; levels = ls; next_page = n }) page t

@@ -7,17 +7,17 @@ pub data Page (E C : Type 0) : Type 0 where
   Leaf : List E → Page E C
   Inner : List C → Page E C
 
--- a node: all points below it, how many pages are below its own, and the pages of its subtree from a first page number on
+-- a node: all points below it, the number of pages below its own, and the pages of its subtree from a first page number on
 pub record Node (E C : Type 0) : Type 0 where
   pub points : List E
   pub below : ℕ
   pub pages : ℕ → List (Page E C)
 
--- how many pages the nodes have
+-- how many pages the nodes have, with those below them
 abbrev pub size : {E C : Type 0} → List (Node E C) → ℕ
 size ns = sum_by (λ n. suc n.below) ns
 
--- the pages of nodes side by side, each after all below it, where the first has the given number
+-- the pages of nodes side by side, each page after all below it; the first page has the given number
 abbrev pub laid : {E C : Type 0} → ℕ → List (Node E C) → List (Page E C)
 laid first [] = []
 laid first (n ∷ ns) = n.pages first ++ laid (first + suc n.below) ns
@@ -26,9 +26,9 @@ laid first (n ∷ ns) = n.pages first ++ laid (first + suc n.below) ns
 abbrev pub leaf : {E C : Type 0} → List E → Node E C
 leaf entries = record { points = entries; below = 0; pages = λ first. Leaf entries ∷ [] }
 
--- `child` is what an inner page says of a page below it, by all points below that one and its number
+-- `child` is what an inner page says of a page below it, given all points below that one and its number
 module _ {E C : Type 0} (child : List E → ℕ → C) where
-  -- the children for nodes side by side, where the first page of all has the given number
+  -- the children for nodes side by side; the first page of all has the given number
   abbrev pub placed : ℕ → List (Node E C) → List C
   placed first [] = []
   placed first (n ∷ ns) = child n.points (first + n.below) ∷ placed (first + suc n.below) ns
@@ -41,7 +41,7 @@ module _ {E C : Type 0} (child : List E → ℕ → C) where
     pages = λ first. laid first ns ++ Inner (placed first ns) ∷ [];
   }
 
--- the leaves of a tree: the points of each view, which has an arity, in runs of the room for entries of that arity
+-- the leaves of a tree: the points of each view, in runs that fill the room for entries of the view's arity
 abbrev pub leaves : {E C : Type 0} → (ℕ → ℕ) → List (ℕ × List E) → List (Node E C)
 leaves room views = map leaf (flat_map (λ v. runs (room v.0) v.1) views)
 

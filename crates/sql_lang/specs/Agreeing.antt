@@ -26,7 +26,7 @@ is_item s group (item.Column c) = is_column (measure_count s) c
 abbrev pub is_small : ℤ → Bool
 is_small z = nat_lt (nat_abs z) (2 ^ 127)
 
--- a text of at most 255 bytes for a text attribute, and a number for a number attribute
+-- a text of at most 255 bytes for a text attribute, or a number for a number attribute
 abbrev pub is_of_kind : Kind → Operand → Bool
 is_of_kind (kind.Word max) (operand.Word text) = nat_le (length text) 255
 is_of_kind (kind.Word max) (operand.Whole z) = false
@@ -37,13 +37,13 @@ abbrev pub is_number : Kind → Bool
 is_number (kind.Word max) = false
 is_number kind.Number = true
 
--- each literal is of the kind, and a text attribute has no test but `=` and IN; an IN has a literal
+-- each literal is of the kind, a text attribute has only the tests `=` and IN, and an IN has a literal
 abbrev pub fits_kind : Kind → Test → Bool
 fits_kind k (Compare attr sign value) = (is_equal sign || is_number k) && is_of_kind k value
 fits_kind k (Between attr low high) = is_number k && is_small low && is_small high
 fits_kind k (OneOf attr values) = nat_lt 0 (length values) && list_all (is_of_kind k) values
 
--- a test of a declared attribute that fits its kind
+-- a test of a declared attribute that fits the attribute's kind
 abbrev pub is_test : Schema → Test → Bool
 is_test s t = nat_lt (attr_of t) (arity s) && fits_kind (kind_at s (attr_of t)) t
 
@@ -51,7 +51,7 @@ pub record SqlAgrees (s : Schema) (q : Query) : Type 0 where
   -- there is an item
   pub some : 0 < length q.items
   pub items : IsTrue (list_all (is_item s q.group) q.items)
-  -- facts are grouped by declared attributes, none twice
+  -- facts are grouped by declared attributes, each at most once
   pub group : IsTrue (list_all (λ a. nat_lt a (arity s)) q.group)
   pub group_apart : IsTrue (are_distinct nat_eq q.group)
   pub tests : IsTrue (list_all (is_test s) q.tests)

@@ -1,4 +1,4 @@
--- What holds of all that is read so far.
+-- What holds of all that has been read so far.
 use Rattle.std.specs.Prelude.{◌≡◌, ℕ, ◌<◌, Bool, true, ◌&&◌, ◌==◌, List, length, nat_lt, nat_eq}
 use Rattle.std.specs.List.{list_all, list_any}
 use Rattle.cube_schema.specs.Kinds.{arity, kind_at, measure_count}
@@ -14,11 +14,11 @@ use Rattle.sql_lang.specs.declared.query.Item.TheVariants as item
 use Rattle.slice_lang.specs.Agreeing.{is_column}
 use Rattle.sql_lang.specs.Agreeing.{is_number, is_of_kind, is_small, is_test}
 
--- the attribute is among those that are named
+-- the attribute is among those that were named
 abbrev pub has_attr : List Named → ℕ → Bool
 has_attr named a = list_any (λ (n : Named). n.attr == a) named
 
--- an attribute that is declared and named, or a column of a declared measure
+-- a declared attribute that was named, or a column of a declared measure
 abbrev pub is_read : Schema → List Named → Item → Bool
 is_read s named (item.Attr a) = nat_lt a (arity s) && has_attr named a
 is_read s named (item.Column c) = is_column (measure_count s) c
@@ -37,7 +37,7 @@ HasItem d = 0 < length d.items
 abbrev pub Declared : Schema → ℕ → Type 0
 Declared s a = nat_lt a (arity s) ≡ true
 
--- what is due fits what is read
+-- what is due fits what has been read
 abbrev pub DueAgrees : Schema → Draft → Due → Type 0
 DueAgrees s d due.Select = Unit {0}
 DueAgrees s d due.Item = Unit {0}

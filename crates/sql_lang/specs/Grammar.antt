@@ -18,7 +18,7 @@ use Rattle.sql_lang.specs.declared.query.Test.TheVariants.{Compare, Between, One
 use Rattle.sql_lang.specs.declared.token.Token.{Token}
 use Rattle.sql_lang.specs.Tokens.{is_word, is_mark, is_name, is_quoted, is_whole, tokens_of}
 
--- a form has a test for each of its tokens
+-- a form: a test for each of its tokens
 abbrev pub Form : Type 0
 Form = List (Token → Bool)
 
@@ -29,7 +29,7 @@ fits [] (t ∷ ts) = false
 fits (p ∷ form) [] = false
 fits (p ∷ form) (t ∷ ts) = p t && fits form ts
 
--- a keyword, in any case of letters
+-- a keyword, in upper or lower case
 abbrev pub keyword : List ℕ → Form
 keyword word = is_word word ∷ []
 
@@ -43,12 +43,12 @@ is_named name t = is_name t && bytes_eq t.text name
 abbrev pub name : List ℕ → Form
 name text = is_named text ∷ []
 
--- it is this number
+-- the token's number is this one
 abbrev pub same_number : ℤ → Option ℤ → Bool
 same_number z None = false
 same_number z (Some y) = int_eq y z
 
--- a text is written in quotes, and a number as `read_number` reads it
+-- the token writes the literal: a text in quotes, or a number as `read_number` reads it
 abbrev pub writes : Operand → Token → Bool
 writes (operand.Word text) t = is_quoted t && bytes_eq t.text text
 writes (operand.Whole z) t = is_whole t && same_number z (number_in t.text)
@@ -56,7 +56,7 @@ writes (operand.Whole z) t = is_whole t && same_number z (number_in t.text)
 abbrev pub literal : Operand → Form
 literal value = writes value ∷ []
 
--- one form after the other, with another one between them
+-- these forms one after another, with a given form between them
 abbrev pub parted : Form → List Form → Form
 parted between [] = []
 parted between (form ∷ more) = form ++ flat_map (λ next. between ++ next) more
@@ -84,12 +84,12 @@ test_form s (Compare a sign value) = name (name_at s a) ++ mark (sign_text sign)
 test_form s (Between a low high) = name (name_at s a) ++ keyword (codes "BETWEEN") ++ literal (operand.Whole low) ++ keyword (codes "AND") ++ literal (operand.Whole high)
 test_form s (OneOf a values) = name (name_at s a) ++ keyword (codes "IN") ++ mark (codes "(") ++ parted (mark (codes ",")) (map literal values) ++ mark (codes ")")
 
--- WHERE and the tests, where there are any
+-- WHERE and the tests, if there are any
 abbrev pub where_form : Schema → List Test → Form
 where_form s [] = []
 where_form s (t ∷ tests) = keyword (codes "WHERE") ++ parted (keyword (codes "AND")) (map (test_form s) (t ∷ tests))
 
--- GROUP BY and the attributes, where there are any
+-- GROUP BY and the attributes, if there are any
 abbrev pub group_form : Schema → List ℕ → Form
 group_form s [] = []
 group_form s (a ∷ group) = keyword (codes "GROUP") ++ keyword (codes "BY") ++ parted (mark (codes ",")) (map (λ b. name (name_at s b)) (a ∷ group))

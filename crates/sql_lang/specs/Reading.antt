@@ -1,4 +1,4 @@
--- The query of a text, or the first rule that is broken, token by token: what may stand where something is due, and what is due behind it.
+-- The query of a text, or the first rule that is broken, token by token: which tokens may come where something is due, and what is due after them.
 use Rattle.std.specs.Prelude.{ℕ, ◌+◌, Bool, true, false, not, ◌&&◌, ◌||◌, ◌==◌, List, [], ◌∷◌, ◌++◌, map, length, nat_le, codes, if◌then◌else◌, Option, Some, None, option_map, Ok, Err, ℤ}
 use Rattle.std.specs.List.{list_any}
 use Rattle.std.specs.Str.{bytes_eq}
@@ -32,42 +32,42 @@ use Rattle.sql_lang.specs.declared.refusal.SqlRefusal.{SqlRefusal}
 use Rattle.sql_lang.specs.declared.refusal.SqlRefusal.TheVariants as refused
 use Rattle.sql_lang.specs.declared.token.Token.{Token}
 
--- ---- what is read so far
+-- ---- what has been read so far
 
 -- this is due next
 abbrev pub goes : Draft → Due → Reader
 goes d next = record { draft = d; due = next }
 
--- one item more
+-- one more item
 abbrev pub with_item : Draft → Item → Draft
 with_item d x = record { items = d.items ++ x ∷ []; named = d.named; group = d.group; tests = d.tests }
 
--- one attribute more among the items, which is named at this byte
+-- one more attribute among the items, named at this byte
 abbrev pub with_attr : Draft → ℕ → ℕ → Draft
 with_attr d a byte = record { items = d.items ++ item.Attr a ∷ []; named = d.named ++ record { attr = a; byte = byte } ∷ []; group = d.group; tests = d.tests }
 
--- one test more
+-- one more test
 abbrev pub with_test : Draft → Test → Draft
 with_test d x = record { items = d.items; named = d.named; group = d.group; tests = d.tests ++ x ∷ [] }
 
--- one attribute more to group by
+-- one more attribute to group by
 abbrev pub with_group : Draft → ℕ → Draft
 with_group d a = record { items = d.items; named = d.named; group = d.group ++ a ∷ []; tests = d.tests }
 
--- the token is none that may stand here
+-- the token may not come here
 abbrev pub misfit : {A : Type 0} → Token → Reading A
 misfit t = Err (refused.Syntax t.byte)
 
--- the first way whose test holds, behind which this is due, or something else
+-- the first way whose test holds, with what is due after it; otherwise `other`
 abbrev pub along_or : Draft → List (Bool × Due) → Reading Reader → Reading Reader
 along_or d [] other = other
 along_or d (way ∷ ways) other = if way.0 then Ok (goes d way.1) else along_or d ways other
 
--- the first way whose test holds, or no token that may stand here
+-- the first way whose test holds; otherwise the token may not come here
 abbrev pub along : Draft → Token → List (Bool × Due) → Reading Reader
 along d t ways = along_or d ways (misfit t)
 
--- ---- what may stand between
+-- ---- what may come between
 
 -- GROUP, or the end
 abbrev pub group_or_end : Token → List (Bool × Due)
@@ -95,14 +95,14 @@ only stands next = (stands, next) ∷ []
 
 -- ---- names and literals
 
--- a name, of an attribute
+-- the rules for the name of an attribute
 abbrev pub attr_rules : Schema → Token → List (Bool × SqlRefusal)
 attr_rules s t = (is_name t, refused.Syntax t.byte) ∷ (is_attr s t.text, refused.Name t.byte) ∷ []
 
 abbrev pub attr_at : Schema → Token → Reading ℕ
 attr_at s t = judged (number_of s t.text) (attr_rules s t)
 
--- a name, of a measure
+-- the rules for the name of a measure
 abbrev pub measure_rules : Schema → Token → List (Bool × SqlRefusal)
 measure_rules s t = (is_name t, refused.Syntax t.byte) ∷ (is_measure s t.text, refused.Name t.byte) ∷ []
 
@@ -113,12 +113,12 @@ measure_at s t = judged (measure_number s t.text) (measure_rules s t)
 abbrev pub is_literal : Token → Bool
 is_literal t = is_quoted t || is_whole t
 
--- the number that an attribute of this kind may have
+-- the number, if an attribute of this kind may have it
 abbrev pub bound_in : Kind → Token → Option ℤ
 bound_in (kind.Word max) t = None
 bound_in kind.Number t = if is_whole t then number_in t.text else None
 
--- the text or the number that an attribute of this kind may have; a text is compared by `=` and IN alone
+-- the text or the number, if an attribute of this kind may have it; a text is compared only by `=` and IN
 abbrev pub operand_in : Kind → Bool → Token → Option Operand
 operand_in (kind.Word max) exact t = if exact && is_quoted t && nat_le (length t.text) 255 then Some (operand.Word t.text) else None
 operand_in kind.Number exact t = option_map operand.Whole (bound_in kind.Number t)
@@ -162,7 +162,7 @@ at_measure s d fold t = measure_at s t >>= (λ m. Ok (goes d (due.Close (column_
 unfoldable pub at_close : Draft → Column → Token → Reading Reader
 at_close d c t = along (with_item d (item.Column c)) t (only (is_mark (codes ")") t) due.MoreItems)
 
--- a name, which is `facts`
+-- the rules for the table's name, which is `facts`
 abbrev pub table_rules : Token → List (Bool × SqlRefusal)
 table_rules t = (is_name t, refused.Syntax t.byte) ∷ (bytes_eq t.text (codes "facts"), refused.Table t.byte) ∷ []
 
@@ -174,7 +174,7 @@ at_table d t = judged (goes d due.Clauses) (table_rules t)
 unfoldable pub at_test : Schema → Draft → Token → Reading Reader
 at_test s d t = attr_at s t >>= (λ a. Ok (goes d (due.Sign a)))
 
--- a sign, BETWEEN or IN behind an attribute
+-- an operator, BETWEEN or IN after an attribute
 abbrev pub sign_ways : ℕ → Token → List (Bool × Due)
 sign_ways a t =
     (is_mark (codes "=") t, due.Value a sign.Equal)
@@ -210,7 +210,7 @@ at_more_members d a vs t = along_or d (only (is_mark (codes ",") t) (due.Member 
 abbrev pub is_grouped : List ℕ → ℕ → Bool
 is_grouped group a = list_any (λ g. g == a) group
 
--- none of the attributes before it
+-- the attribute differs from those before it
 abbrev pub fresh_rules : Draft → ℕ → Token → List (Bool × SqlRefusal)
 fresh_rules d a t = (not (is_grouped d.group a), refused.Group t.byte) ∷ []
 
@@ -221,7 +221,7 @@ at_group s d t =
 
 -- ---- the whole
 
--- what may stand where a thing is due
+-- what a token may be where something is due
 unfoldable pub at_due : Schema → Draft → Due → Token → Reading Reader
 at_due s d due.Select t = along d t (only (is_word (codes "SELECT") t) due.Item)
 at_due s d due.Item t = at_item s d t
@@ -255,7 +255,7 @@ query_in d = record { items = d.items; group = d.group; tests = d.tests }
 abbrev pub group_rules : Draft → List (Bool × SqlRefusal)
 group_rules d = map (λ (n : Named). (is_grouped d.group n.attr, refused.Group n.byte)) d.named
 
--- the query of these tokens and the end at this byte, where what came before them was read so
+-- the query of these tokens and the end at this byte, after what was read before them
 abbrev pub read_on : Schema → ℕ → Reader → List Token → Reading Query
 read_on s end r [] = at_due s r.draft r.due (end_at end) >>= (λ last. judged (query_in last.draft) (group_rules last.draft))
 read_on s end r (t ∷ more) = at_due s r.draft r.due t >>= (λ next. read_on s end next more)

@@ -26,7 +26,7 @@ is_operand v (operand.Word text) = same_value (Word text) v
 is_operand (Number n) (operand.Whole z) = int_eq (pos n) z
 is_operand (Word text) (operand.Whole z) = false
 
--- a number stands so to another
+-- the first number compares so with the second
 abbrev pub stands : Sign → ℤ → ℤ → Bool
 stands Equal m n = int_eq m n
 stands Less m n = int_lt m n
@@ -34,7 +34,7 @@ stands LessEqual m n = int_le m n
 stands More m n = int_lt n m
 stands MoreEqual m n = int_le n m
 
--- a text is only the same or not
+-- a text is only equal or not
 abbrev pub compares : Sign → Value → Operand → Bool
 compares sign (Number n) (operand.Whole z) = stands sign (pos n) z
 compares sign (Word text) (operand.Whole z) = false
@@ -44,12 +44,12 @@ compares LessEqual v (operand.Word text) = false
 compares More v (operand.Word text) = false
 compares MoreEqual v (operand.Word text) = false
 
--- the number is one from low to high
+-- the value is a number from low to high, both included
 abbrev pub lies : ℤ → ℤ → Value → Bool
 lies low high (Word text) = false
 lies low high (Number n) = int_le low (pos n) && int_le (pos n) high
 
--- the test by a value of its attribute
+-- the test holds of a value of its attribute
 abbrev pub passes : Test → Value → Bool
 passes (Compare attr sign value) v = compares sign v value
 passes (Between attr low high) v = lies low high v
@@ -63,16 +63,16 @@ meets t x = passes t (value_at x (attr_of t))
 abbrev pub holds : List Test → Fact → Bool
 holds tests x = list_all (λ t. meets t x) tests
 
--- the test is by IN
+-- the test is an IN
 abbrev pub is_list : Test → Bool
 is_list (Compare attr sign value) = false
 is_list (Between attr low high) = false
 is_list (OneOf attr values) = true
 
--- the fact meets every test but those by IN
+-- the fact meets every test except the IN tests
 abbrev pub holds_ends : List Test → Fact → Bool
 holds_ends tests x = list_all (λ t. is_list t || meets t x) tests
 
--- the fact meets every test by IN
+-- the fact meets every IN test
 abbrev pub holds_lists : List Test → Fact → Bool
 holds_lists tests x = list_all (λ t. not (is_list t) || meets t x) tests

@@ -28,19 +28,19 @@ mark_or Mark b = b
 mark_or Stray b = false
 mark_or End b = false
 
--- one of the words that are no names, in any case of letters
+-- one of the words that cannot be names, in upper or lower case
 unfoldable pub is_keyword : List ℕ → Bool
 is_keyword text = list_any (λ word. str_eq_ignore_ascii_case word.now text) KEYWORDS
 
--- this word, in any case of letters
+-- the token is this word, in upper or lower case
 abbrev pub is_word : List ℕ → Token → Bool
 is_word word t = word_or t.kind (str_eq_ignore_ascii_case word t.text)
 
--- this sign
+-- the token is this mark
 abbrev pub is_mark : List ℕ → Token → Bool
 is_mark mark t = mark_or t.kind (bytes_eq t.text mark)
 
--- a word that may be a name
+-- the token is a word that may be a name
 abbrev pub is_name : Token → Bool
 is_name t = word_or t.kind (not (is_keyword t.text))
 
@@ -80,7 +80,7 @@ is_whole t = is_whole_kind t.kind
 abbrev pub is_end : Token → Bool
 is_end t = is_end_kind t.kind
 
--- ---- the token at the front of a text
+-- ---- the token at the beginning of a text
 
 abbrev pub is_letter : ℕ → Bool
 is_letter byte = is_ascii_lowercase byte || is_ascii_uppercase byte
@@ -103,31 +103,31 @@ begins_mark byte = byte == 61 || byte == 60 || byte == 62 || byte == 44 || byte 
 abbrev pub begins_whole : List ℕ → Bool
 begins_whole text = is_ascii_digit (slice_index text 0) || (is_plus_or_minus (slice_index text 0) && is_ascii_digit (slice_index text 1))
 
--- the longest run of letters, digits and `_`
+-- the length of the longest run of letters, digits and `_`
 abbrev pub word_len : List ℕ → ℕ
 word_len text = prefix_len is_word_byte text
 
 abbrev pub sign_len : List ℕ → ℕ
 sign_len text = if is_plus_or_minus (slice_index text 0) then 1 else 0
 
--- a sign, if there is one, and the longest run of digits
+-- the length of a sign, if there is one, and the longest run of digits
 abbrev pub whole_len : List ℕ → ℕ
 whole_len text = sign_len text + prefix_len is_ascii_digit (drop (sign_len text) text)
 
--- the longest sign
+-- the length of the longest mark
 abbrev pub mark_len : List ℕ → ℕ
 mark_len text = if begins text (codes "<=") || begins text (codes ">=") then 2 else 1
 
--- so many bytes as a token
+-- the first `len` bytes as a token
 abbrev pub front : TokenKind → ℕ → List ℕ → Front
 front kind len text = record { kind = kind; text = take len text; len = len }
 
--- the byte is put in front of what stands within quotes
+-- the byte put before what is within the quotes
 abbrev pub after_byte : ℕ → Option (List ℕ × List ℕ) → Option (List ℕ × List ℕ)
 after_byte byte None = None
 after_byte byte (Some closed) = Some (byte ∷ closed.0, closed.1)
 
--- what stands within quotes behind the opening one, and what follows the closing one, if there is one; a doubled quote is one
+-- what is within quotes after the opening one, and what follows the closing one, if there is one; a doubled quote is one
 abbrev pub within_quotes : List ℕ → Option (List ℕ × List ℕ)
 within_quotes [] = None
 within_quotes (a ∷ []) = if is_quote a then Some ([], []) else None
@@ -135,12 +135,12 @@ within_quotes (a ∷ (b ∷ more)) =
     if is_quote a then (if is_quote b then after_byte 39 (within_quotes more) else Some ([], b ∷ more))
     else after_byte a (within_quotes (b ∷ more))
 
--- the text in quotes at the front; a quote that is not closed is no token
+-- the text in quotes at the beginning; a quote that is not closed is a stray byte
 abbrev pub quoted_or_stray : List ℕ → Option (List ℕ × List ℕ) → Front
 quoted_or_stray text None = front Stray 1 text
 quoted_or_stray text (Some closed) = record { kind = Quoted; text = closed.0; len = length text - length closed.1 }
 
--- the token at the front of a text that is not empty
+-- the token at the beginning of a text that is not empty
 unfoldable pub front_of : List ℕ → Front
 front_of text =
     if is_letter (slice_index text 0) then front Word (word_len text) text
@@ -151,15 +151,15 @@ front_of text =
 
 -- ---- all tokens
 
--- it begins where this rest of a text begins that ends before a byte
+-- the token at the beginning of `rest`, the last part of a text that ends before byte `end`
 abbrev pub placed : ℕ → List ℕ → Front → Token
 placed end rest f = record { byte = end - length rest; kind = f.kind; text = f.text }
 
--- the end of a text, which stands before this byte
+-- the end of a text that ends before this byte
 abbrev pub end_at : ℕ → Token
 end_at end = record { byte = end; kind = End; text = [] }
 
--- the tokens of a text, of which so many bytes belong to the token before them; spaces may stand between
+-- the tokens of a text whose first `left` bytes belong to the token before them; spaces may come between tokens
 abbrev pub tokens_from : ℕ → ℕ → List ℕ → List Token
 tokens_from end left [] = []
 tokens_from end (suc left) (byte ∷ more) = tokens_from end left more
@@ -167,6 +167,6 @@ tokens_from end zero (byte ∷ more) =
     if byte == 32 then tokens_from end zero more
     else placed end (byte ∷ more) (front_of (byte ∷ more)) ∷ tokens_from end ((front_of (byte ∷ more)).len - 1) more
 
--- the tokens of a text that ends before a byte
+-- the tokens of a text that ends before this byte
 unfoldable pub tokens_of : ℕ → List ℕ → List Token
 tokens_of end text = tokens_from end zero text

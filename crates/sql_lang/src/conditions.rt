@@ -1,4 +1,4 @@
-//! The tests of a query, and what it groups by.
+//! The tests of a query, and the attributes that it groups by.
 ghost use Rattle.std.specs.Prelude.{◌≡◌};
 ghost use Rattle.cube_schema.specs.Lawful.{IsSchema};
 ghost use Rattle.sql_lang.specs.Answers.{Answers};
@@ -23,7 +23,7 @@ pub(crate) fn at_test(schema: &Schema, draft: Draft, token: &Token) -> Result<Re
     Ok(draft.goes(Due::Sign(attr)))
 }
 
-/// What stands behind the attribute of a test.
+/// What follows the attribute of a test.
 #[tactic(auto, unfolding(crate::specs::Reading::at_sign))]
 pub(crate) fn at_sign(draft: Draft, attr: u32, token: &Token) -> Result<Reader, SqlRefusal>
     ensures { Answers result (at_sign draft attr token.now) }
@@ -61,7 +61,7 @@ fn is_equal(sign: Sign) -> bool
     }
 }
 
-/// The value behind a sign.
+/// The value after an operator.
 #[tactic(auto, unfolding(crate::specs::Reading::at_value))]
 pub(crate) fn at_value(
     alloc: Global,
@@ -78,7 +78,7 @@ pub(crate) fn at_value(
     Ok(draft.goes(Due::MoreTests))
 }
 
-/// The low end behind BETWEEN.
+/// The low end after BETWEEN.
 #[tactic(auto, unfolding(crate::specs::Reading::at_low))]
 pub(crate) fn at_low(
     schema: &Schema,
@@ -92,7 +92,7 @@ pub(crate) fn at_low(
     Ok(draft.goes(Due::LowAnd(attr, low)))
 }
 
-/// The high end behind BETWEEN.
+/// The high end after BETWEEN.
 #[tactic(auto, unfolding(crate::specs::Reading::at_high))]
 pub(crate) fn at_high(
     schema: &Schema,
@@ -108,7 +108,7 @@ pub(crate) fn at_high(
     Ok(draft.goes(Due::MoreTests))
 }
 
-/// A value behind those of an IN.
+/// One more value of an IN.
 #[tactic(auto, unfolding(crate::specs::Reading::at_member))]
 pub(crate) fn at_member(
     alloc: Global,

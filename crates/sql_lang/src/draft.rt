@@ -1,4 +1,4 @@
-//! What is read of a query so far, and what may stand next.
+//! What has been read of a query so far, and what may come next.
 ghost use Rattle.std.specs.Prelude.{◌≡◌, IfOk};
 ghost use Rattle.sql_lang.specs.Reading.{goes, query_in, nothing, with_item, with_attr, with_test, with_group};
 
@@ -6,7 +6,7 @@ use crate::query::{Item, ItemList, OperandList, Query, Sign, Test, TestList};
 use fact_model::{AttrList, Column, ListOf, Memory};
 use std::alloc::Global;
 
-/// Which number is made of those of a measure.
+/// Which fold of a measure's numbers a column has.
 #[derive(Clone, Copy, Debug, PartialEq, Eq)]
 pub(crate) enum Fold {
     Sum,
@@ -14,18 +14,18 @@ pub(crate) enum Fold {
     Max,
 }
 
-/// What has to stand next.
+/// What must come next.
 #[derive(Debug, Drop)]
 pub(crate) enum Due {
     /// The word SELECT.
     Select,
     /// An item.
     Item,
-    /// The `(` behind COUNT.
+    /// The `(` after COUNT.
     CountOpen,
     /// The `*` of a count.
     CountStar,
-    /// The `(` behind SUM, MIN or MAX.
+    /// The `(` after SUM, MIN or MAX.
     FoldOpen(Fold),
     /// The measure of a sum, a least or a greatest number.
     Measure(Fold),
@@ -39,19 +39,19 @@ pub(crate) enum Due {
     Clauses,
     /// The attribute of a test.
     Test,
-    /// A sign, BETWEEN or IN behind the attribute of a test.
+    /// An operator, BETWEEN or IN after the attribute of a test.
     Sign(u32),
     /// What the attribute is compared with.
     Value(u32, Sign),
-    /// The low end behind BETWEEN.
+    /// The low end after BETWEEN.
     Low(u32),
-    /// The AND behind the low end.
+    /// The AND after the low end.
     LowAnd(u32, i128),
     /// The high end.
     High(u32, i128),
-    /// The `(` behind IN.
+    /// The `(` after IN.
     InOpen(u32),
-    /// A value behind those of an IN.
+    /// One more value of an IN.
     Member(u32, OperandList),
     /// A comma and a value, or the `)` of an IN.
     MoreMembers(u32, OperandList),
@@ -67,14 +67,14 @@ pub(crate) enum Due {
     Nothing,
 }
 
-/// An attribute among the items, and the byte at which it is named.
+/// An attribute among the items, and the byte where its name begins.
 #[derive(Clone, Copy, Debug, PartialEq, Eq)]
 pub(crate) struct Named {
     pub(crate) attr: u32,
     pub(crate) byte: u64,
 }
 
-/// What is read of a query so far.
+/// What has been read of a query so far.
 #[derive(Debug, Drop)]
 pub(crate) struct Draft {
     pub(crate) items: ItemList,
@@ -84,7 +84,7 @@ pub(crate) struct Draft {
     pub(crate) tests: TestList,
 }
 
-/// What is read so far, and what has to stand next.
+/// What has been read so far, and what must come next.
 #[derive(Debug, Drop)]
 pub(crate) struct Reader {
     pub(crate) due: Due,
@@ -92,7 +92,7 @@ pub(crate) struct Reader {
 }
 
 impl Draft {
-    /// Nothing is read.
+    /// The draft before anything is read.
     pub(crate) fn new(alloc: Global) -> Draft
         ensures { result ≡ nothing }
     {
@@ -104,14 +104,14 @@ impl Draft {
         }
     }
 
-    /// This has to stand next.
+    /// This must come next.
     pub(crate) fn goes(self, due: Due) -> Reader
         ensures { result ≡ goes self due }
     {
         Reader { due, draft: self }
     }
 
-    /// The same with one item more.
+    /// The draft with one more item.
     pub(crate) fn with_item(self, item: Item) -> Result<Draft, Memory>
         ensures { IfOk result (λ draft. draft ≡ with_item self item) }
     {
@@ -120,7 +120,7 @@ impl Draft {
         Ok(draft)
     }
 
-    /// The same with one attribute more among the items, which is named at this byte.
+    /// The draft with one more attribute among the items, named at this byte.
     pub(crate) fn with_attr(self, attr: u32, byte: u64) -> Result<Draft, Memory>
         ensures { IfOk result (λ draft. draft ≡ with_attr self attr byte) }
     {
@@ -130,7 +130,7 @@ impl Draft {
         Ok(draft)
     }
 
-    /// The same with one test more.
+    /// The draft with one more test.
     pub(crate) fn with_test(self, test: Test) -> Result<Draft, Memory>
         ensures { IfOk result (λ draft. draft ≡ with_test self test) }
     {
@@ -139,7 +139,7 @@ impl Draft {
         Ok(draft)
     }
 
-    /// The same with one attribute more to group by.
+    /// The draft with one more attribute to group by.
     pub(crate) fn with_group(self, attr: u32) -> Result<Draft, Memory>
         ensures { IfOk result (λ draft. draft ≡ with_group self attr) }
     {
@@ -148,7 +148,7 @@ impl Draft {
         Ok(draft)
     }
 
-    /// What is read as a query.
+    /// The draft as a query.
     pub(crate) fn into_query(self) -> Query
         ensures { result ≡ query_in self }
     {

@@ -1,4 +1,4 @@
-//! The token at the front of a text.
+//! The token at the beginning of a text.
 ghost use Rattle.std.specs.Prelude.{◌≡◌, ◌<◌, ◌≤◌, ◌+◌, IfOk, length, drop, slice_index, true};
 ghost use Rattle.std.specs.List.{prefix_len};
 ghost use Rattle.std.specs.Char.{is_ascii_digit};
@@ -9,7 +9,7 @@ use crate::token::TokenKind;
 use fact_model::{Memory, Text, bytes};
 use std::alloc::Global;
 
-/// The token at the front of a text, and how many of the text's bytes it has.
+/// The token at the beginning of a text, and the number of its bytes there.
 #[derive(Debug, Drop)]
 pub(crate) struct Front {
     pub(crate) kind: TokenKind,
@@ -17,7 +17,7 @@ pub(crate) struct Front {
     pub(crate) len: usize,
 }
 
-/// The token at the front of a text that is not empty.
+/// The token at the beginning of a text that is not empty.
 #[tactic(auto, unfolding(crate::specs::Tokens::front_of))]
 pub(crate) fn front_of(alloc: Global, text: &[u8]) -> Result<Front, Memory>
     requires { 0 < length text.now }
@@ -41,7 +41,7 @@ pub(crate) fn front_of(alloc: Global, text: &[u8]) -> Result<Front, Memory>
     front_bytes(alloc, TokenKind::Stray, 1, text)
 }
 
-/// The first so many bytes as a token.
+/// The first `len` bytes as a token.
 fn front_bytes(alloc: Global, kind: TokenKind, len: usize, text: &[u8]) -> Result<Front, Memory>
     requires { len ≤ length text.now }
     ensures token { IfOk result (λ found. found ≡ front kind len text.now) }
@@ -54,7 +54,7 @@ fn front_bytes(alloc: Global, kind: TokenKind, len: usize, text: &[u8]) -> Resul
     })
 }
 
-/// The text in quotes at the front, or its quote alone where it is not closed.
+/// The text in quotes at the beginning; only its quote, if it is not closed.
 fn quoted(alloc: Global, text: &[u8]) -> Result<Front, Memory>
     requires { 0 < length text.now }
     ensures token { IfOk result (λ found. found ≡ quoted_or_stray text.now (within_quotes (drop 1 text.now))) }
@@ -92,7 +92,7 @@ fn is_plus_or_minus(byte: u8) -> bool
     byte == b'+' || byte == b'-'
 }
 
-/// Whether a sign of the language begins with the byte.
+/// Whether a mark begins with the byte.
 fn begins_mark(byte: u8) -> bool
     ensures { result ≡ begins_mark byte }
 {
@@ -105,7 +105,7 @@ fn begins_mark(byte: u8) -> bool
         || byte == b'*'
 }
 
-/// Whether a digit stands in front, or a sign and a digit.
+/// Whether the text begins with a digit, or with a sign and a digit.
 fn begins_whole(text: &[u8]) -> bool
     ensures { result ≡ begins_whole text.now }
 {
@@ -116,7 +116,7 @@ fn begins_whole(text: &[u8]) -> bool
     }
 }
 
-/// How many bytes from the front on may stand in a word.
+/// The number of bytes at the beginning that may be part of a word.
 fn word_len(text: &[u8]) -> usize
     ensures len { result ≡ word_len text.now }
     ensures within { result ≤ length text.now }
@@ -132,7 +132,7 @@ fn word_len(text: &[u8]) -> usize
     len
 }
 
-/// How many digits stand in front.
+/// The number of digits at the beginning.
 fn digits_len(text: &[u8]) -> usize
     ensures len { result ≡ prefix_len is_ascii_digit text.now }
     ensures within { result ≤ length text.now }
@@ -147,7 +147,7 @@ fn digits_len(text: &[u8]) -> usize
     len
 }
 
-/// How many bytes the number in front has.
+/// The length in bytes of the number at the beginning.
 fn whole_len(text: &[u8]) -> usize
     requires { begins_whole text.now ≡ true }
     ensures len { result ≡ whole_len text.now }
@@ -160,7 +160,7 @@ fn whole_len(text: &[u8]) -> usize
     }
 }
 
-/// How many bytes the sign in front has.
+/// The length in bytes of the mark at the beginning.
 fn mark_len(text: &[u8]) -> usize
     requires { 0 < length text.now }
     ensures len { result ≡ mark_len text.now }

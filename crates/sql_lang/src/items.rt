@@ -12,14 +12,14 @@ use crate::token::Token;
 use cube_schema::Schema;
 use fact_model::Column;
 
-/// The token is none that may stand here.
+/// The refusal of a token that may not come here.
 pub(crate) fn misfit(token: &Token) -> SqlRefusal
     ensures { result ≡ SqlRefusal.Syntax token.now.byte }
 {
     SqlRefusal::Syntax(token.byte)
 }
 
-/// The token is one that has to stand here or not, and behind it this is due.
+/// If the token may come here, this is due after it; otherwise the token is refused.
 pub(crate) fn along(
     draft: Draft,
     token: &Token,

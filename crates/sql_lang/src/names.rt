@@ -48,7 +48,7 @@ fn is_literal(token: &Token) -> bool
     token.is_quoted() || token.is_whole()
 }
 
-/// The value that an attribute may be compared with: a text by `=` and IN alone.
+/// The value that an attribute is compared with. A text is compared only by `=` and IN.
 pub(crate) fn operand_at(
     alloc: Global,
     schema: &Schema,

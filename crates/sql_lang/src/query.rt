@@ -1,4 +1,4 @@
-//! What a query asks for.
+//! A query.
 ghost use Rattle.std.specs.Prelude.{◌≡◌};
 ghost use Rattle.sql_lang.specs.Tests.{attr_of, is_list};
 
@@ -13,25 +13,25 @@ pub enum Operand {
     Whole(i128),
 }
 
-/// How an attribute is compared.
+/// The operator of a comparison.
 #[derive(Clone, Copy, Debug, PartialEq, Eq)]
 pub enum Sign {
-    /// It is the same.
+    /// Equal.
     Equal,
-    /// It is less.
+    /// Less.
     Less,
-    /// It is less or the same.
+    /// Less or equal.
     LessEqual,
-    /// It is more.
+    /// Greater.
     More,
-    /// It is more or the same.
+    /// Greater or equal.
     MoreEqual,
 }
 
 /// A test of the facts by one attribute, which is named by its number, counted from 0.
 #[derive(Debug, Drop)]
 pub enum Test {
-    /// The attribute compares so with a value.
+    /// The attribute compares with a value by the operator.
     Compare {
         attr: u32,
         sign: Sign,
@@ -50,7 +50,7 @@ pub enum Test {
     },
 }
 
-/// What is told of a group.
+/// An item of a group's row.
 #[derive(Clone, Copy, Debug, PartialEq, Eq)]
 pub enum Item {
     /// Its value of an attribute.
@@ -62,7 +62,7 @@ pub enum Item {
 /// Operands in order.
 pub type OperandList = ListOf<Operand>;
 
-/// Tests, all of which a fact has to meet.
+/// Tests, all of which a fact must meet.
 pub type TestList = ListOf<Test>;
 
 /// Items in order.
@@ -71,7 +71,7 @@ pub type ItemList = ListOf<Item>;
 /// A query: items of each group of the facts that meet every test.
 #[derive(Debug, Drop)]
 pub struct Query {
-    /// What is told of each group.
+    /// The items of each group.
     pub items: ItemList,
     /// The attributes whose values make a group.
     pub group: AttrList,
@@ -91,7 +91,7 @@ impl Test {
         }
     }
 
-    /// Whether it is by IN.
+    /// Whether it is an IN.
     pub fn is_list(&self) -> bool
         ensures { result ≡ is_list self.now }
     {

@@ -8,7 +8,7 @@ use fact_model::{Memory, Text};
 use std::alloc::Global;
 use std::marker::Model;
 
-/// What stands within quotes, and what follows them.
+/// What is within quotes, and what follows them.
 #[derive(Debug, Drop)]
 pub(crate) struct Closed<'a> {
     text: Text,
@@ -31,7 +31,7 @@ impl<'a> Closed<'a> {
         self.behind
     }
 
-    /// What stands within the quotes.
+    /// What is within the quotes.
     pub(crate) fn into_text(self) -> Text
         ensures { result ≡ self.entry.bytes }
     {
@@ -64,7 +64,8 @@ fn next_in(text: &[u8]) -> Within<'_>
     }
 }
 
-/// The text behind an opening quote up to the closing one, if there is one. A doubled quote closes nothing, and stands for one.
+/// The text from after an opening quote to the closing one, if there is one. A doubled quote closes nothing, and is one quote
+/// of the text.
 pub(crate) fn within_quotes(alloc: Global, text: &[u8]) -> Result<Option<Closed>, Memory>
     ensures found { IfOk result (λ found. found ≡ option_map as_closed (within_quotes text.now)) }
     ensures shorter { IfOk result (λ found. IfSome found (λ c. length c.behind ≤ length text.now)) }

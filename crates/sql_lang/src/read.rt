@@ -15,14 +15,14 @@ use crate::tokens::{end_at, tokens_of};
 use cube_schema::Schema;
 use std::alloc::Global;
 
-/// Reads the text of a query by a schema. It is refused by the first rule from the left that is broken, with the byte of its place, and
-/// then by the first attribute among the items that is not grouped by. `Memory` comes only where memory was short.
+/// Reads the text of a query by a schema. The refusal is the first rule from the left that is broken, with the byte of its place; after
+/// that, the first attribute among the items that is not grouped by. `Memory` comes only if memory was short.
 pub fn read_sql(alloc: Global, schema: &Schema, text: &[u8]) -> Result<Query, SqlRefusal>
     requires { IsSchema schema.now }
     // The query, or the first rule that is broken.
     ensures exact { Answers result (query_of schema.now text.now) }
     ensures lawful { IfOk result (SqlAgrees schema.now) }
-    // What is read says the query, and what says a query is read as it.
+    // A text that is read says its query, and a text that says a query is read as that query.
     ensures said { IfOk result (λ query. Says schema.now query text.now) }
     ensures read { (query : queries.Query) → SqlAgrees schema.now query → Says schema.now query text.now → Answers result (Ok query) }
 {
@@ -40,7 +40,7 @@ fn read_text(alloc: Global, schema: &Schema, text: &[u8]) -> Result<Query, SqlRe
     read_on(alloc, schema, end, start, &tokens)
 }
 
-/// The query of these tokens and the end at this byte, where what came before them was read so.
+/// The query of these tokens and the end at this byte, after what was read before them.
 fn read_on(
     alloc: Global,
     schema: &Schema,
@@ -59,7 +59,7 @@ fn read_on(
     finished(last.draft)
 }
 
-/// The query, where each attribute among its items is grouped by.
+/// The query, if each attribute among its items is grouped by.
 fn finished(draft: Draft) -> Result<Query, SqlRefusal>
     ensures { result ≡ judged (query_in draft) (group_rules draft) }
 {

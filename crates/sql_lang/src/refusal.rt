@@ -1,21 +1,21 @@
-//! Why a text is no query.
+//! Why a text is not a query.
 use fact_model::Memory;
 
-/// Why a text is no query. The text is read from left to right, and the first broken rule is named with the byte of its place; bytes count
+/// Why a text is not a query. The text is read from left to right. The first broken rule is named with the byte of its place; bytes count
 /// from 1, and the place past the last byte is the length plus 1.
 #[derive(Clone, Copy, Debug, PartialEq, Eq)]
 pub enum SqlRefusal {
-    /// Something else is due here.
+    /// Syntax error: something else is due here.
     Syntax(u64),
     /// The name that begins here is not `facts`.
     Table(u64),
-    /// The name that begins here is that of no attribute, or of no measure where one is due.
+    /// The name that begins here is not an attribute, or not a measure where one is due.
     Name(u64),
-    /// The attribute that is named here is grouped by already, or is an item and not grouped by.
+    /// The attribute named here is already grouped by, or is an item and not grouped by.
     Group(u64),
-    /// The literal that begins here is none that the attribute may be compared with in this way.
+    /// The attribute may not be compared in this way with the literal that begins here.
     Value(u64),
-    /// Memory was short.
+    /// Out of memory.
     Memory,
 }
 

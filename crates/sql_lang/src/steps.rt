@@ -17,7 +17,7 @@ use fact_model::Column;
 use std::alloc::Global;
 
 impl Reader {
-    /// What is read behind a token.
+    /// What has been read, with one more token.
     #[tactic(auto, unfolding(crate::specs::Reading::at_due))]
     pub(crate) fn take(
         self,

@@ -6,22 +6,22 @@ ghost use Rattle.sql_lang.specs.Tokens.{is_word, is_mark, is_name, is_keyword, i
 
 use fact_model::Text;
 
-/// The words that are no names, in any case of letters.
+/// The words that cannot be names, in upper or lower case.
 pub(crate) const KEYWORDS: [&[u8]; 12] = [
     b"SELECT", b"COUNT", b"SUM", b"MIN", b"MAX", b"FROM", b"WHERE", b"AND", b"BETWEEN", b"IN",
     b"GROUP", b"BY",
 ];
 
-/// What a token is.
+/// The kind of a token.
 #[derive(Clone, Copy, Debug, PartialEq, Eq)]
 pub(crate) enum TokenKind {
-    /// Letters, digits and `_`, with a letter in front.
+    /// A letter, then letters, digits and `_`.
     Word,
-    /// Digits, with a sign in front or none.
+    /// Digits, with or without a sign before them.
     Whole,
     /// A text in quotes.
     Quoted,
-    /// A sign of the language, as `<=` or `(`.
+    /// A mark of the language, such as `<=` or `(`.
     Mark,
     /// A byte that begins no token, or the quote of a text that is not closed.
     Stray,
@@ -34,14 +34,14 @@ pub(crate) enum TokenKind {
 pub(crate) struct Token {
     /// Its first byte, where the first byte of the text is byte 1.
     pub(crate) byte: u64,
-    /// What it is.
+    /// Its kind.
     pub(crate) kind: TokenKind,
-    /// Its bytes; of a text in quotes what it stands for.
+    /// Its bytes; for a text in quotes, the text.
     pub(crate) text: Text,
 }
 
 impl Token {
-    /// Whether it is this word, in any case of letters.
+    /// Whether it is this word, in upper or lower case.
     pub(crate) fn is_word(&self, word: &[u8]) -> bool
         ensures { result ≡ is_word word.now self.now }
     {
@@ -51,7 +51,7 @@ impl Token {
         }
     }
 
-    /// Whether it is this sign.
+    /// Whether it is this mark.
     pub(crate) fn is_mark(&self, mark: &[u8]) -> bool
         ensures { result ≡ is_mark mark.now self.now }
     {
@@ -102,7 +102,7 @@ impl Token {
     }
 }
 
-/// Whether the word is no name.
+/// Whether the word cannot be a name.
 #[tactic(auto, unfolding(crate::specs::Tokens::is_keyword))]
 fn is_keyword(text: &[u8]) -> bool
     ensures { result ≡ is_keyword text.now }
@@ -110,7 +110,7 @@ fn is_keyword(text: &[u8]) -> bool
     is_among(&KEYWORDS, text)
 }
 
-/// Whether the word is one of these, in any case of letters.
+/// Whether the word is one of these, in upper or lower case.
 fn is_among(words: &[&[u8]], text: &[u8]) -> bool
     ensures { result ≡ list_any (λ word. str_eq_ignore_ascii_case word.now text.now) words.now }
 {

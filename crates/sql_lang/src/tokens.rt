@@ -7,7 +7,7 @@ use crate::token::{Token, TokenKind};
 use fact_model::{Memory, Text, bytes};
 use std::alloc::Global;
 
-/// The end of a text, which stands before this byte.
+/// The end of a text that ends before this byte.
 pub(crate) fn end_at(alloc: Global, end: u64) -> Token
     ensures { result ≡ end_at end }
 {
@@ -39,7 +39,7 @@ pub(crate) fn tokens_of(alloc: Global, end: u64, text: &[u8]) -> Result<Vec<Toke
     Ok(tokens)
 }
 
-/// The token, which begins where this rest of a text begins that ends before byte `end`.
+/// The token at the beginning of `rest`, the last part of a text that ends before byte `end`.
 fn placed(end: u64, rest: &[u8], front: Front) -> Token
     requires { length rest.now < end }
     ensures { result ≡ placed end rest.now front }
