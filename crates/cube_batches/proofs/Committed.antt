@@ -2,16 +2,16 @@
 use Rattle.cube_state.specs.declared.stop.Stop.TheVariants as stops
 use Rattle.forest_refresh.specs.declared.stop.RefreshStop.TheVariants as ends
 use Rattle.forest_refresh.specs.Refreshed as refreshes
-use Rattle.cube_batches.proofs.Names.{◌++◌, ◌+◌, ◌∙◌, ◌≡◌, ◌≢◌, Answer, AreAllWhole, AttendsAs, Begun, Belongs, Between, Cache, Calls, Command, Commits, Disk, Ends, Err, Fact, Files, ForEach}
+use Rattle.cube_batches.proofs.Names.{◌++◌, ◌+◌, ◌∙◌, ◌≡◌, ◌≢◌, Answer, AttendsAs, Begun, Belongs, Between, Cache, Calls, Command, Commits, Disk, Ends, Err, Fact, Files, ForEach}
 use Rattle.cube_batches.proofs.Names.{Ghosts, Gives, Global, HasCauseWhere, HoldsNow, Idle, IsLawful, IsNextStore, IsNoDamage, IsOpened, IsQuiet, IsRefreshOf, IsStable, IsStoreOf, IsTrue, Keeps}
-use Rattle.cube_batches.proofs.Names.{KeepsEither, KeepsTo, LeavesOnly, List, Ok, RefreshStop, Reply, Result, RunsFor, SaysOnly, Schema, Some, SparesOthers, State, StopCause, Store}
+use Rattle.cube_batches.proofs.Names.{KeepsEither, LeavesOnly, List, Ok, RefreshStop, Reply, Result, RunsFor, SaysOnly, Schema, Some, SparesOthers, State, StopCause, Store}
 use Rattle.cube_batches.proofs.Names.{TellsFirstDamage, TellsRefreshDamage, Vec, Warehouse, World, [], act, ap, arith, both, committed, emptied, fact_count, forest_moves, inl, inr}
-use Rattle.cube_batches.proofs.Names.{length, length-append, onward, page_total, quiet_out, refl, refresh_stop, replied, stable_holds, stopped, subst, sym, unharmed, wider, ℕ}
+use Rattle.cube_batches.proofs.Names.{length-append, onward, page_total, quiet_out, refl, refresh_stop, replied, stable_holds, stopped, subst, sym, unharmed, wider, ℕ}
 use Rattle.cube_batches.proofs.Names.{Level}
 use Rattle.cube_batches.proofs.{Calls.answered_by, Calls.says_either, Takings.all_fine}
 use Rattle.cube_state.proofs.BatchCosts.{commit_spends, pages_read}
 use Rattle.spec_moves.specs.Forest.{forest_moves}
-use Rattle.forest_refresh.specs.Begun.{moves_of}
+use Rattle.forest_refresh.specs.Ends.{Finishes}
 use Rattle.std.proofs.Common.{Option, ◌≤◌}
 use Rattle.cube_state.proofs.Standing.{keeps_from}
 use Rattle.spec_store.proofs.Standing.{in_some}
@@ -102,17 +102,6 @@ forgotten before after room none = λ i. record { capacity = room i; kept = none
 
 -- ---- the call that ends it
 
--- what it has done, whatever it answered
-pub record Finishes {S : Type 0} (T : Ghosts S) (r : Begun) (old new : S) (result : Result Store RefreshStop) : Type 0 where
-  pub any_moment : IsTrue T.tells → (accepted batch : List Fact) → HoldsNow (IsRefreshOf r accepted batch) (T.disk old)
-      → LeavesOnly (T.disk old) (T.disk new) (λ told files.
-      (told ≡ (T.disk old).told) × refreshes.KeepsEither r.store.forest.body.format r.store.forest.schema accepted r.store.forest.body.last r.next.format (accepted ++ batch) r.next.last files)
-  pub cost : IsTrue T.tells → (accepted batch : List Fact) → IsRefreshOf r accepted batch (T.disk old).files
-      → KeepsTo (moves_of r accepted batch) r.progress.taken (length (moves_of r accepted batch))
-      (T.reads old, T.writes old + 3) (T.reads new, T.writes new)
-  pub told : IsTrue T.tells → (T.disk new).told ≡ (T.disk old).told
-  pub calls : Calls T (HasCauseWhere ends.Disk) (page_total r.store.forest.body r.store.forest.schema) old new result
-
 module _ {S : Type 0} (T : Ghosts S) (told : Told) (r : Begun) (mid new : S) (before : Cache) where
   abbrev pages : ℕ
   pages = page_total r.store.forest.body r.store.forest.schema
@@ -124,20 +113,17 @@ module _ {S : Type 0} (T : Ghosts S) (told : Told) (r : Begun) (mid new : S) (be
       let adds = for.attends.adds in
       record {
         any_moment = for.any_moment new (subst (λ (a : ℕ × Answer). Between a.0 (T.disk mid) (T.disk new) world a.1.0) (λ i. (ap format_in (sym to.live) i, sym for.acts i))
-            (commit_moments for.last r for.later (T.disk mid) (T.disk new) for.warehouse for.batch for.attends world for.kept (is.any_moment t for.warehouse.facts for.batch adds)));
+            (commit_moments for.last r for.later (T.disk mid) (T.disk new) for.warehouse for.batch for.attends world for.kept ((is.by_facts t for.warehouse.facts for.batch).any_moment adds)));
         cost = λ cost costs.
             let same : r.store.forest.body.format ≡ format_of state = ap format_in (sym to.live) in
             for.costs cost costs new
             (subst (λ (f : ℕ). Spends T (commit_cost (forest_moves f r.next.format for.warehouse.schema for.warehouse.facts for.batch) r.progress.taken) mid new) same
-            (commit_spends T mid new r for.warehouse for.batch for.attends (is.cost t for.warehouse.facts for.batch adds.read)))
+            (commit_spends T mid new r for.warehouse for.batch for.attends ((is.by_facts t for.warehouse.facts for.batch).cost adds.read)))
             (subst (λ (f : ℕ). T.reads new ≤ T.reads mid + page_count f for.warehouse.schema for.warehouse.facts) same (pages_read T mid new r for.warehouse for.batch for.attends is.calls.reads));
       }
 
   -- it stopped
-  module _ (why : RefreshStop) (is : Finishes T r mid new (Err why))
-      (undamaged : IsTrue T.tells → (accepted batch : List Fact) → IsRefreshOf r accepted batch (T.disk mid).files → refreshes.IsNoDamage why)
-      (spared : IsTrue T.tells → why ≢ ends.Disk → refreshes.SparesLive r.store.forest.body (T.disk mid) (T.disk new))
-      (damaged : IsTrue T.tells → TellsFirstDamage r.store.forest (T.disk mid).files r.deltas why) where
+  module _ (why : RefreshStop) (is : Finishes {A = Store} T r mid new (Err why)) where
     spares : (t : IsTrue T.tells) (stop : RefreshStop) → (stop ≢ ends.Disk → refreshes.SparesLive r.store.forest.body (T.disk mid) (T.disk new))
         → SparesOthers r.store.forest.body (T.disk mid).files (T.disk new).files (refresh_stop stop)
     spares t ends.Disk is_so = tt
@@ -146,28 +132,27 @@ module _ {S : Type 0} (T : Ghosts S) (told : Told) (r : Begun) (mid new : S) (be
     pub commits_not : (next : State) → Commits T told r next mid new before before (Err (refresh_stop why))
     commits_not next = λ command state old to. stopped T command to.none_asked state next old new to.writes before before refl (refresh_stop why) (runs_for is command state old to)
         (record {
-          undamaged = λ t world stands. (let for = to.by_world t world stands in same_damage why (undamaged t for.warehouse.facts for.batch for.attends.adds.read));
-          damage = λ t levels. to.damage t levels (refresh_stop why) (refresh_tells r (T.disk mid).files why (damaged t));
-          spared = λ t. to.spares t new (refresh_stop why) (spares t why (spared t));
+          undamaged = λ t world stands. (let for = to.by_world t world stands in same_damage why ((is.by_facts t for.warehouse.facts for.batch).undamaged for.attends.adds.read));
+          damage = λ t levels. to.damage t levels (refresh_stop why) (refresh_tells r (T.disk mid).files why (is.any_files t).damaged);
+          spared = λ t. to.spares t new (refresh_stop why) (spares t why (is.any_files t).spared);
           harmless = λ none. absurd (to.harms none);
           step_side = λ t step. absurd (to.no_step step);
         })
-        (to.quiet new (Err (refresh_stop why)) (refresh_quiet T mid new pages is.told why is.calls))
+        (to.quiet new (Err (refresh_stop why)) (refresh_quiet T mid new pages (λ t. (is.any_files t).told) why is.calls))
 
   -- it is committed, and acknowledged, or memory runs out
   module _ (store : Store) (is : Finishes T r mid new (Ok store))
       (finished : IsTrue T.tells → (accepted batch : List Fact) → HoldsNow (IsRefreshOf r accepted batch) (T.disk mid) → IsStoreOf store (accepted ++ batch) (T.disk new).files)
-      (joined : IsTrue T.tells → AreAllWhole r.store.forest (T.disk mid).files r.deltas) (opened : IsTrue T.tells → IsOpened store.forest.body (T.disk new))
-      (stable : IsTrue T.tells → IsStable (T.disk new)) (next : IsNextStore r store) (after : Cache) (forgets : after ≡ emptied before) where
+      (opened : IsTrue T.tells → IsOpened store.forest.body (T.disk new)) (next : IsNextStore r store) (after : Cache) (forgets : after ≡ emptied before) where
     acknowledges : (reply : Vec ℕ Global) → reply.items ≡ text_of told store.forest.body.facts → Commits T told r (Idle store) mid new before after (Ok reply)
     acknowledges reply said = λ command state old to.
-        let gives : IsTrue T.tells → (levels : List Level) → Gives levels state (T.disk old).files command reply.items = λ t levels. to.gives t levels reply.items (record { whole = joined t; said = said ∙ ap (text_of told) next.facts }) in
+        let gives : IsTrue T.tells → (levels : List Level) → Gives levels state (T.disk old).files command reply.items = λ t levels. to.gives t levels reply.items (record { whole = (is.any_files t).joined; said = said ∙ ap (text_of told) next.facts }) in
         replied T command to.none_asked state (Idle store) old new before after reply (runs_for is command state old to) (record {
           answer = λ t world stands. (let for = to.by_world t world stands in let kept = finished t for.warehouse.facts for.batch for.attends.adds in
               answered_by (T.disk new) (act world command) (ended_with told world for.warehouse for.batch for.last) (Idle store) reply.items for.acts (
                 record { schema = for.warehouse.schema; facts = for.warehouse.facts ++ for.batch; last = for.last },
                 record { kept = refl; pending = refl },
-                commit_belongs for.last r for.later (T.disk mid) (T.disk new) for.warehouse for.batch for.attends store next kept (stable t) (opened t),
+                commit_belongs for.last r for.later (T.disk mid) (T.disk new) for.warehouse for.batch for.attends store next kept (is.any_files t).stable (opened t),
               ) (said ∙ ap (text_of told) kept.live.at.body_is.facts));
           moved = λ t world stands. (let for = to.by_world t world stands in ap unmoved next.format ∙ sym for.moves);
           uncalled = λ t world stands none. absurd ((to.by_world t world stands).calls none);
@@ -179,12 +164,12 @@ module _ {S : Type 0} (T : Ghosts S) (told : Told) (r : Begun) (mid new : S) (be
           said = λ alone files levels. absurd (to.reads alone);
         })
         (onward T command to.none_asked state (Idle store) old new to.writes to.no_live to.no_step before after (next.generation ∙ ap (λ (b : Option Body). generation b + 1) (sym to.live)) forgets)
-        (to.quiet new (Ok reply) (refresh_quiet_on T mid new pages is.told store reply is.calls))
+        (to.quiet new (Ok reply) (refresh_quiet_on T mid new pages (λ t. (is.any_files t).told) store reply is.calls))
 
     wants_room : Commits T told r (Idle store) mid new before after (Err stops.Memory)
     wants_room = λ command state old to. stopped T command to.none_asked state (Idle store) old new to.writes before after (ap (λ (c : Cache). c.capacity) forgets) stops.Memory (runs_for is command state old to)
         (unharmed T command to.none_asked state (Idle store) old new stops.Memory tt (λ t step. absurd (to.no_step step)))
-        (to.quiet new (Err stops.Memory) (quiet_out (refresh_quiet_on T mid new pages is.told {B = Unit {0}} store tt is.calls)))
+        (to.quiet new (Err stops.Memory) (quiet_out (refresh_quiet_on T mid new pages (λ t. (is.any_files t).told) {B = Unit {0}} store tt is.calls)))
 
     -- whatever the session has is said by the store
     pub commits : (final : State) → final ≡ Idle store → (result : Reply) → SaysOnly (text_of told (fact_count final)) result → Commits T told r final mid new before after result

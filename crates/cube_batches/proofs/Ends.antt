@@ -2,22 +2,21 @@
 use Rattle.script_lang.specs.declared.command.Command.TheVariants as says
 use Rattle.cube_state.specs.declared.stop.Stop.TheVariants as stops
 use Rattle.forest_refresh.specs.declared.stop.RefreshStop.TheVariants as ends
-use Rattle.forest_refresh.specs.Refreshed as refreshes
-use Rattle.cube_batches.proofs.Names.{◌+◌, ◌-◌, ◌<◌, ◌∙◌, ◌∷◌, ◌≡◌, ◌≤◌, Answer, Attends, Begun, Belongs, Calls, CarriesOutAlone, Command, Cost, Disk, Empty, Ends, Err, Fact, Files, ForEach, Forest}
-use Rattle.cube_batches.proofs.Names.{Ghosts, Gives, Global, HasCauseWhere, HasNoFact, HoldsNow, Hollow, Idle, IsDropped, IsGoing, IsOpened, IsReady, IsRefreshOf, IsStoreOf, IsTrue, IsWithout}
-use Rattle.cube_batches.proofs.Names.{KeepsTo, Kept, Knows, LeavesOnly, List, None, Ok, OnlyNow, Option, Pending, RefreshStop, Result, RunsFor, RunsOn, Schema, SideStays, Some, Spares}
-use Rattle.cube_batches.proofs.Names.{Spends, Stands, StandsAt, State, Store, TellsFirstDamage, Vec, Warehouse, World, [], act, act_abandon, act_finish, act_step, ap, arith, asked_by}
-use Rattle.cube_batches.proofs.Names.{attends_belongs, beside, codes, committed, committed_text, holds_to, length, line, live_of, made_alone, min, moves_made, moves_over, moves_tried, page_total}
+use Rattle.cube_batches.proofs.Names.{◌-◌, ◌<◌, ◌∙◌, ◌∷◌, ◌≡◌, ◌≤◌, Answer, Attends, Begun, Belongs, CarriesOutAlone, Command, Cost, Disk, Empty, Ends, Err, Fact, Files, ForEach, Forest}
+use Rattle.cube_batches.proofs.Names.{Ghosts, Gives, Global, HasNoFact, Hollow, Idle, IsDropped, IsGoing, IsOpened, IsReady, IsRefreshOf, IsStoreOf, IsTrue, IsWithout}
+use Rattle.cube_batches.proofs.Names.{Kept, Knows, List, None, Ok, OnlyNow, Option, Pending, RefreshStop, Result, RunsFor, RunsOn, Schema, SideStays, Some, Spares}
+use Rattle.cube_batches.proofs.Names.{Spends, Stands, State, Store, Vec, Warehouse, World, [], act, act_abandon, act_finish, act_step, ap, arith, asked_by}
+use Rattle.cube_batches.proofs.Names.{attends_belongs, beside, codes, committed, committed_text, holds_to, length, line, live_of, made_alone, moves_made, moves_over, moves_tried, page_total}
 use Rattle.cube_batches.proofs.Names.{pending_line, pending_over, refl, refresh_stop, replied, replies_with, spared_stays, stopped, subst, sym, ℕ}
 use Rattle.cube_batches.proofs.Names.{Level, schema_of}
 use Rattle.cube_batches.proofs.{Calls.answered_by, Calls.rests, Calls.side_spares, Takings.begin_moments, Takings.later_for}
 use Rattle.cube_state.proofs.BatchCosts.{finish_answer, finish_is, finish_reaches, step_made, step_spends}
 use Rattle.cube_batches.proofs.{Loads.empty_answer, Loads.same_facts, Calls.IsStill, Committed.refresh_quiet, Committed.refresh_quiet_on, Committed.refresh_tells, Committed.same_damage}
-use Rattle.forest_refresh.specs.Begun.{moves_of}
+use Rattle.forest_refresh.specs.Steps.{Steps}
 use Rattle.cube_state.specs.BatchCosts.{commit_cost}
 use Rattle.cube_state.specs.Moves.{format_behind, format_of, reached_behind, reached_by, unmoved}
 use Rattle.spec_moves.specs.Forest.{forest_moves}
-use Rattle.spec_store.specs.Held.{KeepsAs, format_for}
+use Rattle.spec_store.specs.Held.{format_for}
 use Rattle.cube_batches.specs.declared.committing.Told.TheVariants.{Committed}
 use Rattle.cube_state.proofs.Moves.{format_stays, reached_next}
 use Rattle.cube_state.specs.Carried.{LeavesState}
@@ -32,33 +31,20 @@ no_fact batch pending same some none = by batch some (subst HasNoFact same none)
 
 -- ---- moves
 
--- what a call that moves on has done, whatever it answered
-pub record Moves {S : Type 0} (T : Ghosts S) (n : ℕ) (r now : Begun) (old new : S) (result : Result ℕ RefreshStop) : Type 0 where
-  pub any_moment : IsTrue T.tells → (accepted batch : List Fact) → HoldsNow (IsRefreshOf r accepted batch) (T.disk old)
-      → LeavesOnly (T.disk old) (T.disk new) (λ told files. (told ≡ (T.disk old).told) × KeepsAs r.store.forest.body.format r.store.forest.schema accepted r.store.forest.body.last files)
-  pub cost : IsTrue T.tells → (accepted batch : List Fact) → IsRefreshOf r accepted batch (T.disk old).files
-      → KeepsTo (moves_of r accepted batch) r.progress.taken (r.progress.taken + moves_tried n result) (T.reads old, T.writes old) (T.reads new, T.writes new)
-  pub side : IsTrue T.tells → refreshes.SparesLive r.store.forest.body (T.disk old) (T.disk new)
-  pub told : IsTrue T.tells → (T.disk new).told ≡ (T.disk old).told
-  pub calls : Calls T (HasCauseWhere ends.Disk) (page_total r.store.forest.body r.store.forest.schema) old new result
-
 module _ {S : Type 0} (T : Ghosts S) (n : ℕ) (r now : Begun) (old new : S) where
-  moves_run : {result : Result ℕ RefreshStop} → Moves T n r now old new result → moves_tried n result ≤ n → ForEach T (Pending r) old (RunsFor T (says.Step n) (Pending r) old new)
+  moves_run : {result : Result ℕ RefreshStop} → Steps T r now n old new result → moves_tried n result ≤ n → ForEach T (Pending r) old (RunsFor T (says.Step n) (Pending r) old new)
   moves_run {result} is few t world it = record {
     any_moment = begin_moments r.store (T.disk old) (T.disk new) it.0 (attends_belongs r (T.disk old) it.0 it.1 it.3.attends) world (act world (says.Step n)).0 it.2.kept
-        (is.any_moment t it.0.facts it.1 it.3.attends.adds);
+        ((is.by_facts t it.0.facts it.1).any_moment it.3.attends.adds);
     cost = λ cost costs. subst (λ (c : Cost). Spends T c old new) (sym costs)
-        (step_spends T old new r it.0 it.1 it.3.attends it.3.format it.3.some world it.2 n (moves_tried n result) few (is.cost t it.0.facts it.1 it.3.attends.adds.read));
+        (step_spends T old new r it.0 it.1 it.3.attends it.3.format it.3.some world it.2 n (moves_tried n result) few ((is.by_facts t it.0.facts it.1).cost it.3.attends.adds.read));
   }
 
-  side_stays : {result : Result ℕ RefreshStop} → Moves T n r now old new result → IsTrue T.tells → SideStays (live_of (Pending r)) (T.disk old).files (T.disk new).files
-  side_stays is t = spared_stays r.store.forest.body (T.disk old).files (T.disk new).files (is.side t).files
+  side_stays : {result : Result ℕ RefreshStop} → Steps T r now n old new result → IsTrue T.tells → SideStays (live_of (Pending r)) (T.disk old).files (T.disk new).files
+  side_stays is t = spared_stays r.store.forest.body (T.disk old).files (T.disk new).files (is.spares t).files
 
   -- it moved on
-  module _ (made : ℕ) (is : Moves T n r now old new (Ok made)) (same : now ≡ record r { progress = now.progress }) (taken : now.progress.taken ≡ r.progress.taken + made) (few : made ≤ n)
-      (stands : IsTrue T.tells → (accepted batch : List Fact) → IsRefreshOf r accepted batch (T.disk old).files → StandsAt now accepted batch (T.disk new).files
-      × (made ≡ min n (length (moves_of r accepted batch) - r.progress.taken)))
-      (adds : IsTrue T.tells → (accepted batch : List Fact) → HoldsNow (IsRefreshOf r accepted batch) (T.disk old) → HoldsNow (IsRefreshOf now accepted batch) (T.disk new))
+  module _ (made : ℕ) (is : Steps T r now n old new (Ok made)) (same : now ≡ record r { progress = now.progress })
       (goes : IsGoing now) (ready_now : IsTrue T.tells → IsReady now (T.disk new)) where
     attends_on : IsTrue T.tells → (warehouse : Warehouse) (batch : List Fact) → Attends r (T.disk old) warehouse batch → Attends now (T.disk new) warehouse batch
     attends_on t warehouse batch it = (let attends = it.attends in record {
@@ -68,20 +54,20 @@ module _ {S : Type 0} (T : Ghosts S) (n : ℕ) (r now : Begun) (old new : S) whe
         last = ap (λ (b : Begun). b.store.forest.body.last) same ∙ attends.last;
         next = ap (λ (b : Begun). b.next.last) same ∙ attends.next;
         counted = attends.counted;
-        adds = adds t warehouse.facts batch attends.adds;
+        adds = (is.by_facts t warehouse.facts batch).live attends.adds;
         ready = ready_now t;
-        moved = (stands t warehouse.facts batch attends.adds.read).0;
+        moved = ((is.by_facts t warehouse.facts batch).stands attends.adds.read).0;
       };
       some = it.some;
       format = ap (λ (b : Begun). b.next.format) same ∙ it.format ∙ ap (λ (b : Begun). format_for b.store.forest.body.format batch) (sym same);
     })
 
     pub moves_on : (reply : Vec ℕ Global) → reply.items ≡ line (codes "stepped") → CarriesOutAlone T (says.Step n) (Pending r) (Pending now) old new (Ok reply)
-    moves_on reply said = λ cache ready. replied T (says.Step n) (λ schema levels. refl) (Pending r) (Pending now) old new cache cache reply (moves_run is few) (record {
+    moves_on reply said = λ cache ready. replied T (says.Step n) (λ schema levels. refl) (Pending r) (Pending now) old new cache cache reply (moves_run is is.moves.limit.0) (record {
       answer = λ t world it. answered_by (T.disk new) (act world (says.Step n)) (world, line (codes "stepped")) (Pending now) reply.items
           (act_step world n ∙ (λ i. pending_over world (λ w b. replies_with world (codes "stepped")) (it.2.kept i) (it.2.pending i))) (it.0, it.1, it.2, attends_on t it.0 it.1 it.3) said;
       moved = λ t world it. reached_next world (says.Step n) (Pending r) (Pending now) refl (ap (λ (b : Begun). Some b.store.forest.body) same)
-          (step_made T old new r it.0 it.1 it.3.attends it.3.format it.3.some world it.2 n made now.progress.taken taken (stands t it.0.facts it.1 it.3.attends.adds.read).1);
+          (step_made T old new r it.0 it.1 it.3.attends it.3.format it.3.some world it.2 n made now.progress.taken is.moves.taken ((is.by_facts t it.0.facts it.1).stands it.3.attends.adds.read).1);
       uncalled = λ t world it none. absurd (no_fact it.1 world.pending it.2.pending it.3.some none);
       answered = λ t levels. said;
       runs = record { running = goes; fit = ready_now };
@@ -91,25 +77,23 @@ module _ {S : Type 0} (T : Ghosts S) (n : ℕ) (r now : Begun) (old new : S) whe
       said = λ alone files levels. said;
     })
         (beside T (says.Step n) (λ schema levels. refl) (Pending r) (Pending now) old new cache ready (ap (λ (b : Begun). Some b.store.forest.body) same) (side_stays is) (λ no. absurd (no tt)))
-        (refresh_quiet_on T old new (page_total r.store.forest.body r.store.forest.schema) is.told made reply is.calls)
+        (refresh_quiet_on T old new (page_total r.store.forest.body r.store.forest.schema) (λ t. (is.spares t).told) made reply is.moves.calls)
 
   -- it stopped
-  module _ (why : RefreshStop) (is : Moves T n r now old new (Err why))
-      (undamaged : IsTrue T.tells → (accepted batch : List Fact) → IsRefreshOf r accepted batch (T.disk old).files → refreshes.IsNoDamage why)
-      (damaged : IsTrue T.tells → TellsFirstDamage r.store.forest (T.disk old).files r.deltas why) where
+  module _ (why : RefreshStop) (is : Steps T r now n old new (Err why)) where
     spares : (t : IsTrue T.tells) (stop : RefreshStop) → Spares (Some r.store.forest.body) (T.disk old).files (T.disk new).files (refresh_stop stop)
     spares t ends.Disk = tt
-    spares t (ends.Damaged file offset) = side_spares r.store.forest.body (T.disk old).files (T.disk new).files (stops.Damaged file offset) (is.side t).files
+    spares t (ends.Damaged file offset) = side_spares r.store.forest.body (T.disk old).files (T.disk new).files (stops.Damaged file offset) (is.spares t).files
 
     pub moves_not : (final : State) → CarriesOutAlone T (says.Step n) (Pending r) final old new (Err (refresh_stop why))
     moves_not final = λ cache ready. stopped T (says.Step n) (λ schema levels. refl) (Pending r) final old new tt cache cache refl (refresh_stop why) (moves_run is (omega arith)) (record {
-      undamaged = λ t world it. same_damage why (undamaged t it.0.facts it.1 it.3.attends.adds.read);
-      damage = λ t levels. refresh_tells r (T.disk old).files why (damaged t);
+      undamaged = λ t world it. same_damage why ((is.by_facts t it.0.facts it.1).undamaged it.3.attends.adds.read);
+      damage = λ t levels. refresh_tells r (T.disk old).files why (is.moves.damaged t);
       spared = λ t. spares t why;
       harmless = λ none. absurd none;
       step_side = λ t step. side_stays is t;
     })
-        (refresh_quiet T old new (page_total r.store.forest.body r.store.forest.schema) is.told why is.calls)
+        (refresh_quiet T old new (page_total r.store.forest.body r.store.forest.schema) (λ t. (is.spares t).told) why is.moves.calls)
 
 -- ---- it is committed
 

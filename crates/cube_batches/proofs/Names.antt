@@ -21,7 +21,7 @@ pub use Rattle.forest_refresh.specs.Begun.{Begun, IsGoing, IsNextStore, IsReady,
 pub use Rattle.forest_refresh.{proofs.Rooted.same-first-damage, proofs.Rooted.same-whole, specs.Back.BeginCause, specs.Back.IsBack, specs.Limits.TellsLimit, specs.Next.last_behind}
 pub use Rattle.forest_refresh.{specs.Trees.AreAllWhole, specs.Trees.TellsFirstDamage, specs.Trees.deltas_by, specs.declared.stop.BeginFault.BeginFault, specs.declared.stop.BeginStop.BeginStop}
 pub use Rattle.forest_refresh.{specs.declared.stop.RefreshStop.RefreshStop}
-pub use Rattle.spec_store.{specs.Held.AreAccepted, specs.Held.IsLive, specs.Held.KeepsFacts, specs.Opened.IsOpened, specs.Sides.page_total, specs.Stored.IsStoreOf}
+pub use Rattle.spec_store.{specs.Held.AreAccepted, specs.Held.IsLive, specs.Opened.IsOpened, specs.Sides.page_total, specs.Stored.IsStoreOf}
 pub use Rattle.spec_crash.specs.Keeps.{IsLawful, Keeps}
 pub use Rattle.spec_machine.proofs.Acts.{act_abandon, act_begin, act_finish, act_generate, act_load, act_load_numbered, act_step, nothing_added}
 pub use Rattle.spec_machine.specs.Machine.{Answer, Given, act, asked_by, batch_from, begun, block_read, committed, in_turn, load, pending_over, read_by, refusal_of, replies_with, take_over, unless}
@@ -33,13 +33,13 @@ pub use Rattle.spec_machine.{specs.declared.batch_source.BatchSource.TheVariants
 pub use Rattle.site_core.{proofs.Files.with_file-other, proofs.Run.holds_to, proofs.Run.joined, proofs.Run.stable_holds, proofs.Run.wider, specs.Causes.HasCauseWhere, specs.Disk.Disk}
 pub use Rattle.site_core.{specs.Disk.Files, specs.Disk.with_file, specs.Frames.Calls, specs.Frames.CallsOnly, specs.Moments.HoldsNow, specs.Moments.IsStable, specs.Moments.LeavesOnly}
 pub use Rattle.site_core.{specs.declared.site.Site.Ghosts}
-pub use Rattle.std.proofs.Common.{Err, Global, IfSome, IsTrue, List, None, Ok, Option, Result, Some, Vec, [], ap, append-nil, arith, cond, false, inl, inr, length, length-append, min, refl, subst}
+pub use Rattle.std.proofs.Common.{Err, Global, IfSome, IsTrue, List, None, Ok, Option, Result, Some, Vec, [], ap, append-nil, arith, cond, false, inl, inr, length, length-append, refl, subst}
 pub use Rattle.std.proofs.Common.{sym, take, true, ℕ, ◌%◌, ◌*◌, ◌++◌, ◌+◌, ◌-◌, ◌<◌, ◌∙◌, ◌∷◌, ◌≡◌, ◌≤◌, ◌⊎◌}
 pub use Rattle.std.{proofs.lemmas.Bool.Decides.nat_tests, proofs.lemmas.List.Elements.All-append, specs.List.All, specs.Prelude.codes, specs.Prelude.nat_le, specs.Prelude.nat_lt}
 pub use Rattle.std.{specs.Prelude.slice_index, specs.Prelude.◌≢◌, specs.Result.IsErrAnd}
 pub use Rattle.{attr_dict.specs.Admitting.names_with, cube_schema.specs.Agreeing.Agrees, cube_schema.specs.declared.schema.Schema.Schema, fact_model.specs.declared.fact.Fact.Fact}
 pub use Rattle.{spec_moves.specs.Forest.bytes_after, spec_moves.specs.Forest.forest_moves, forest_root.specs.Root.ClosesGate, forest_root.specs.declared.body.Body.Body}
-pub use Rattle.{forest_root.specs.declared.forest.Forest.Forest, forest_root.specs.declared.forest.Store.Store, merge_pack.specs.Standing.moves_tried, spec_tree.specs.Moves.KeepsTo}
+pub use Rattle.{forest_root.specs.declared.forest.Forest.Forest, forest_root.specs.declared.forest.Store.Store, merge_pack.specs.Standing.moves_tried}
 pub use Rattle.{spec_tree.specs.Moves.written, page_cache.specs.Giving.Cache, reply_text.specs.Replies.committed_text, reply_text.specs.Replies.line, script_lang.specs.declared.command.Block.Block}
 pub use Rattle.{script_lang.specs.declared.command.Command.Command}
 pub use Rattle.roll_up.specs.declared.level.Level.{Level}

@@ -1,8 +1,8 @@
 -- What becomes of the batch of a source, at each end of taking it in.
 use Rattle.cube_state.specs.declared.stop.Stop.TheVariants as stops
 use Rattle.forest_refresh.specs.declared.stop.BeginStop.TheVariants as begins
-use Rattle.cube_batches.proofs.Names.{◌*◌, ◌++◌, ◌+◌, ◌<◌, ◌∙◌, ◌≡◌, ◌≢◌, ◌≤◌, ◌⊎◌, Agrees, All, All-append, Answer, Answers, AreAccepted, AttendsAs, Batch, BatchSource, Began, BeginCause}
-use Rattle.cube_batches.proofs.Names.{BeginFault, BeginStop, Begun, Belongs, Between, CallsOnly, CarriesOut, Disk, Empty, Err, Fact, Files, Forest, Ghosts, Given, Global, HasBegun, HoldsNow, Hollow}
+use Rattle.cube_batches.proofs.Names.{◌*◌, ◌++◌, ◌+◌, ◌<◌, ◌∙◌, ◌≡◌, ◌≢◌, ◌≤◌, ◌⊎◌, Agrees, All, All-append, Answer, Answers, AreAccepted, AttendsAs, Batch, BatchSource, Began}
+use Rattle.cube_batches.proofs.Names.{BeginFault, BeginStop, Begun, Belongs, Between, CarriesOut, Disk, Empty, Err, Fact, Files, Forest, Ghosts, Given, Global, HasBegun, Hollow}
 use Rattle.cube_batches.proofs.Names.{Idle, IfSome, IsBack, IsBatchFor, IsFitting, IsLive, IsOpened, IsRead, IsReady, IsRefreshOf, IsStable, IsStoreOf, IsTrue, Keeps, Kept, LeavesOnly}
 use Rattle.cube_batches.proofs.Names.{List, None, NotRead, Nothing, Ok, OnlyNow, OnlyRefuses, Option, Pending, Read, Refused, RefusesBy, RefusesGiven, Result, RunsOn, Schema, Some, Stands, StandsAt}
 use Rattle.cube_batches.proofs.Names.{Command, Sends, State, Stop, Store, Taken, TakesIn, TellsLimit, Vec, Warehouse, World, [], act, answer_by, ap, arith, batch_from, begin_stop, bytes_after, codes, given_to}
@@ -13,6 +13,7 @@ use Rattle.cube_state.proofs.{Limits.none_refused, Limits.one_refused, Standing.
 use Rattle.spec_store.proofs.{Formats.format-later, Standing.in_some}
 use Rattle.spec_store.specs.Held.{KeepsAs, format_for}
 use Rattle.cube_batches.proofs.{Calls.answered_by, Calls.rests, Calls.still_reached, Sources.answer_batch, Sources.answer_read}
+use Rattle.forest_refresh.specs.Begins.{Begins}
 use Rattle.forest_refresh.specs.Begun.{moves_of}
 use Rattle.cube_state.specs.Moves.{format_of, reached_by}
 use Rattle.cube_state.proofs.Writing.{writes_on}
@@ -195,16 +196,9 @@ module _ (source : BatchSource) (store : Store) (read : Read) (is : IsRead store
 
 -- ---- it has a fact
 
--- what a call that begins has done, whatever it answered
-pub record Begins {S : Type 0} (T : Ghosts S) (store : Store) (old new : S) (result : Result Begun BeginFault) : Type 0 where
-  pub any_moment : IsTrue T.tells → (accepted : List Fact) → HoldsNow (IsStoreOf store accepted) (T.disk old)
-      → LeavesOnly (T.disk old) (T.disk new) (λ told files. (told ≡ (T.disk old).told) × KeepsAs store.forest.body.format store.forest.schema accepted store.forest.body.last files)
-  pub told : IsTrue T.tells → (T.disk new).told ≡ (T.disk old).told
-  pub calls : CallsOnly T BeginCause 1 1 old new result
-
-pub begin_between : {S : Type 0} (T : Ghosts S) (store : Store) (old new : S) {result : Result Begun BeginFault} → Begins T store old new result → IsTrue T.tells
+pub begin_between : {S : Type 0} (T : Ghosts S) (store : Store) {batch : List Fact} (old new : S) {result : Result Begun BeginFault} → Begins T store batch old new result → IsTrue T.tells
     → (warehouse : Warehouse) → Belongs store (T.disk old) warehouse → (world next : World) → world.kept ≡ Some warehouse → Between store.forest.body.format (T.disk old) (T.disk new) world next
-begin_between T store old new is t warehouse belongs world next kept = begin_moments store (T.disk old) (T.disk new) warehouse belongs world next kept (is.any_moment t warehouse.facts belongs.stored)
+begin_between T store old new is t warehouse belongs world next kept = begin_moments store (T.disk old) (T.disk new) warehouse belongs world next kept ((is.by_facts t warehouse.facts).any_moment belongs.stored)
 
 -- it keeps the limits where it has begun
 pub begun_fits : {S : Type 0} (T : Ghosts S) (source : BatchSource) (store : Store) (old new : S) (r : Begun) (is : HasBegun T source store old new r) → IsTrue T.tells
@@ -253,7 +247,7 @@ module _ {S : Type 0} (T : Ghosts S) (source : BatchSource) (store : Store) (bat
       (ap (λ (f : Forest). Some f.body) back.forest) (ap (λ (f : Forest). Some f.schema) back.forest) cache ready)
 
   -- none is
-  pub starts_not : Begins T store old new (Err fault) → (next : State) (stop : Stop) → stop ≡ begin_stop fault.why → Answers T source (Idle store) next old new (Err stop)
+  pub starts_not : Begins T store batch old new (Err fault) → (next : State) (stop : Stop) → stop ≡ begin_stop fault.why → Answers T source (Idle store) next old new (Err stop)
   starts_not is next stop why = by (why_stops fault.why)
     where
       failed : fault.why ≡ begins.Disk → Answers T source (Idle store) next old new (Err stops.Disk)

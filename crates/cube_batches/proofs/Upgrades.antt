@@ -22,7 +22,8 @@ use Rattle.page_cache.specs.Giving.{Cache}
 use Rattle.cube_batches.specs.Taking.{HasStarted, begin_stop}
 use Rattle.std.proofs.Common.{true≢false}
 use Rattle.cube_batches.specs.declared.committing.Told.TheVariants.{Upgraded}
-use Rattle.cube_batches.proofs.{Calls.batch_told, Calls.batch_whole, Calls.between_then, Calls.or_out, Calls.quiet_then, Loads.same_facts, Loads.started_spares, Takings.Begins, Takings.begin_between}
+use Rattle.cube_batches.proofs.{Calls.batch_told, Calls.batch_whole, Calls.between_then, Calls.or_out, Calls.quiet_then, Loads.same_facts, Loads.started_spares, Takings.begin_between}
+use Rattle.forest_refresh.specs.Begins.{Begins}
 use Rattle.cube_batches.proofs.Takings.{none_moved}
 
 -- ---- what the plain machine makes of it
@@ -143,7 +144,7 @@ module _ {S : Type 0} (T : Ghosts S) (store : Store) (narrow : store.forest.body
     }
 
   -- they have not begun to be
-  module _ (fault : BeginFault) (is : Begins T store old mid (Err fault)) (why : (fault.why ≡ begins.Memory) ⊎ (fault.why ≡ begins.Disk)) (untouched : fault.why ≢ begins.Disk → mid ≡ old)
+  module _ (fault : BeginFault) (is : Begins T store [] old mid (Err fault)) (why : (fault.why ≡ begins.Memory) ⊎ (fault.why ≡ begins.Disk)) (untouched : fault.why ≢ begins.Disk → mid ≡ old)
       (only : IsTrue T.tells → OnlyNow (T.disk old)) (next : State) (cache : Cache) (ready : IsReadyFor T old cache (Idle store)) where
     -- a file failed
     upgrade_failed : fault.why ≡ begins.Disk → CarriesOut T says.Upgrade (Idle store) next old mid cache cache (Err stops.Disk)

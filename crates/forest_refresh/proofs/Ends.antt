@@ -18,6 +18,7 @@ use Rattle.spec_store.proofs.Schemas.{few_views}
 use Rattle.spec_store.proofs.Standing.{live_now}
 use Rattle.spec_store.proofs.Storable.{storable}
 use Rattle.forest_refresh.specs.Begun.{Begun, HasMoved, IsBegun, IsGoing, IsNext, IsNextBody, IsRefreshOf, batch_size, next_side}
+use Rattle.forest_refresh.specs.Commits.{MayCommit}
 use Rattle.forest_refresh.specs.Next.{HasNumbers, counts_from}
 use Rattle.forest_refresh.specs.Progress.{Progress}
 use Rattle.forest_refresh.specs.Refreshed.{KeepsEither}
@@ -27,6 +28,7 @@ use Rattle.forest_refresh.proofs.Finishes.{addition_of, body_of_all, next_with, 
 use Rattle.forest_refresh.proofs.Moved.{all-rows, all-written}
 use Rattle.forest_refresh.proofs.Packings.{counts-of-all, has-numbers}
 use Rattle.forest_refresh.proofs.Progress.{merged-whole}
+use Rattle.forest_refresh.proofs.Ready.{more_names}
 use Rattle.forest_refresh.proofs.Sides.{whole-before}
 use Rattle.forest_refresh.proofs.Standing.{moves-few}
 
@@ -41,6 +43,13 @@ pub then-committed : (format next : ℕ) (schema : Schema) (facts all : List Fac
     → LeavesOnly old new (λ told files. (told ≡ old.told) × KeepsEither format schema facts last next all number files)
 then-committed format next schema facts all last number old mid new same moved committed =
     then_either format next schema facts all last number old mid new same (moved-either format next schema facts all last number old mid moved) committed
+
+-- the facts are live until the commit
+live-still : (r : Begun) (facts batch : List Fact) (disk : Disk) → HoldsNow (IsRefreshOf r facts batch) disk
+    → (k : ℕ) × IsLiveNow (held r.store.forest.body.format r.store.forest.schema facts r.store.forest.body.last) k r.store.forest.body disk
+live-still r facts batch disk both =
+    let live : HoldsNow (IsLive r.store.forest.schema r.store.forest.body facts) disk = holds_to (IsRefreshOf r facts batch) (IsLive r.store.forest.schema r.store.forest.body facts) disk (λ files is. is.live) both in
+    (live.read.slot, live_now r.store.forest.schema r.store.forest.body facts disk live)
 
 module _ (r : Begun) (begun : IsBegun r) (all : length r.progress.rows ≡ length r.store.forest.mapping.trees) where
   abbrev own : Forest
@@ -72,20 +81,26 @@ module _ (r : Begun) (begun : IsBegun r) (all : length r.progress.rows ≡ lengt
 
     module _ (facts batch : List Fact) (files : Files) (is : IsRefreshOf r facts batch files) (has : HasMoved r files) where
       -- it is the body of all facts, whose forest stands on its side
-      pub body-all : IsBodyOf (held r.next.format own.schema (facts ++ batch) r.next.last) (with_counts r.next counts)
+      body-all : IsBodyOf (held r.next.format own.schema (facts ++ batch) r.next.last) (with_counts r.next counts)
       body-all = body_of_all r begun facts batch files is counts
           (counts-of-all own.schema own.lawful (facts ++ batch) (storable own.schema (facts ++ batch) own.lawful is.all r.next.format is.fits) r.progress.rows counts
           (all-rows r.next.format own files r.deltas facts batch (addition_of r facts batch files is) (slot_of r.next) r.progress has (omega (arith, all))) told)
 
-      pub side-all : take (length (forest_bytes r.next.format own.schema (facts ++ batch))) (files (2 + slot_of r.next)) ≡ forest_bytes r.next.format own.schema (facts ++ batch)
+      side-all : take (length (forest_bytes r.next.format own.schema (facts ++ batch))) (files (2 + slot_of r.next)) ≡ forest_bytes r.next.format own.schema (facts ++ batch)
       side-all = all-written r.next.format own files r.deltas facts batch (addition_of r facts batch files is) (slot_of r.next) r.progress has (omega (arith, all))
 
--- the facts are live until the commit
-pub live-still : (r : Begun) (facts batch : List Fact) (disk : Disk) → HoldsNow (IsRefreshOf r facts batch) disk
-    → (k : ℕ) × IsLiveNow (held r.store.forest.body.format r.store.forest.schema facts r.store.forest.body.last) k r.store.forest.body disk
-live-still r facts batch disk both =
-    let live : HoldsNow (IsLive r.store.forest.schema r.store.forest.body facts) disk = holds_to (IsRefreshOf r facts batch) (IsLive r.store.forest.schema r.store.forest.body facts) disk (λ files is. is.live) both in
-    (live.read.slot, live_now r.store.forest.schema r.store.forest.body facts disk live)
+    -- so they may be committed
+    pub may-commit : (facts batch : List Fact) (disk : Disk) → HoldsNow (IsRefreshOf r facts batch) disk → HasMoved r disk.files → MayCommit own r.entries (with_counts r.next counts) facts (facts ++ batch) disk
+    may-commit facts batch disk both has =
+        let still = live-still r facts batch disk both in
+        record {
+          slot = still.0;
+          live = still.1;
+          fits = both.read.fits;
+          counted = body-all facts batch disk.files both.read has;
+          named = more_names own.schema facts batch r.entries both.read.entries;
+          pages = side-all facts batch disk.files both.read has;
+        }
 
 -- behind so many moves all trees are done
 pub all-done : (old r s : Begun) → r ≡ s → s ≡ record old { progress = s.progress } → IsGoing s → (made most : ℕ) → 2 ^ 60 ≤ most → s.progress.taken ≡ old.progress.taken + made

@@ -1,30 +1,21 @@
 //! A refresh that has begun, and how it ends.
-ghost use Rattle.std.specs.Prelude.{◌≡◌, ◌≢◌, ◌⊎◌, [], ◌<◌, ◌≤◌, ◌+◌, ◌-◌, ◌%◌, ◌^◌, ◌++◌, ℕ, IsTrue, IfOk, IfErr, IfSome, OnOk, List, length, min, slice_index, vec_capacity};
+ghost use Rattle.std.specs.Prelude.{◌≡◌, ◌⊎◌, [], ◌<◌, ◌≤◌, ◌+◌, ◌-◌, ◌++◌, ℕ, IsTrue, IfOk, IfErr, IfSome, OnOk, List, length, slice_index, vec_capacity};
 ghost use Rattle.site_core.specs.Disk.{Files};
-ghost use Rattle.site_core.specs.Causes.{HasCause};
-ghost use Rattle.site_core.specs.Moments.{HoldsNow, IsStable, LeavesOnly};
+ghost use Rattle.site_core.specs.Moments.{HoldsNow};
 ghost use Rattle.fact_model.specs.declared.fact.Fact as declared;
-ghost use Rattle.attr_dict.specs.Admitting.{names_with};
 ghost use Rattle.attr_dict.specs.Book.{names_at};
-ghost use Rattle.site_core.specs.Causes.{HasCauseWhere};
-ghost use Rattle.site_core.specs.Frames.{Calls, CallsOnly};
-ghost use Rattle.forest_commit.specs.Commit.{slot_of};
-ghost use Rattle.forest_root.specs.Root.{ClosesGate};
-ghost use Rattle.spec_store.specs.Held.{IsLive, KeepsAs, format_for};
+ghost use Rattle.spec_store.specs.Held.{IsLive, format_for};
 ghost use Rattle.spec_store.specs.Opened.{IsOpened};
-ghost use Rattle.spec_store.specs.Sides.{page_total};
 ghost use Rattle.spec_store.specs.Stored.{IsStoreOf, IsWhole};
 ghost use Rattle.page_fmt.specs.Formats.{wide_format};
-ghost use Rattle.forest_refresh.specs.Back.{BeginCause, IsBack, IsCut};
-ghost use Rattle.forest_refresh.specs.Begun.{HasMoved, IsBegun, IsGoing, IsNextBody, IsNextStore, IsReady, IsRefreshOf, StandsAt, moves_of};
+ghost use Rattle.forest_refresh.specs.Back.{IsCut};
+ghost use Rattle.forest_refresh.specs.Begins.{Begins, ShutsGate};
+ghost use Rattle.forest_refresh.specs.Begun.{HasMoved, IsBegun, IsGoing, IsNextBody, IsNextStore, IsReady, IsRefreshOf};
+ghost use Rattle.forest_refresh.specs.Ends.{Finishes};
 ghost use Rattle.forest_refresh.specs.Limits.{IsBatchOf, TellsLimit};
 ghost use Rattle.forest_refresh.specs.Next.{body_as, last_behind};
-ghost use Rattle.spec_tree.specs.Moves.{KeepsTo};
-ghost use Rattle.merge_pack.specs.Standing.{moves_tried};
-ghost use Rattle.merge_pack.specs.Stepping.{MakesAtMost};
 ghost use Rattle.forest_refresh.specs.Prepared.{begun_with};
-ghost use Rattle.forest_refresh.specs.Refreshed.{IsNoDamage, KeepsEither, NamesPageIn, SparesLive};
-ghost use Rattle.forest_refresh.specs.Trees.{AreAllWhole, TellsFirstDamage, deltas_by};
+ghost use Rattle.forest_refresh.specs.Steps.{Steps};
 
 use crate::committing::{commit, with_body};
 use crate::preparing::{Prepared, prepare, prepare_upgrade};
@@ -86,27 +77,11 @@ impl Refresh {
         requires whole { IsWhole store }
         requires opened { IsTrue T.tells → IsOpened store.forest.body (T.disk site.old) }
 
-        ensures begun { IsTrue T.tells → (accepted : List declared.Fact) → IsStoreOf store accepted (T.disk site.old).files
-            → IfOk result (λ refresh. IsRefreshOf refresh accepted facts (T.disk site.new).files) }
+        ensures begins { Begins T.Site store facts site.old site.new result }
         ensures limit { (accepted : List declared.Fact) (files : Files) → IsStoreOf store accepted files
             → IfErr result (λ fault. TellsLimit store.forest.schema (accepted ++ facts) fault.why) }
-        ensures any_moment { IsTrue T.tells → (accepted : List declared.Fact) → HoldsNow (IsStoreOf store accepted) (T.disk site.old)
-            → LeavesOnly (T.disk site.old) (T.disk site.new) (λ told files.
-            (told ≡ (T.disk site.old).told) × KeepsAs store.forest.body.format store.forest.schema accepted store.forest.body.last files) }
         ensures last { IfOk result (λ refresh. refresh.next.last ≡ last_behind store.forest.body.last number) }
         ensures format { IfOk result (λ refresh. refresh.next.format ≡ format_for store.forest.body.format facts) }
-
-        ensures ready { IsTrue T.tells → IfOk result (λ refresh. IsReady refresh (T.disk site.new)) }
-        ensures goes { IfOk result (λ refresh. IsGoing refresh × (refresh.progress.taken ≡ 0)) }
-        ensures stable { IsTrue T.tells → OnOk result (IsStable (T.disk site.new)) }
-        ensures points { IfOk result (λ refresh. refresh.deltas ≡ deltas_by (names_with store.dicts facts) store.forest.schema facts) }
-        // Of all files the gate of the next generation alone is written.
-        ensures closes { IsTrue T.tells → OnOk result (ClosesGate ((store.forest.body.generation + 1) % 2) (T.disk site.old).files (T.disk site.new).files) }
-        ensures forest { IfOk result (λ refresh. refresh.store.forest ≡ store.forest) }
-        ensures back { IfErr result (λ fault. IsBack store fault.store) }
-        ensures untouched { IfErr result (λ fault. fault.why ≢ BeginStop.Disk → site.new ≡ site.old) }
-        ensures told { IsTrue T.tells → (T.disk site.new).told ≡ (T.disk site.old).told }
-        ensures calls { CallsOnly T.Site BeginCause 1 1 site.old site.new result }
     {
         let mut store = store;
         let last = number.unwrap_or(store.forest.body.last);
@@ -128,25 +103,9 @@ impl Refresh {
         requires whole { IsWhole store }
         requires opened { IsTrue T.tells → IsOpened store.forest.body (T.disk site.old) }
 
-        ensures begun { IsTrue T.tells → (accepted : List declared.Fact) → IsStoreOf store accepted (T.disk site.old).files
-            → IfOk result (λ refresh. IsRefreshOf refresh accepted [] (T.disk site.new).files) }
-        ensures any_moment { IsTrue T.tells → (accepted : List declared.Fact) → HoldsNow (IsStoreOf store accepted) (T.disk site.old)
-            → LeavesOnly (T.disk site.old) (T.disk site.new) (λ told files.
-            (told ≡ (T.disk site.old).told) × KeepsAs store.forest.body.format store.forest.schema accepted store.forest.body.last files) }
+        ensures begins { Begins T.Site store [] site.old site.new result }
         ensures next { IfOk result (λ refresh. refresh.next ≡ body_as store.forest.body wide_format) }
         ensures why { IfErr result (λ fault. (fault.why ≡ BeginStop.Memory) ⊎ (fault.why ≡ BeginStop.Disk)) }
-
-        ensures ready { IsTrue T.tells → IfOk result (λ refresh. IsReady refresh (T.disk site.new)) }
-        ensures goes { IfOk result (λ refresh. IsGoing refresh × (refresh.progress.taken ≡ 0)) }
-        ensures stable { IsTrue T.tells → OnOk result (IsStable (T.disk site.new)) }
-        ensures points { IfOk result (λ refresh. refresh.deltas ≡ deltas_by (names_with store.dicts []) store.forest.schema []) }
-        // Of all files the gate of the next generation alone is written.
-        ensures closes { IsTrue T.tells → OnOk result (ClosesGate ((store.forest.body.generation + 1) % 2) (T.disk site.old).files (T.disk site.new).files) }
-        ensures forest { IfOk result (λ refresh. refresh.store.forest ≡ store.forest) }
-        ensures back { IfErr result (λ fault. IsBack store fault.store) }
-        ensures untouched { IfErr result (λ fault. fault.why ≢ BeginStop.Disk → site.new ≡ site.old) }
-        ensures told { IsTrue T.tells → (T.disk site.new).told ≡ (T.disk site.old).told }
-        ensures calls { CallsOnly T.Site BeginCause 1 1 site.old site.new result }
     {
         match prepare_upgrade(alloc, &store) {
             Ok(upgrade) => shut_gate(site, store, upgrade),
@@ -188,33 +147,10 @@ impl Refresh {
         requires goes { IsGoing self.old }
         requires ready { IsTrue T.tells → IsReady self.old (T.disk site.old) }
 
-        ensures stands { IsTrue T.tells → (accepted batch : List declared.Fact) → IsRefreshOf self.old accepted batch (T.disk site.old).files
-            → IfOk result (λ made. StandsAt self.new accepted batch (T.disk site.new).files
-            × (made ≡ min moves (length (moves_of self.old accepted batch) - self.old.progress.taken))) }
-        ensures taken { IfOk result (λ made. self.new.progress.taken ≡ self.old.progress.taken + made) }
+        ensures steps { Steps T.Site self.old self.new moves site.old site.new result }
         ensures same { self.new ≡ record self.old { progress = self.new.progress } }
-        ensures live { IsTrue T.tells → (accepted batch : List declared.Fact) → HoldsNow (IsRefreshOf self.old accepted batch) (T.disk site.old)
-            → HoldsNow (IsRefreshOf self.new accepted batch) (T.disk site.new) }
-        ensures any_moment { IsTrue T.tells → (accepted batch : List declared.Fact) → HoldsNow (IsRefreshOf self.old accepted batch) (T.disk site.old)
-            → LeavesOnly (T.disk site.old) (T.disk site.new) (λ told files.
-            (told ≡ (T.disk site.old).told) × KeepsAs self.old.store.forest.body.format self.old.store.forest.schema accepted self.old.store.forest.body.last files) }
-        ensures undamaged { IsTrue T.tells → (accepted batch : List declared.Fact) → IsRefreshOf self.old accepted batch (T.disk site.old).files
-            → IfErr result IsNoDamage }
-        ensures cost { IsTrue T.tells → (accepted batch : List declared.Fact) → IsRefreshOf self.old accepted batch (T.disk site.old).files
-            → KeepsTo (moves_of self.old accepted batch) self.old.progress.taken (self.old.progress.taken + moves_tried moves result)
-            (T.reads site.old, T.writes site.old) (T.reads site.new, T.writes site.new) }
-
-        // Whatever the files hold.
-        ensures limit { IfOk result (λ made. (made ≤ moves) × (made < moves → length self.new.progress.rows ≡ length self.old.store.forest.mapping.trees)) }
         ensures goes { OnOk result (IsGoing self.new) }
         ensures ready { IsTrue T.tells → OnOk result (IsReady self.new (T.disk site.new)) }
-        ensures disk { IsTrue T.tells → SparesLive self.old.store.forest.body (T.disk site.old) (T.disk site.new) }
-        ensures damaged { IsTrue T.tells → IfErr result (TellsFirstDamage self.old.store.forest (T.disk site.old).files self.old.deltas) }
-        ensures place { IfErr result (NamesPageIn self.old.store.forest.body self.old.store.forest.schema) }
-        ensures told { IsTrue T.tells → (T.disk site.new).told ≡ (T.disk site.old).told }
-        ensures calls { Calls T.Site (HasCauseWhere RefreshStop.Disk) (page_total self.old.store.forest.body self.old.store.forest.schema) site.old site.new result }
-        // One call a move.
-        ensures once { MakesAtMost (moves_tried moves result) (T.reads site.old, T.writes site.old) (T.reads site.new, T.writes site.new) }
     {
         let store = &self.store;
         let side = slot(&self.next);
@@ -240,29 +176,11 @@ impl Refresh {
         requires goes { IsGoing self }
         requires ready { IsTrue T.tells → IsReady self (T.disk site.old) }
 
+        ensures finishes { Finishes T.Site self site.old site.new result }
         ensures finished { IsTrue T.tells → (accepted batch : List declared.Fact) → HoldsNow (IsRefreshOf self accepted batch) (T.disk site.old)
             → IfOk result (λ store. IsStoreOf store (accepted ++ batch) (T.disk site.new).files) }
-        ensures undamaged { IsTrue T.tells → (accepted batch : List declared.Fact) → IsRefreshOf self accepted batch (T.disk site.old).files
-            → IfErr result IsNoDamage }
-        ensures any_moment { IsTrue T.tells → (accepted batch : List declared.Fact) → HoldsNow (IsRefreshOf self accepted batch) (T.disk site.old)
-            → LeavesOnly (T.disk site.old) (T.disk site.new) (λ told files.
-            (told ≡ (T.disk site.old).told) × KeepsEither self.store.forest.body.format self.store.forest.schema accepted self.store.forest.body.last self.next.format (accepted ++ batch) self.next.last files) }
-        ensures cost { IsTrue T.tells → (accepted batch : List declared.Fact) → IsRefreshOf self accepted batch (T.disk site.old).files
-            → KeepsTo (moves_of self accepted batch) self.progress.taken (length (moves_of self accepted batch))
-            (T.reads site.old, T.writes site.old + 3) (T.reads site.new, T.writes site.new) }
-
-        // Whatever the files hold.
-        ensures joined { IsTrue T.tells → OnOk result (AreAllWhole self.store.forest (T.disk site.old).files self.deltas) }
-        ensures spared { IsTrue T.tells → IfErr result (λ stop. stop ≢ RefreshStop.Disk → SparesLive self.store.forest.body (T.disk site.old) (T.disk site.new)) }
-        ensures damaged { IsTrue T.tells → IfErr result (TellsFirstDamage self.store.forest (T.disk site.old).files self.deltas) }
-        ensures place { IfErr result (NamesPageIn self.store.forest.body self.store.forest.schema) }
         ensures opened { IsTrue T.tells → IfOk result (λ store. IsOpened store.forest.body (T.disk site.new)) }
-        ensures stable { IsTrue T.tells → OnOk result (IsStable (T.disk site.new)) }
         ensures next { IfOk result (IsNextStore self) }
-        ensures told { IsTrue T.tells → (T.disk site.new).told ≡ (T.disk site.old).told }
-        ensures calls { Calls T.Site (HasCauseWhere RefreshStop.Disk) (page_total self.store.forest.body self.store.forest.schema) site.old site.new result }
-        // One call a move, and three writes of the commit.
-        ensures once { MakesAtMost (2 ^ 60 + 3) (T.reads site.old, T.writes site.old) (T.reads site.new, T.writes site.new) }
     {
         let mut refresh = self;
         match refresh.end(site) {
@@ -282,27 +200,12 @@ impl Refresh {
         requires goes { IsGoing self.old }
         requires ready { IsTrue T.tells → IsReady self.old (T.disk site.old) }
 
+        ensures finishes { Finishes T.Site self.old site.old site.new result }
         ensures same { self.new ≡ record self.old { progress = self.new.progress } }
-        ensures next { IfOk result (IsNextBody self.old) }
         ensures live { IsTrue T.tells → (accepted batch : List declared.Fact) → HoldsNow (IsRefreshOf self.old accepted batch) (T.disk site.old)
             → IfOk result (λ body. IsLive self.old.store.forest.schema body (accepted ++ batch) (T.disk site.new).files) }
-        ensures undamaged { IsTrue T.tells → (accepted batch : List declared.Fact) → IsRefreshOf self.old accepted batch (T.disk site.old).files
-            → IfErr result IsNoDamage }
-        ensures any_moment { IsTrue T.tells → (accepted batch : List declared.Fact) → HoldsNow (IsRefreshOf self.old accepted batch) (T.disk site.old)
-            → LeavesOnly (T.disk site.old) (T.disk site.new) (λ told files.
-            (told ≡ (T.disk site.old).told) × KeepsEither self.old.store.forest.body.format self.old.store.forest.schema accepted self.old.store.forest.body.last self.old.next.format (accepted ++ batch) self.old.next.last files) }
-        ensures cost { IsTrue T.tells → (accepted batch : List declared.Fact) → IsRefreshOf self.old accepted batch (T.disk site.old).files
-            → KeepsTo (moves_of self.old accepted batch) self.old.progress.taken (length (moves_of self.old accepted batch))
-            (T.reads site.old, T.writes site.old + 3) (T.reads site.new, T.writes site.new) }
-        ensures joined { IsTrue T.tells → OnOk result (AreAllWhole self.old.store.forest (T.disk site.old).files self.old.deltas) }
-        ensures spared { IsTrue T.tells → IfErr result (λ stop. stop ≢ RefreshStop.Disk → SparesLive self.old.store.forest.body (T.disk site.old) (T.disk site.new)) }
-        ensures damaged { IsTrue T.tells → IfErr result (TellsFirstDamage self.old.store.forest (T.disk site.old).files self.old.deltas) }
-        ensures place { IfErr result (NamesPageIn self.old.store.forest.body self.old.store.forest.schema) }
         ensures opened { IsTrue T.tells → IfOk result (λ body. IsOpened body (T.disk site.new)) }
-        ensures stable { IsTrue T.tells → OnOk result (IsStable (T.disk site.new)) }
-        ensures told { IsTrue T.tells → (T.disk site.new).told ≡ (T.disk site.old).told }
-        ensures calls { Calls T.Site (HasCauseWhere RefreshStop.Disk) (page_total self.old.store.forest.body self.old.store.forest.schema) site.old site.new result }
-        ensures once { MakesAtMost (2 ^ 60 + 3) (T.reads site.old, T.writes site.old) (T.reads site.new, T.writes site.new) }
+        ensures next { IfOk result (IsNextBody self.old) }
     {
         self.step(site, MOST_MOVES)?;
         let store = &self.store;
@@ -336,19 +239,7 @@ fn shut_gate<T: Site>(site: &mut T, store: Store, prepared: Prepared) -> Result<
     requires opened { IsTrue T.tells → IsOpened store.forest.body (T.disk site.old) }
     requires moved { (files : Files) → HasMoved (begun_with store prepared) files }
 
-    ensures begun { IfOk result (λ refresh. refresh ≡ begun_with store prepared) }
-    ensures live { IsTrue T.tells → (accepted : List declared.Fact) → IsLive store.forest.schema store.forest.body accepted (T.disk site.old).files
-        → OnOk result (IsLive store.forest.schema store.forest.body accepted (T.disk site.new).files) }
-    ensures any_moment { IsTrue T.tells → (accepted : List declared.Fact)
-        → HoldsNow (IsLive store.forest.schema store.forest.body accepted) (T.disk site.old) → LeavesOnly (T.disk site.old) (T.disk site.new) (λ told files.
-        (told ≡ (T.disk site.old).told) × KeepsAs store.forest.body.format store.forest.schema accepted store.forest.body.last files) }
-    ensures ready { IsTrue T.tells → OnOk result (IsReady (begun_with store prepared) (T.disk site.new)) }
-    ensures stable { IsTrue T.tells → OnOk result (IsStable (T.disk site.new)) }
-    ensures closes { IsTrue T.tells → IfOk result (λ refresh. ClosesGate (slot_of refresh.next) (T.disk site.old).files (T.disk site.new).files) }
-    ensures back { IfErr result (λ fault. IsCut store fault.store) }
-    ensures why { IfErr result (λ fault. fault.why ≡ BeginStop.Disk) }
-    ensures told { IsTrue T.tells → (T.disk site.new).told ≡ (T.disk site.old).told }
-    ensures calls { CallsOnly T.Site HasCause 1 1 site.old site.new result }
+    ensures { ShutsGate T.Site (begun_with store prepared) site.old site.new result }
 {
     match forest_commit::begin(site, slot(&prepared.next)) {
         Ok(()) => Ok(Refresh {

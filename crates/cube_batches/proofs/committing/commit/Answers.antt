@@ -8,7 +8,7 @@ returns-in_err-store g c =
     record {
       commits = at_error (Commits g.T.Site c.args.told c.args.refresh c.args.state.now c.args.site.now c.finish.new.site c.args.pages.now c.args.pages.now) (refresh_stop c.in_err-store.field-0.0) c.from_residual.result
           c.from_residual.ensures.1 (commits_not g.T.Site c.args.told c.args.refresh c.args.site.now c.finish.new.site c.args.pages.now c.in_err-store.field-0.0
-          (record { any_moment = is.any_moment; cost = is.cost; told = is.told; calls = is.calls }) is.undamaged is.spared is.damaged c.args.state.now);
+          is.finishes c.args.state.now);
     }
 
 pub returns : goal.returns
@@ -16,6 +16,6 @@ returns g c =
     let is = c.in_ok-store.ensures in
     record {
       commits = commits g.T.Site c.args.told c.args.refresh c.args.site.now c.finish.new.site c.args.pages.now c.in_ok-store.store
-          (record { any_moment = is.any_moment; cost = is.cost; told = is.told; calls = is.calls }) is.finished is.joined is.opened is.stable is.next c.clear.new.self
+          is.finishes is.finished is.opened is.next c.clear.new.self
           (forgotten c.args.pages.now c.clear.new.self c.clear.ensures.capacity c.clear.ensures.empty) c.set.new.self c.set.ensures c.acknowledge.result c.acknowledge.ensures;
     }

@@ -23,7 +23,7 @@ returns-in_err-step g c =
       carried = subst (λ (s : State). ends s c.from_residual-in_err-step.result) (sym c.in-Pending.is)
           (at_error (ends (Pending c.in-Pending.refresh)) (refresh_stop c.in_err-step.field-0.0) c.from_residual-in_err-step.result c.from_residual-in_err-step.ensures.1
           (moves_not g.T.Site c.args.moves c.in-Pending.refresh c.step.new.self c.args.site.now c.step.new.site c.in_err-step.field-0.0
-          (record { any_moment = is.any_moment; cost = is.cost; side = is.disk; told = is.told; calls = is.calls }) is.undamaged is.damaged (Pending c.step.new.self)));
+          is.steps (Pending c.step.new.self)));
     }
 
 pub returns : goal.returns
@@ -33,6 +33,6 @@ returns g c =
       carried = subst (λ (s : State). c.in_ok-reply.reply.items ≡ pending_line s (codes "stepped")
           → CarriesOutAlone g.T.Site (says.Step c.args.moves) s (Pending c.step.new.self) c.args.site.now c.step.new.site (Ok c.in_ok-reply.reply)) (sym c.in-Pending.is)
           (moves_on g.T.Site c.args.moves c.in-Pending.refresh c.step.new.self c.args.site.now c.step.new.site c.in_ok-step.field-0
-          (record { any_moment = is.any_moment; cost = is.cost; side = is.disk; told = is.told; calls = is.calls }) is.same is.taken is.limit.0 is.stands is.live is.goes is.ready c.in_ok-reply.reply)
+          is.steps is.same is.goes is.ready c.in_ok-reply.reply)
           c.in_ok-reply.ensures;
     }

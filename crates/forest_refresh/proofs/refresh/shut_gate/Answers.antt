@@ -1,4 +1,4 @@
-use Rattle.std.proofs.Common.{◌≢◌, ◌<◌, ℕ, ap, arith, length, subst, sym}
+use Rattle.std.proofs.Common.{◌≡◌, ◌≢◌, ◌<◌, ◌%◌, ℕ, ap, arith, length, refl, subst, sym}
 use Rattle.forest_root.proofs.Kept.{shut_keeps}
 use Rattle.spec_store.specs.Held.{held}
 use Rattle.forest_root.specs.Root.{ClosesGate, IsShut}
@@ -6,50 +6,77 @@ use Rattle.spec_store.proofs.Standing.{all_stable, live_now}
 use Rattle.forest_refresh.proofs.Committed.{live_facts, other_slot}
 use Rattle.forest_refresh.proofs.refresh.shut_gate.Goals as goal
 
-pub returns-in-Ok-clause-live : goal.returns-in-Ok-clause-live
-returns-in-Ok-clause-live g c = λ t accepted is.
-    let low : c.slot.result < 2 = omega (arith, c.slot.ensures) in
-    let other : is.slot ≢ c.slot.result =
-    subst (λ k. is.slot ≢ k) (sym c.slot.ensures) (other_slot c.args.store.forest.body c.args.prepared.next c.args.prepared.names c.requires.begun.next is.slot is.at.decodes.1.within.side) in
-    record {
-      slot = is.slot;
-      fits = is.fits;
-      at = shut_keeps (held c.args.store.forest.body.format c.args.store.forest.schema accepted c.args.store.forest.body.last) is.slot c.slot.result c.args.store.forest.body _ _ low other is.at (c.in-Ok.ensures.disk t).files;
-    }
-
-pub returns-in-Ok-clause-any_moment : goal.returns-in-Ok-clause-any_moment
-returns-in-Ok-clause-any_moment g c = λ t accepted now.
-    let schema = c.args.store.forest.schema in
-    let live = c.args.store.forest.body in
-    let is = now.read in
-    let other : is.slot ≢ c.slot.result = subst (λ k. is.slot ≢ k) (sym c.slot.ensures) (other_slot live c.args.prepared.next c.args.prepared.names c.requires.begun.next is.slot is.at.decodes.1.within.side) in
-    live_facts schema accepted live.last is.slot live _ _ is.fits (c.begin.ensures.any_moment t (held live.format schema accepted live.last) is.slot live other (live_now schema live accepted _ now))
-
-pub returns-in-Err-clause-any_moment : goal.returns-in-Err-clause-any_moment
-returns-in-Err-clause-any_moment g c = λ t accepted now.
-    let schema = c.args.store.forest.schema in
-    let live = c.args.store.forest.body in
-    let is = now.read in
-    let other : is.slot ≢ c.slot.result = subst (λ k. is.slot ≢ k) (sym c.slot.ensures) (other_slot live c.args.prepared.next c.args.prepared.names c.requires.begun.next is.slot is.at.decodes.1.within.side) in
-    live_facts schema accepted live.last is.slot live _ _ is.fits (c.begin.ensures.any_moment t (held live.format schema accepted live.last) is.slot live other (live_now schema live accepted _ now))
-
 pub begin-requires-clause-root : goal.begin-requires-clause-root
 begin-requires-clause-root g c = λ t. (c.requires.opened t).stable
 
-pub returns-in-Ok-clause-closes : goal.returns-in-Ok-clause-closes
-returns-in-Ok-clause-closes g c = λ t.
-    subst (λ (k : ℕ). ClosesGate k (g.T.Site.disk c.args.site.now).files (g.T.Site.disk c.begin.new.site).files) c.slot.ensures (c.in-Ok.ensures.disk t).files
-
-pub returns-in-Ok-clause-ready : goal.returns-in-Ok-clause-ready
-returns-in-Ok-clause-ready g c = λ t.
+pub returns-in-Ok : goal.returns-in-Ok
+returns-in-Ok g c =
+    let schema = c.args.store.forest.schema in
+    let live = c.args.store.forest.body in
+    let old = g.T.Site.disk c.args.site.now in
     let new = g.T.Site.disk c.begin.new.site in
-    let range = (c.in-Ok.ensures.disk t).files.range in
-    let root = (c.requires.opened t).root in
+    let low : c.slot.result < 2 = omega (arith, c.slot.ensures) in
+    let others : (slot : ℕ) → live.generation % 2 ≡ slot → slot ≢ c.slot.result =
+    λ slot side. subst (λ k. slot ≢ k) (sym c.slot.ensures) (other_slot live c.args.prepared.next c.args.prepared.names c.requires.begun.next slot side) in
     record {
-      opened = record {
-        stable = all_stable new (c.in-Ok.ensures.stable t);
-        root = record { gate = omega (arith, root.gate, range.no_shorter); names = omega (arith, root.names, ap length (range.others 1 (λ e. omega (arith, e)))) };
+      by_facts = λ t accepted. record {
+        live = λ is. record {
+          slot = is.slot;
+          fits = is.fits;
+          at = shut_keeps (held live.format schema accepted live.last) is.slot c.slot.result live _ _ low (others is.slot is.at.decodes.1.within.side) is.at (c.in-Ok.ensures.disk t).files;
+        };
+        any_moment = λ now.
+            let is = now.read in
+            live_facts schema accepted live.last is.slot live _ _ is.fits
+            (c.begin.ensures.any_moment t (held live.format schema accepted live.last) is.slot live (others is.slot is.at.decodes.1.within.side) (live_now schema live accepted _ now));
       };
-      shut = subst (λ (k : ℕ). IsShut k (new.files 0)) c.slot.ensures (c.in-Ok.ensures.shut t);
-      moved = c.requires.moved new.files;
+      any_files = λ t.
+          let range = (c.in-Ok.ensures.disk t).files.range in
+          let root = (c.requires.opened t).root in
+          record {
+            ready = record {
+              opened = record {
+                stable = all_stable new (c.in-Ok.ensures.stable t);
+                root = record { gate = omega (arith, root.gate, range.no_shorter); names = omega (arith, root.names, ap length (range.others 1 (λ e. omega (arith, e)))) };
+              };
+              shut = subst (λ (k : ℕ). IsShut k (new.files 0)) c.slot.ensures (c.in-Ok.ensures.shut t);
+              moved = c.requires.moved new.files;
+            };
+            stable = c.in-Ok.ensures.stable t;
+            closes = subst (λ (k : ℕ). ClosesGate k old.files new.files) c.slot.ensures (c.in-Ok.ensures.disk t).files;
+            told = (c.in-Ok.ensures.disk t).told;
+          };
+      begun = refl;
+      back = tt;
+      why = tt;
+      calls = record {
+        cause = record { later = c.in-Ok.ensures.calls.cause.later; once = c.in-Ok.ensures.calls.cause.once; failed = tt; ok = c.in-Ok.ensures.calls.cause.ok };
+        told_faults = c.in-Ok.ensures.calls.told_faults;
+        reads = c.in-Ok.ensures.calls.reads;
+        writes = c.in-Ok.ensures.calls.writes;
+      };
+    }
+
+pub returns-in-Err : goal.returns-in-Err
+returns-in-Err g c =
+    let schema = c.args.store.forest.schema in
+    let live = c.args.store.forest.body in
+    record {
+      by_facts = λ t accepted. record {
+        live = λ is. tt;
+        any_moment = λ now.
+            let is = now.read in
+            let other : is.slot ≢ c.slot.result = subst (λ k. is.slot ≢ k) (sym c.slot.ensures) (other_slot live c.args.prepared.next c.args.prepared.names c.requires.begun.next is.slot is.at.decodes.1.within.side) in
+            live_facts schema accepted live.last is.slot live _ _ is.fits (c.begin.ensures.any_moment t (held live.format schema accepted live.last) is.slot live other (live_now schema live accepted _ now));
+      };
+      any_files = λ t. record { ready = tt; stable = tt; closes = tt; told = (c.in-Err.ensures.disk t).told };
+      begun = tt;
+      back = c.without_batch.ensures.cut;
+      why = refl;
+      calls = record {
+        cause = record { later = c.in-Err.ensures.calls.cause.later; once = c.in-Err.ensures.calls.cause.once; failed = c.in-Err.ensures.calls.cause.failed; ok = tt };
+        told_faults = c.in-Err.ensures.calls.told_faults;
+        reads = c.in-Err.ensures.calls.reads;
+        writes = c.in-Err.ensures.calls.writes;
+      };
     }
