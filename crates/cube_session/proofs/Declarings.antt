@@ -167,7 +167,7 @@ module _ {S : Type 0} (T : Ghosts S) (schema : Schema) (lawful : IsSchema schema
             settles = λ no. vain no;
             fits = none_fit (Some store.forest.body) (T.disk new).files cache ((subst (IsReadyFor T old cache) was ready).fits t);
           };
-          goes_on = search (runs, cached, quiet reply, vain, undeclared, λ (leaves : LeavesState its). absurd leaves.0);
+          goes_on = search (runs, cached, quiet reply, vain, undeclared, λ (leaves : LeavesState its). absurd {A = Idle store ≡ Empty} leaves.0);
           leaves = record {
             made = λ no. refl;
             live = λ same. absurd same;
