@@ -26,7 +26,7 @@ stood (Some held) d w is = (stands_read held.state d w is.stands, stands_left he
 both_replied : (first second : List Command) (a b c : Files) (one two : List ℕ) (had mid has : Held) → Replied first had a one mid b → Replied second mid b two has c
     → Replied (first ++ second) had a (one ++ two) has c
 both_replied [] second a b c one two had mid has is then =
-    subst (λ (n : List ℕ × Held × Files). Replied second n.1.0 n.1.1 (n.0 ++ two) has c) (λ i. (sym is.0 i, is.1.0 i, is.1.1 i)) then
+    subst (λ (n : List ℕ × Held × Files). Replied second n.1 n.2 (n.0 ++ two) has c) (λ i. (sym is.0 i, is.1 i, is.2 i)) then
 both_replied (command ∷ rest) second a b c one two had mid has is then = record {
   reply = is.reply;
   more = is.more ++ two;
